@@ -1,0 +1,4 @@
+pub mod Element
+pub mod Name
+pub mod Order
+pub mod Schema

@@ -1,0 +1,173 @@
+// The columns of a stream.
+ghost use Rattle.std.specs.Prelude.{◌≡◌, ◌↔◌, IfOk, IsOk, IsTrue, MatchOption, Some, None, length, IfErr};
+ghost use Rattle.std.specs.List.{list_any};
+ghost use Rattle.std.specs.Str.{bytes_eq};
+ghost use Rattle.cql_value.specs.Schema.{IsRowOf, IsSchema, AreDistinct, kind_of, kind_named, names_of};
+
+use crate::name::Name;
+use crate::row::Row;
+use crate::value::Value;
+use std::alloc::{AllocError, Global};
+use std::marker::Model;
+use thiserror::Error;
+
+/// What a column holds.
+#[derive(Clone, Copy, Debug, PartialEq, Eq)]
+pub enum ColumnType {
+    /// Numbers of 64 bits with a sign.
+    Number,
+    /// Texts.
+    Text,
+}
+
+impl ColumnType {
+    /// The type that is written so: `int` or `text`.
+    pub fn read(text: &str) -> Option<ColumnType>
+        ensures { result ≡ kind_named text.now }
+    {
+        match text {
+            "int" => Some(ColumnType::Number),
+            "text" => Some(ColumnType::Text),
+            _ => None,
+        }
+    }
+}
+
+/// A column: its name and what it holds.
+#[derive(Debug, Drop)]
+pub struct Column {
+    pub name: Name,
+    pub kind: ColumnType,
+}
+
+impl Column {
+    /// A copy that equals it.
+    pub fn try_clone(&self) -> Result<Column, AllocError>
+        ensures { IfOk result (λ c. c ≡ self.now) }
+    {
+        let name = self.name.try_clone()?;
+        Ok(Column {
+            name,
+            kind: self.kind,
+        })
+    }
+}
+
+/// 1 to 16 columns with distinct names. Contracts see the list of the columns.
+#[derive(Debug, Drop)]
+pub struct Schema {
+    columns: Vec<Column>,
+}
+
+impl Model for Schema {
+    ghost use Rattle.std.specs.Prelude.{List};
+    ghost use Rattle.cql_value.specs.declared.schema.Column.{Column};
+    ghost use Rattle.std.specs.List.{list_any};
+    ghost use Rattle.std.specs.Str.{bytes_eq};
+    ghost use Rattle.cql_value.specs.Schema.{IsSchema};
+
+    ghost Value = { List Column };
+
+    ghost view = { λ s. s.columns.items };
+
+    ghost invariant = { λ s. IsSchema s.columns.items };
+}
+
+/// No column, more than 16, or two of one name (22).
+#[derive(Clone, Copy, Debug, PartialEq, Eq, Drop, Error)]
+#[error("bad columns")]
+pub struct BadColumns;
+
+/// Another number of values than of columns, or a value of another type than its column (40).
+#[derive(Clone, Copy, Debug, PartialEq, Eq, Drop, Error)]
+#[error("wrong row")]
+pub struct WrongRow;
+
+// Whether the value is of the type.
+fn is_of(value: &Value, kind: ColumnType) -> bool
+    ensures { IsTrue result ↔ (kind_of value.now ≡ kind) }
+{
+    match value {
+        Value::Number(_) => matches!(kind, ColumnType::Number),
+        Value::Text(_) => matches!(kind, ColumnType::Text),
+    }
+}
+
+// Whether a column has the name.
+fn has_name(columns: &[Column], name: &Name) -> bool
+    ensures { result ≡ list_any (λ column. bytes_eq name.now column.name) columns.now }
+{
+    columns.iter().any(|column| *name == column.name)
+}
+
+// Whether no name stands twice.
+fn are_distinct(columns: &[Column]) -> bool
+    ensures { IsTrue result ↔ AreDistinct (names_of columns.now) }
+{
+    let mut rest = columns;
+    while let Some((first, later)) = rest.split_first() {
+        if has_name(later, &first.name) {
+            return false;
+        }
+        rest = later;
+    }
+    true
+}
+
+// Copies of the columns.
+fn copied(alloc: Global, columns: &[Column]) -> Result<Vec<Column>, AllocError>
+    ensures { IfOk result (λ v. v.items ≡ columns.now) }
+{
+    let mut copies = Vec::new(alloc);
+    for column in columns {
+        copies.push(column.try_clone()?)?;
+    }
+    Ok(copies)
+}
+
+impl Schema {
+    /// The schema of these columns: `BadColumns` (22) exactly where they aren't 1 to 16 with
+    /// distinct names. Takes no memory.
+    pub fn new(columns: Vec<Column>) -> Result<Schema, BadColumns>
+        ensures value { IfOk result (λ s. s ≡ columns.items) }
+        ensures ok { IsOk result ↔ IsSchema columns.items }
+    {
+        if columns.is_empty() || columns.len() > 16 || !are_distinct(&columns) {
+            return Err(BadColumns);
+        }
+        Ok(Schema { columns })
+    }
+
+    /// Its columns, in order.
+    pub fn columns(&self) -> &[Column]
+        ensures value { result.now ≡ self.now }
+        ensures valid { IsSchema self.now }
+    {
+        self.columns.as_slice()
+    }
+
+    /// Accepts a row with as many values as there are columns, each of its column's type; else
+    /// `WrongRow` (40). Takes no memory.
+    pub fn check(&self, row: &Row) -> Result<(), WrongRow>
+        ensures { IsOk result ↔ IsRowOf self.now row.now }
+    {
+        let values = row.values();
+        if values.len() != self.columns.len() {
+            return Err(WrongRow);
+        }
+        for i in 0..values.len() {
+            if !is_of(&values[i], self.columns[i].kind) {
+                return Err(WrongRow);
+            }
+        }
+        Ok(())
+    }
+
+    /// A copy that equals it.
+    pub fn try_clone(&self, alloc: Global) -> Result<Schema, AllocError>
+        ensures { IfOk result (λ s. s ≡ self.now) }
+    {
+        let columns = copied(alloc, &self.columns)?;
+        Ok(Schema { columns })
+    }
+}

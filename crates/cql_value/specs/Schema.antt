@@ -1,33 +1,33 @@
 -- What rows a schema takes.
-use Rattle.std.specs.Prelude.{◌≡◌, ℕ, ◌≤◌, List, [], ◌∷◌, length, map, codes, Option, Some, None, false, bytes_eq, if◌then◌else◌}
-use Rattle.std.specs.List.{AllByRecursion}
+use Rattle.std.specs.Prelude.{ℕ, Bool, true, false, ◌&&◌, ◌==◌, not, nat_le, List, [], ◌∷◌, length, codes, Option, Some, None, if◌then◌else◌}
+use Rattle.std.specs.List.{list_all, list_any, zip}
+use Rattle.std.specs.Str.{bytes_eq}
 use Rattle.cql_value.specs.declared.value.Value.{Value}
 use Rattle.cql_value.specs.declared.value.Value.TheVariants.{Number as number, Text as text}
 use Rattle.cql_value.specs.declared.schema.ColumnType.{ColumnType}
 use Rattle.cql_value.specs.declared.schema.ColumnType.TheVariants.{Number, Text}
 use Rattle.cql_value.specs.declared.schema.Column.{Column}
 
--- the kind of a value
-abbrev pub kind_of : Value → ColumnType
-kind_of (number n) = Number
-kind_of (text t) = Text
+-- the value is of the type
+abbrev pub has_type : ColumnType → Value → Bool
+has_type Number (number n) = true
+has_type Number (text t) = false
+has_type Text (number n) = false
+has_type Text (text t) = true
 
 -- the type that a text names
-abbrev pub kind_named : List ℕ → Option ColumnType
-kind_named word = if bytes_eq word (codes "int") then Some Number else (if bytes_eq word (codes "text") then Some Text else None)
+abbrev pub type_named : List ℕ → Option ColumnType
+type_named word = if bytes_eq word (codes "int") then Some Number else (if bytes_eq word (codes "text") then Some Text else None)
 
--- no name stands twice
-abbrev pub AreDistinct : List (List ℕ) → Type 0
-AreDistinct [] = Unit {0}
-AreDistinct (name ∷ later) = AllByRecursion (λ other. bytes_eq name other ≡ false) later × AreDistinct later
-
-abbrev pub names_of : List Column → List (List ℕ)
-names_of columns = map (λ c. c.name) columns
+-- no two have one name
+abbrev pub are_distinct : List Column → Bool
+are_distinct [] = true
+are_distinct (column ∷ later) = not (list_any (λ other. bytes_eq column.name other.name) later) && are_distinct later
 
 -- 1 to 16 columns with distinct names
-abbrev pub IsSchema : List Column → Type 0
-IsSchema columns = (1 ≤ length columns) × (length columns ≤ 16) × AreDistinct (names_of columns)
+abbrev pub is_schema : List Column → Bool
+is_schema columns = nat_le 1 (length columns) && nat_le (length columns) 16 && are_distinct columns
 
--- a row of these columns: as many values, each of its column's kind
-abbrev pub IsRowOf : List Column → List Value → Type 0
-IsRowOf columns row = map kind_of row ≡ map (λ c. c.kind) columns
+-- a row of these columns: as many values, each of its column's type
+abbrev pub is_row_of : List Column → List Value → Bool
+is_row_of columns row = (length row == length columns) && list_all (λ p. has_type p.0.kind p.1) (zip columns row)

@@ -1,8 +1,8 @@
 // The columns of a stream.
-ghost use Rattle.std.specs.Prelude.{◌≡◌, ◌↔◌, IfOk, IsOk, IsTrue, MatchOption, Some, None, length, IfErr};
-ghost use Rattle.std.specs.List.{list_any};
+ghost use Rattle.std.specs.Prelude.{◌≡◌, IfOk, IsTrue, is_ok};
+ghost use Rattle.std.specs.List.{list_all, list_any, zip};
 ghost use Rattle.std.specs.Str.{bytes_eq};
-ghost use Rattle.cql_value.specs.Schema.{IsRowOf, IsSchema, AreDistinct, kind_of, kind_named, names_of};
+ghost use Rattle.cql_value.specs.Schema.{is_row_of, is_schema, are_distinct, has_type, type_named};
 
 use crate::name::Name;
 use crate::row::Row;
@@ -23,7 +23,7 @@ pub enum ColumnType {
 impl ColumnType {
     /// The type that is written so: `int` or `text`.
     pub fn read(text: &str) -> Option<ColumnType>
-        ensures { result ≡ kind_named text.now }
+        ensures { result ≡ type_named text.now }
     {
         match text {
             "int" => Some(ColumnType::Number),
@@ -62,15 +62,16 @@ pub struct Schema {
 impl Model for Schema {
     ghost use Rattle.std.specs.Prelude.{List};
     ghost use Rattle.cql_value.specs.declared.schema.Column.{Column};
-    ghost use Rattle.std.specs.List.{list_any};
+    ghost use Rattle.std.specs.List.{list_all, list_any, zip};
     ghost use Rattle.std.specs.Str.{bytes_eq};
-    ghost use Rattle.cql_value.specs.Schema.{IsSchema};
+    ghost use Rattle.std.specs.Prelude.{◌≡◌, true};
+    ghost use Rattle.cql_value.specs.Schema.{is_schema};
 
     ghost Value = { List Column };
 
     ghost view = { λ s. s.columns.items };
 
-    ghost invariant = { λ s. IsSchema s.columns.items };
+    ghost invariant = { λ s. is_schema s.columns.items ≡ true };
 }
 
 /// No column, more than 16, or two of one name (22).
@@ -84,25 +85,35 @@ pub struct BadColumns;
 pub struct WrongRow;
 
 // Whether the value is of the type.
-fn is_of(value: &Value, kind: ColumnType) -> bool
-    ensures { IsTrue result ↔ (kind_of value.now ≡ kind) }
+fn is_of(kind: ColumnType, value: &Value) -> bool
+    ensures { result ≡ has_type kind value.now }
 {
     match value {
-        Value::Number(_) => matches!(kind, ColumnType::Number),
-        Value::Text(_) => matches!(kind, ColumnType::Text),
+        Value::Number(_) => kind == ColumnType::Number,
+        Value::Text(_) => kind == ColumnType::Text,
     }
+}
+
+// Whether each value is of the type of the column beside it.
+fn have_types(columns: &[Column], values: &[Value]) -> bool
+    ensures { result ≡ list_all (λ p. has_type p.0.kind p.1) (zip columns.now values.now) }
+{
+    columns
+        .iter()
+        .zip(values)
+        .all(|(column, value)| is_of(column.kind, value))
 }
 
 // Whether a column has the name.
 fn has_name(columns: &[Column], name: &Name) -> bool
-    ensures { result ≡ list_any (λ column. bytes_eq name.now column.name) columns.now }
+    ensures { result ≡ list_any (λ other. bytes_eq name.now other.name) columns.now }
 {
     columns.iter().any(|column| *name == column.name)
 }
 
-// Whether no name stands twice.
+// Whether no two have one name.
 fn are_distinct(columns: &[Column]) -> bool
-    ensures { IsTrue result ↔ AreDistinct (names_of columns.now) }
+    ensures { result ≡ are_distinct columns.now }
 {
     let mut rest = columns;
     while let Some((first, later)) = rest.split_first() {
@@ -130,7 +141,7 @@ impl Schema {
     /// distinct names. Takes no memory.
     pub fn new(columns: Vec<Column>) -> Result<Schema, BadColumns>
         ensures value { IfOk result (λ s. s ≡ columns.items) }
-        ensures ok { IsOk result ↔ IsSchema columns.items }
+        ensures ok { is_ok result ≡ is_schema columns.items }
     {
         if columns.is_empty() || columns.len() > 16 || !are_distinct(&columns) {
             return Err(BadColumns);
@@ -141,7 +152,7 @@ impl Schema {
     /// Its columns, in order.
     pub fn columns(&self) -> &[Column]
         ensures value { result.now ≡ self.now }
-        ensures valid { IsSchema self.now }
+        ensures valid { IsTrue (is_schema self.now) }
     {
         self.columns.as_slice()
     }
@@ -149,18 +160,11 @@ impl Schema {
     /// Accepts a row with as many values as there are columns, each of its column's type; else
     /// `WrongRow` (40). Takes no memory.
     pub fn check(&self, row: &Row) -> Result<(), WrongRow>
-        ensures { IsOk result ↔ IsRowOf self.now row.now }
+        ensures { is_ok result ≡ is_row_of self.now row.now }
     {
         let values = row.values();
-        if values.len() != self.columns.len() {
-            return Err(WrongRow);
-        }
-        for i in 0..values.len() {
-            if !is_of(&values[i], self.columns[i].kind) {
-                return Err(WrongRow);
-            }
-        }
-        Ok(())
+        let fits = values.len() == self.columns.len() && have_types(&self.columns, values);
+        if fits { Ok(()) } else { Err(WrongRow) }
     }
 
     /// A copy that equals it.

@@ -1,5 +1,5 @@
 -- Windows, at a cursor c: at the instant c - 1, where what came before c is seen. At the cursor 0 nothing is seen.
-use Rattle.std.specs.Prelude.{ℕ, zero, suc, ◌+◌, ◌*◌, ◌/◌, ◌<◌, List, ◌++◌, take, drop, nat_lt}
+use Rattle.std.specs.Prelude.{ℕ, zero, suc, ◌+◌, ◌*◌, ◌/◌, ◌<◌, List, ◌++◌, take, nat_lt}
 use Rattle.std.specs.List.{filter, prefix_len}
 use Rattle.cql_value.specs.Element.{Element}
 use Rattle.cql_window.specs.declared.window.Window.{Window}

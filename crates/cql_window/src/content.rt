@@ -1,5 +1,5 @@
 // The content of a window at an instant.
-ghost use Rattle.std.specs.Prelude.{◌≡◌, ◌≤◌, ◌<◌, ◌+◌, ◌++◌, ◌^◌, [], length, take, nat_lt, IfOk, OnOk, OnErr};
+ghost use Rattle.std.specs.Prelude.{◌≡◌, ◌≤◌, ◌<◌, ◌+◌, ◌^◌, [], length, nat_lt, IfOk};
 ghost use Rattle.std.specs.List.{filter};
 ghost use Rattle.cql_window.specs.Window.{IsWindow, end_of, count_before, content};
 
@@ -29,12 +29,7 @@ fn rows_before(rows: &[Timed], end: u64) -> usize
 }
 
 // The rows that a range of this length keeps at the end.
-fn in_range(
-    alloc: Global,
-    length: u64,
-    end: u64,
-    rows: &[Timed],
-) -> Result<Vec<Timed>, AllocError>
+fn in_range(alloc: Global, length: u64, end: u64, rows: &[Timed]) -> Result<Vec<Timed>, AllocError>
     requires { end ≤ 2 ^ 62 }
     ensures { IfOk result (λ v. v.items ≡ filter (λ x. nat_lt end (x.at + length + 2)) rows.now) }
 {

@@ -3,10 +3,9 @@
 
 pub mod content;
 pub mod law;
-pub mod window;
-
 #[cfg(test)]
 mod tests;
+pub mod window;
 
 pub use content::content_at;
 pub use law::range_law;

@@ -1,5 +1,4 @@
 // What a window is.
-ghost use Rattle.std.specs.Prelude.{◌≡◌};
 
 /// What a query looks at of a stream.
 #[derive(Clone, Copy, Debug, PartialEq, Eq)]

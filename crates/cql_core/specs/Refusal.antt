@@ -1,0 +1,38 @@
+-- The numbers and names of the refusals.
+use Rattle.std.specs.Prelude.{ℕ, List, codes}
+use Rattle.cql_core.specs.declared.refusal.Refusal.{Refusal}
+use Rattle.cql_core.specs.declared.refusal.Refusal.TheVariants.{StreamExists, BadName, BadColumns, TooManyStreams, UnknownStream, UnknownTenant, WrongRow, Late, AtTooLarge, TooManyQueries, QueryExists, UnknownQuery, NotYet, Behind, NoMemory}
+
+abbrev pub number_of : Refusal → ℕ
+number_of StreamExists = 20
+number_of BadName = 21
+number_of BadColumns = 22
+number_of TooManyStreams = 23
+number_of UnknownStream = 30
+number_of UnknownTenant = 31
+number_of WrongRow = 40
+number_of Late = 41
+number_of AtTooLarge = 42
+number_of TooManyQueries = 55
+number_of QueryExists = 56
+number_of UnknownQuery = 57
+number_of NotYet = 58
+number_of Behind = 62
+number_of NoMemory = 70
+
+abbrev pub name_of : Refusal → List ℕ
+name_of StreamExists = codes "StreamExists"
+name_of BadName = codes "BadName"
+name_of BadColumns = codes "BadColumns"
+name_of TooManyStreams = codes "TooManyStreams"
+name_of UnknownStream = codes "UnknownStream"
+name_of UnknownTenant = codes "UnknownTenant"
+name_of WrongRow = codes "WrongRow"
+name_of Late = codes "Late"
+name_of AtTooLarge = codes "AtTooLarge"
+name_of TooManyQueries = codes "TooManyQueries"
+name_of QueryExists = codes "QueryExists"
+name_of UnknownQuery = codes "UnknownQuery"
+name_of NotYet = codes "NotYet"
+name_of Behind = codes "Behind"
+name_of NoMemory = codes "NoMemory"

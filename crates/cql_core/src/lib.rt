@@ -1,0 +1,42 @@
+//! The core: the streams and queries of all tenants, the answers to fetches, and the law of what
+//! each tenant is told.
+#![tactic(auto)]
+
+pub mod answer;
+mod bag;
+pub mod bag_law;
+mod by_kind;
+mod changes;
+mod command;
+pub mod evaluate;
+mod form;
+pub mod law;
+mod output;
+mod pin;
+mod plan;
+mod ready;
+mod refusal;
+mod relation;
+mod reply;
+mod running;
+pub mod runs;
+mod server;
+mod shared;
+mod shelf;
+mod state;
+mod steps;
+mod tenants;
+#[cfg(test)]
+mod tests_answer;
+
+pub use answer::Answer;
+pub use command::{ColumnText, Command};
+pub use output::{Block, Output};
+pub use pin::Pin;
+pub use plan::{OutputKind, Plan};
+pub use ready::{Prepared, prepare};
+pub use refusal::Refusal;
+pub use reply::{Reply, Step};
+pub use running::{finish, run, serve};
+pub use server::Core;
+pub use tenants::{BadTenants, Quotas, Tenant, TenantId, TenantTable};

@@ -1,0 +1,176 @@
+// Commands, checked as far as that needs no state.
+ghost use Rattle.std.specs.Prelude.{◌≡◌, IfOk, option_map};
+ghost use Rattle.std.specs.Arc.{arc_value};
+ghost use Rattle.cql_value.specs.Name.{is_name};
+ghost use Rattle.cql_core.specs.Checks.{column_of, columns_of, schema_of};
+ghost use Rattle.cql_core.specs.Form.{plan_of};
+ghost use Rattle.cql_core.specs.Prepared.{schema_checked, plan_checked, IsReady, command_of};
+
+use crate::command::{ColumnText, Command};
+use crate::form::read_plan;
+use crate::plan::Plan;
+use crate::refusal::Refusal;
+use crate::shared::Shared;
+use cql_value::name::is_name;
+use cql_value::{Column, ColumnType, Items, Name, NameError, Schema, Text, Timed};
+use std::alloc::{AllocError, Global};
+use std::marker::Model;
+use std::sync::Arc;
+
+/// A command with what was checked of it.
+#[derive(Drop)]
+pub(crate) enum Ready {
+    Stream {
+        name: Text,
+        columns: Items<ColumnText>,
+        checked: Result<Schema, Refusal>,
+    },
+    Put {
+        stream: Text,
+        element: Timed,
+    },
+    Beat {
+        stream: Text,
+        at: u64,
+    },
+    Query {
+        name: Text,
+        text: Text,
+        checked: Result<Shared<Plan>, Refusal>,
+    },
+    Fetch {
+        name: Text,
+        until: Option<u64>,
+    },
+}
+
+/// A command, checked as far as that needs no state: one that is refused by itself keeps that
+/// refusal. Contracts see the command.
+#[derive(Drop)]
+pub struct Prepared {
+    ready: Ready,
+}
+
+impl Model for Prepared {
+    ghost use Rattle.cql_core.specs.declared.command.Command.{Command};
+    ghost use Rattle.cql_core.specs.Prepared.{IsReady, command_of};
+
+    ghost Value = { Command };
+
+    ghost view = { λ p. command_of p.ready };
+
+    ghost invariant = { λ p. IsReady p.ready };
+}
+
+impl Prepared {
+    pub(crate) fn ready(&self) -> &Ready
+        ensures command { command_of result.now ≡ self.now }
+        ensures ready { IsReady result.now }
+    {
+        &self.ready
+    }
+}
+
+// The column that is named so, if it is one.
+fn column_of(alloc: Global, column: &ColumnText) -> Result<Option<Column>, AllocError>
+    ensures { IfOk result (λ c. c ≡ column_of column.now) }
+{
+    match Name::read(alloc, column.name.as_str()) {
+        Ok(name) => match ColumnType::read(column.kind.as_str()) {
+            Some(kind) => Ok(Some(Column { name, kind })),
+            None => Ok(None),
+        },
+        Err(NameError::BadName) => Ok(None),
+        Err(NameError::NoMemory) => Err(AllocError),
+    }
+}
+
+// The columns that are named so, if all are columns.
+fn columns_of(alloc: Global, columns: &[ColumnText]) -> Result<Option<Vec<Column>>, AllocError>
+    ensures { IfOk result (λ cs. option_map (λ v. v.items) cs ≡ columns_of columns.now) }
+{
+    let mut all = Vec::new(alloc);
+    for column in columns {
+        match column_of(alloc, column)? {
+            Some(column) => all.push(column)?,
+            None => return Ok(None),
+        }
+    }
+    Ok(Some(all))
+}
+
+// The schema of a new stream, or why there is none.
+fn check_stream(
+    alloc: Global,
+    name: &str,
+    columns: &[ColumnText],
+) -> Result<Result<Schema, Refusal>, AllocError>
+    ensures { IfOk result (λ checked. checked ≡ schema_checked name.now columns.now) }
+{
+    if !is_name(name) {
+        return Ok(Err(Refusal::BadName));
+    }
+    match columns_of(alloc, columns)? {
+        Some(columns) => match Schema::new(columns) {
+            Ok(schema) => Ok(Ok(schema)),
+            Err(_) => Ok(Err(Refusal::BadColumns)),
+        },
+        None => Ok(Err(Refusal::BadColumns)),
+    }
+}
+
+// The plan of a new query, or why there is none.
+fn check_query(
+    alloc: Global,
+    name: &str,
+    text: &str,
+) -> Result<Result<Shared<Plan>, Refusal>, AllocError>
+    ensures { IfOk result (λ checked. checked ≡ plan_checked name.now text.now) }
+{
+    if !is_name(name) {
+        return Ok(Err(Refusal::BadName));
+    }
+    match read_plan(alloc, text)? {
+        Some(plan) => Ok(Ok(Shared::new(Arc::new(alloc, plan)?))),
+        None => Ok(Err(Refusal::NotYet)),
+    }
+}
+
+fn ready_of(alloc: Global, command: Command) -> Result<Ready, AllocError>
+    ensures command { IfOk result (λ ready. command_of ready ≡ command) }
+    ensures ready { IfOk result IsReady }
+{
+    match command {
+        Command::Stream { name, columns } => {
+            let checked = check_stream(alloc, name.as_str(), columns.as_slice())?;
+            Ok(Ready::Stream {
+                name,
+                columns,
+                checked,
+            })
+        }
+        Command::Put { stream, at, row } => {
+            let element = Timed::new(at, Arc::new(alloc, row)?);
+            Ok(Ready::Put { stream, element })
+        }
+        Command::Beat { stream, at } => Ok(Ready::Beat { stream, at }),
+        Command::Query { name, text } => {
+            let checked = check_query(alloc, name.as_str(), text.as_str())?;
+            Ok(Ready::Query {
+                name,
+                text,
+                checked,
+            })
+        }
+        Command::Fetch { name, until } => Ok(Ready::Fetch { name, until }),
+    }
+}
+
+/// Checks of a command what needs no state, and shares the outcome. Without memory the command is
+/// gone.
+pub fn prepare(alloc: Global, command: Command) -> Result<Arc<Prepared>, AllocError>
+    ensures { IfOk result (λ prepared. arc_value prepared ≡ command) }
+{
+    let ready = ready_of(alloc, command)?;
+    Ok(Arc::new(alloc, Prepared { ready })?)
+}

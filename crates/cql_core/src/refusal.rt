@@ -1,0 +1,87 @@
+// Why commands are refused.
+ghost use Rattle.std.specs.Prelude.{◌≡◌};
+ghost use Rattle.cql_core.specs.Refusal.{number_of, name_of};
+
+/// Why a command is refused. A refusal changes nothing.
+#[derive(Clone, Copy, Debug, PartialEq, Eq, Drop)]
+pub enum Refusal {
+    /// The tenant has a stream of that name (20).
+    StreamExists,
+    /// A stream's or query's new name is no name (21).
+    BadName,
+    /// No column or more than 16, a column's name that is none, two equal names, or a type other
+    /// than `int` and `text` (22).
+    BadColumns,
+    /// The tenant's quota of streams is used up (23).
+    TooManyStreams,
+    /// No such stream of the tenant's own (30).
+    UnknownStream,
+    /// The tenant isn't in the table (31).
+    UnknownTenant,
+    /// Another number of values than of columns, or a value of another type (40).
+    WrongRow,
+    /// The time is below the least that the stream still takes (41).
+    Late,
+    /// The time is above 2^62 - 1 (42).
+    AtTooLarge,
+    /// The tenant's quota of queries is used up (55).
+    TooManyQueries,
+    /// The tenant has a query of that name (56).
+    QueryExists,
+    /// The tenant has no query of that name (57).
+    UnknownQuery,
+    /// The query can't be evaluated yet (58).
+    NotYet,
+    /// The instant is below the query's cursor (62).
+    Behind,
+    /// There was no memory (70).
+    NoMemory,
+}
+
+impl Refusal {
+    /// The number by which a line tells it.
+    pub fn number(self) -> u64
+        ensures { result ≡ number_of self }
+    {
+        match self {
+            Refusal::StreamExists => 20,
+            Refusal::BadName => 21,
+            Refusal::BadColumns => 22,
+            Refusal::TooManyStreams => 23,
+            Refusal::UnknownStream => 30,
+            Refusal::UnknownTenant => 31,
+            Refusal::WrongRow => 40,
+            Refusal::Late => 41,
+            Refusal::AtTooLarge => 42,
+            Refusal::TooManyQueries => 55,
+            Refusal::QueryExists => 56,
+            Refusal::UnknownQuery => 57,
+            Refusal::NotYet => 58,
+            Refusal::Behind => 62,
+            Refusal::NoMemory => 70,
+        }
+    }
+
+    /// The name by which a line tells it.
+    pub fn name(self) -> &'static str
+        ensures { result.now ≡ name_of self }
+    {
+        match self {
+            Refusal::StreamExists => "StreamExists",
+            Refusal::BadName => "BadName",
+            Refusal::BadColumns => "BadColumns",
+            Refusal::TooManyStreams => "TooManyStreams",
+            Refusal::UnknownStream => "UnknownStream",
+            Refusal::UnknownTenant => "UnknownTenant",
+            Refusal::WrongRow => "WrongRow",
+            Refusal::Late => "Late",
+            Refusal::AtTooLarge => "AtTooLarge",
+            Refusal::TooManyQueries => "TooManyQueries",
+            Refusal::QueryExists => "QueryExists",
+            Refusal::UnknownQuery => "UnknownQuery",
+            Refusal::NotYet => "NotYet",
+            Refusal::Behind => "Behind",
+            Refusal::NoMemory => "NoMemory",
+        }
+    }
+}

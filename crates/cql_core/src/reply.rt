@@ -1,0 +1,24 @@
+// Replies and steps.
+use crate::answer::Answer;
+use crate::pin::Pin;
+use crate::refusal::Refusal;
+
+/// The reply to a command.
+#[derive(Drop)]
+pub enum Reply {
+    /// It is done.
+    Ok,
+    /// A query was registered, with this base in ticks.
+    Base(u64),
+    /// The blocks of a fetch.
+    Blocks(Answer),
+    /// It was refused, and nothing is changed.
+    Refused(Refusal),
+}
+
+/// What one step of the core gives: a reply, or a pin to be answered outside it.
+#[derive(Drop)]
+pub enum Step {
+    Done(Reply),
+    Pinned(Pin),
+}

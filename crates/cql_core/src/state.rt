@@ -1,0 +1,49 @@
+// What the core holds of the tenants.
+ghost use Rattle.std.specs.Prelude.{◌≡◌, OnOk, OnErr};
+ghost use Rattle.cql_core.specs.Machine.{fed, beaten};
+
+use crate::plan::Plan;
+use crate::shared::Shared;
+use crate::shelf::Shelf;
+use crate::tenants::Quotas;
+use cql_value::{Items, Schema, Timed};
+use std::alloc::AllocError;
+
+/// A stream: its columns, the least time in ticks that it still takes, and its elements in order
+/// of acceptance.
+#[derive(Drop)]
+pub struct StreamState {
+    pub schema: Schema,
+    pub opened: u64,
+    pub elements: Items<Timed>,
+}
+
+impl StreamState {
+    /// The stream with one more element, and its time the least that is still taken.
+    pub fn feed(&mut self, element: Timed) -> Result<(), AllocError>
+        ensures ok { OnOk result (self.new ≡ fed element.at element.row self.old) }
+        ensures err { OnErr result (self.new ≡ self.old) }
+    {
+        let at = element.at();
+        self.elements.push(element)?;
+        self.opened = at;
+        Ok(())
+    }
+}
+
+/// A tenant's quotas, and its streams in order of making.
+#[derive(Drop)]
+pub struct Home {
+    pub quotas: Quotas,
+    pub streams: Shelf<StreamState>,
+}
+
+/// A live query: its plan, its base and cursor in ticks, and how many elements its stream had
+/// when it was registered, which it doesn't see.
+#[derive(Drop)]
+pub struct QueryState {
+    pub plan: Shared<Plan>,
+    pub base: u64,
+    pub cursor: u64,
+    pub skipped: usize,
+}

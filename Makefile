@@ -3,14 +3,18 @@ RUNNER := crates/cqlrun/out/cqlrun
 
 .PHONY: build run test bench
 
+# proves cqlrun and what it stands on, and builds it
 build:
-	cd crates/cqlrun && rt run < /dev/null > /dev/null || test -x out/cqlrun
+	cd crates/cqlrun && rt run < ../../examples/first.jsonl > /dev/null
 
-run: build
-	$(RUNNER) < examples/first.jsonl
+# builds cqlrun and runs it on the first script
+run:
+	cd crates/cqlrun && rt run < ../../examples/first.jsonl
 
+# the gate
 test:
 	rt ci
 
+# times puts through the built cqlrun
 bench: build
 	bench/puts $(RUNNER)

@@ -6,6 +6,7 @@ mod Cuts
 mod Entries
 mod Every
 mod Extend
+mod Fetches
 mod Finds
 mod Histories
 mod Known
@@ -19,6 +20,7 @@ mod Places
 mod Queries
 mod Quiet
 mod Registers
+mod Replies
 mod Rows
 mod Serving
 mod Sound

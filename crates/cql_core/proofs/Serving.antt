@@ -159,7 +159,7 @@ served_more start now new calls rest rest' call replies reply s is serves =
     let size : length (replies ++ reply ∷ []) ≡ suc n = length_more replies reply in
     let made : Made = record { tenant = call.0; command = call.1; told = told_of reply } in
     let longer : history_of (take (suc n) calls) (map told_of (replies ++ reply ∷ [])) ≡ history_of (take n calls) (map told_of replies) ++ made ∷ [] =
-      ap (λ cs. history_of cs (map told_of (replies ++ reply ∷ []))) cut.2 ∙ one_more (take n calls) call replies reply (length_front n calls s.room) in
+    ap (λ cs. history_of cs (map told_of (replies ++ reply ∷ []))) cut.2 ∙ one_more (take n calls) call replies reply (length_front n calls s.room) in
     let fits : Fits (replay start (history_of (take n calls) (map told_of replies))) made = subst (λ x. Fits x made) (sym s.replayed) (fits_then now new call.0 call.1 (told_of reply) serves) in
     record {
       left = cut.1 ∙ ap (λ k. drop k calls) (sym size);

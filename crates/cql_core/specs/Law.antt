@@ -5,12 +5,13 @@ use Rattle.cql_value.specs.Element.{Element}
 use Rattle.cql_window.specs.declared.window.Window.TheVariants.{Range}
 use Rattle.cql_core.specs.declared.command.Command.{Command}
 use Rattle.cql_core.specs.declared.command.Command.TheVariants.{Stream, Put, Beat, Query, Fetch}
+use Rattle.cql_core.specs.declared.output.Block.{Block}
 use Rattle.cql_core.specs.declared.plan.Plan.{Plan}
 use Rattle.cql_core.specs.declared.tenants.Tenant.{Tenant}
 use Rattle.cql_core.specs.Bag.{bag_of}
 use Rattle.cql_core.specs.Form.{plan_of}
 use Rattle.cql_core.specs.Relation.{relation_at}
-use Rattle.cql_core.specs.Told.{Told, is_accepted}
+use Rattle.cql_core.specs.Told.{Told, Blocks, is_accepted}
 use Rattle.cql_core.specs.State.{State, same_name, find_named, nothing_made, opening}
 use Rattle.cql_core.specs.Machine.{reply_to, state_after}
 use Rattle.cql_core.specs.View.{Seen, Own, view}
@@ -26,6 +27,20 @@ replies_to tenant s (call ∷ calls) =
 abbrev pub IsSoloLaw : Type 0
 IsSoloLaw = (table : List Tenant) (tenant : ℕ) (calls : List (ℕ × Command))
     → replies_to tenant (opening table) calls ≡ solo (nothing_known table tenant) (view tenant (nothing_made table) calls)
+
+-- the state after all these commands
+abbrev pub state_from : State → List (ℕ × Command) → State
+state_from s [] = s
+state_from s (call ∷ calls) = state_from (state_after s call.0 call.1) calls
+
+-- after any commands, the machine's reply to a tenant's next command is what the tenant's view means
+abbrev pub IsReplyLaw : Type 0
+IsReplyLaw = (table : List Tenant) (calls : List (ℕ × Command)) (tenant : ℕ) (command : Command)
+    → reply_to (state_from (opening table) calls) tenant command ≡ meant (known_from (nothing_known table tenant) (view tenant (nothing_made table) calls)) command
+
+-- a command that is told blocks changes nothing
+abbrev pub IsFetchLaw : Type 0
+IsFetchLaw = (s : State) (tenant : ℕ) (command : Command) (blocks : List Block) (next : ℕ) → reply_to s tenant command ≡ Blocks blocks next → state_after s tenant command ≡ s
 
 -- two lists of commands with equal views give equal replies
 abbrev pub IsIsolationLaw : Type 0

@@ -1,6 +1,8 @@
 // The laws of the core: functions with empty bodies, whose contracts are the laws.
 ghost use Rattle.cql_core.specs.Law.{
   IsSoloLaw,
+  IsReplyLaw,
+  IsFetchLaw,
   IsIsolationLaw,
   IsQueryLaw,
   IsRelationLaw,
@@ -14,6 +16,17 @@ use cql_window::law::range_law;
 /// own view means.
 pub fn solo_law()
     ensures { IsSoloLaw }
+{}
+
+/// After any commands, the machine's reply to a tenant's next command is what the tenant's view
+/// means.
+pub fn reply_law()
+    ensures { IsReplyLaw }
+{}
+
+/// A command that is told blocks, which is a fetch, leaves the machine as it is.
+pub fn fetch_law()
+    ensures { IsFetchLaw }
 {}
 
 /// Two lists of commands with equal views of a tenant give it equal replies.

@@ -1,0 +1,13 @@
+mod Columns
+mod Counting
+mod Finding
+mod Firsts
+mod Keys
+mod Outputs
+mod Pieces
+mod Readings
+mod ReplyLines
+mod Running
+mod Serving
+mod Splitting
+mod Writing

@@ -1,0 +1,16 @@
+pub mod Asked
+pub mod Command
+pub mod Fault
+pub mod First
+pub mod Line
+pub mod Next
+pub mod Output
+pub mod Reading
+pub mod Reads
+pub mod Script
+pub mod Served
+pub mod Table
+pub mod Taking
+pub mod Text
+pub mod Tree
+pub mod Watched

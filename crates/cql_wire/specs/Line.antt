@@ -1,0 +1,88 @@
+-- The line of a reply.
+use Rattle.std.specs.Prelude.{◌≡◌, ℕ, Bool, true, false, ◌⊎◌, List, [], ◌∷◌, ◌++◌, codes, decimal, Option, if◌then◌else◌}
+use Rattle.std.specs.Fmt.{signed_decimal}
+use Rattle.std.specs.Io.KnownBytes.{Appends}
+use Rattle.json.specs.Print.{quoted}
+use Rattle.cql_value.specs.declared.value.Value.{Value}
+use Rattle.cql_value.specs.declared.value.Value.TheVariants.{Number, Text}
+use Rattle.cql_core.specs.declared.output.Output.{Output}
+use Rattle.cql_core.specs.declared.output.Output.TheVariants.{Rows}
+use Rattle.cql_core.specs.declared.output.Block.{Block}
+use Rattle.cql_core.specs.Refusal as refusal
+use Rattle.cql_core.specs.Told.{Told, Done, Based, Blocks, Refused, no_memory}
+use Rattle.cql_wire.specs.declared.fault.LineFault.{LineFault}
+use Rattle.cql_wire.specs.Fault as fault
+use Rattle.cql_wire.specs.Watched.{Grows}
+
+-- ---- lists
+
+-- the items, a comma before each that comes later, and the closing bracket
+abbrev pub items_text : {A : Type 0} → (A → List ℕ) → Bool → List A → List ℕ
+items_text text later [] = codes "]"
+items_text text later (x ∷ xs) = (if later then codes "," else []) ++ (text x ++ items_text text true xs)
+
+-- the items in brackets, with commas between them
+abbrev pub list_text : {A : Type 0} → (A → List ℕ) → List A → List ℕ
+list_text text xs = codes "[" ++ items_text text false xs
+
+-- ---- blocks
+
+abbrev pub value_text : Value → List ℕ
+value_text (Number n) = signed_decimal n
+value_text (Text t) = quoted t
+
+abbrev pub row_text : List Value → List ℕ
+row_text = list_text value_text
+
+abbrev pub rows_text : List (List Value) → List ℕ
+rows_text = list_text row_text
+
+abbrev pub block_text : Block → List ℕ
+block_text b = with_output b.from b.to b.output
+  where
+    with_output : ℕ → ℕ → Output → List ℕ
+    with_output from to (Rows rows) = codes "{\"from\":" ++ (decimal from ++ (codes ",\"rows\":" ++ (rows_text rows ++ (codes ",\"to\":" ++ (decimal to ++ codes "}")))))
+
+abbrev pub blocks_text : List Block → List ℕ
+blocks_text = list_text block_text
+
+-- ---- lines, each with its line feed
+
+abbrev pub refused_line : List ℕ → ℕ → List ℕ
+refused_line name number = codes "{\"name\":\"" ++ (name ++ (codes "\",\"refused\":" ++ (decimal number ++ codes "}\n")))
+
+-- the line of what is told
+abbrev pub told_line : Told → List ℕ
+told_line Done = codes "{\"ok\":true}\n"
+told_line (Based base) = codes "{\"base\":" ++ (decimal base ++ codes "}\n")
+told_line (Blocks blocks next) = codes "{\"blocks\":" ++ (blocks_text blocks ++ (codes ",\"next\":" ++ (decimal next ++ codes "}\n")))
+told_line (Refused r) = refused_line (refusal.name_of r) (refusal.number_of r)
+
+-- the line of a line that gives no command
+abbrev pub fault_line : LineFault → List ℕ
+fault_line f = refused_line (fault.name_of f) (fault.number_of f)
+
+-- ---- what is written of a line for which there may be no memory
+
+-- the line, or that of a reply that finds no memory
+abbrev pub AppendsEither : Option (List ℕ) → Option (List ℕ) → List ℕ → Type 0
+AppendsEither old new line = Appends old new line ⊎ Appends old new (told_line no_memory)
+
+-- a front of the line, or of that of a reply that finds no memory
+abbrev pub GrowsEither : Option (List ℕ) → Option (List ℕ) → List ℕ → Type 0
+GrowsEither old new line = Grows old new line ⊎ Grows old new (told_line no_memory)
+
+-- ---- what is written of a reply
+
+-- its line; for blocks, that of a reply that finds no memory may stand in its place
+abbrev pub IsLineOf : Told → List ℕ → Type 0
+IsLineOf Done line = line ≡ told_line Done
+IsLineOf (Based base) line = line ≡ told_line (Based base)
+IsLineOf (Blocks blocks next) line = (line ≡ told_line (Blocks blocks next)) ⊎ (line ≡ told_line no_memory)
+IsLineOf (Refused r) line = line ≡ told_line (Refused r)
+
+abbrev pub AppendsReply : Option (List ℕ) → Option (List ℕ) → Told → Type 0
+AppendsReply old new told = (line : List ℕ) × IsLineOf told line × Appends old new line
+
+abbrev pub GrowsReply : Option (List ℕ) → Option (List ℕ) → Told → Type 0
+GrowsReply old new told = (line : List ℕ) × IsLineOf told line × Grows old new line

@@ -1,0 +1,23 @@
+//! Lines of bytes in, lines of bytes out: commands, replies and the faults of readers and writers.
+#![tactic(auto)]
+
+pub mod asked;
+pub mod command;
+pub mod fault;
+pub mod first;
+pub mod lines;
+pub mod reply;
+pub mod scripts;
+pub mod tenants;
+pub(crate) mod tree;
+pub mod watched;
+
+pub use asked::call_of;
+pub use command::read_command;
+pub use fault::LineFault;
+pub use first::{FirstFault, first_line};
+pub use lines::{Line, Lines};
+pub use reply::{write_base, write_blocks, write_done, write_fault, write_refusal, write_reply};
+pub use scripts::{ScriptError, script};
+pub use tenants::{TenantsFault, read_tenants};
+pub use watched::{ReadFault, Watched, WriteFault};

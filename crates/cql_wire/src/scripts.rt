@@ -1,0 +1,116 @@
+//! Answers each line of a reader on a writer.
+ghost use Rattle.std.specs.Prelude.{◌≡◌, ◌⊎◌, ◌||◌, ◌+◌, ◌^◌, ◌<◌, true, is_err, Err};
+ghost use Rattle.cql_wire.specs.Asked.{asked_of};
+ghost use Rattle.cql_wire.specs.Next.{text_of};
+ghost use Rattle.cql_wire.specs.Output.{OutputLaw};
+ghost use Rattle.cql_wire.specs.Script.{Answers};
+ghost use Rattle.cql_wire.specs.Served.{ServesLine};
+ghost use Rattle.cql_wire.specs.Watched.{inner_of, has_failed, calls_of};
+
+use crate::asked::call_of;
+use crate::lines::{Line, Lines};
+use crate::reply::{write_fault, write_reply};
+use crate::watched::{ReadFault, Watched, WriteFault};
+use cql_core::law::{fetch_law, reply_law};
+use cql_core::{Core, TenantTable, serve};
+use std::alloc::{AllocError, Global};
+use std::io::{Read, Write};
+use thiserror::Error;
+
+/// Why a script ended before its last line was answered.
+#[derive(Clone, Copy, Debug, PartialEq, Eq, Error)]
+pub enum ScriptError {
+    /// The reader has failed, or 2^40 reads were made. The lines that were whole before are
+    /// answered.
+    #[error("reading failed")]
+    Read,
+    /// The writer has failed. The lines before the one that it failed at are answered.
+    #[error("writing failed")]
+    Write,
+    /// Memory for the lines or for the core was refused. Nothing was read, and nothing written.
+    #[error("no memory")]
+    NoMemory,
+}
+
+impl From<AllocError> for ScriptError {
+    ghost use Rattle.cql_wire.specs.declared.scripts.ScriptError.TheVariants.{NoMemory};
+
+    ghost from_gives = { λ _ e. e ≡ NoMemory };
+
+    fn from(_error: AllocError) -> ScriptError {
+        ScriptError::NoMemory
+    }
+}
+
+impl From<ReadFault> for ScriptError {
+    ghost use Rattle.cql_wire.specs.declared.scripts.ScriptError.TheVariants.{Read};
+
+    ghost from_gives = { λ _ e. e ≡ Read };
+
+    fn from(_fault: ReadFault) -> ScriptError {
+        ScriptError::Read
+    }
+}
+
+impl From<WriteFault> for ScriptError {
+    ghost use Rattle.cql_wire.specs.declared.scripts.ScriptError.TheVariants.{Write};
+
+    ghost from_gives = { λ _ e. e ≡ Write };
+
+    fn from(_fault: WriteFault) -> ScriptError {
+        ScriptError::Write
+    }
+}
+
+/// An output of lines in which the line of `NoMemory` (70) doesn't stand is the one output that
+/// the lines ask for.
+pub fn output_law()
+    ensures { OutputLaw }
+{}
+
+// Answers one line: serves its command, and writes the reply or the fault.
+fn answer_line<W: Write>(
+    alloc: Global,
+    table: &TenantTable,
+    core: &mut Core,
+    writer: &mut Watched<W>,
+    line: Line<'_>,
+) -> Result<(), WriteFault>
+    ensures serves { ServesLine core.old (asked_of table.now (text_of line.entry)) core.new
+        (W.contents (inner_of writer.old)) (W.contents (inner_of writer.new)) result }
+    ensures failed { has_failed writer.new ≡ (has_failed writer.old || is_err result) }
+{
+    fetch_law();
+    match call_of(alloc, table, line) {
+        Ok((tenant, command)) => {
+            let reply = serve(alloc, core, tenant, command);
+            write_reply(alloc, writer, &reply)
+        }
+        Err(fault) => write_fault(writer, &fault),
+    }
+}
+
+/// Answers each line of the reader that isn't blank, in order, with one line on the writer: the
+/// line of its fault (10, 11, 12 or 31), or of the reply that CQL's meaning gives to its tenant
+/// from that tenant's view of the lines before. A line that finds no memory is answered 70, and
+/// counts as not sent.
+pub fn script<R: Read, W: Write>(
+    alloc: Global,
+    reader: &mut Watched<R>,
+    writer: &mut Watched<W>,
+    table: TenantTable,
+) -> Result<(), ScriptError>
+    ensures answers { Answers table (R.remaining (inner_of reader.old)) (R.remaining (inner_of reader.new))
+        (W.contents (inner_of writer.old)) (W.contents (inner_of writer.new)) (has_failed writer.new) result }
+    ensures cause { result ≡ Err ScriptError.Read → (has_failed reader.new ≡ true)
+        ⊎ (calls_of reader.old + 2 ^ 40 < 2 ^ 64 → calls_of reader.new ≡ calls_of reader.old + 2 ^ 40) }
+    ensures untouched { result ≡ Err ScriptError.NoMemory → (reader.new ≡ reader.old) × (writer.new ≡ writer.old) }
+{
+    reply_law();
+    let mut lines = Lines::new(alloc)?;
+    let mut core = Core::new(alloc, table.try_clone(alloc)?)?;
+    while let Some(line) = lines.next(reader)? {
+        answer_line(alloc, &table, &mut core, writer, line)?;
+    }
+    Ok(())
+}

@@ -1,0 +1,67 @@
+// The body of main, over any reader and writer.
+ghost use Rattle.std.specs.Prelude.{◌≡◌, ◌≢◌, [], false};
+ghost use Rattle.cql_wire.specs.Watched.{inner_of, has_failed};
+ghost use Rattle.cqlrun.specs.Ending.{IsOutcome, text_of};
+
+use crate::ending::Ending;
+use cql_core::TenantTable;
+use cql_wire::{FirstFault, ScriptError, TenantsFault, Watched, first_line, read_tenants, script};
+use std::alloc::Global;
+use std::io::{Read, Write};
+
+// The tenants of the first line of the input.
+fn tenants<R: Read>(alloc: Global, reader: &mut Watched<R>) -> Result<TenantTable, Ending> {
+    let line = match first_line(alloc, reader) {
+        Ok(line) => line,
+        Err(FirstFault::TooLong) => return Err(Ending::Tenants),
+        Err(FirstFault::Read) => return Err(Ending::Reading),
+        Err(FirstFault::NoMemory) => return Err(Ending::NoMemory),
+    };
+    match read_tenants(alloc, line.as_slice()) {
+        Ok(table) => Ok(table),
+        Err(TenantsFault::Refused) => Err(Ending::Tenants),
+        Err(TenantsFault::NoMemory) => Err(Ending::NoMemory),
+    }
+}
+
+fn ending<R: Read, W: Write>(
+    alloc: Global,
+    reader: &mut Watched<R>,
+    writer: &mut Watched<W>,
+) -> Ending
+    requires reader { has_failed reader.old ≡ false }
+    requires writer { has_failed writer.old ≡ false }
+{
+    let table = match tenants(alloc, reader) {
+        Ok(table) => table,
+        Err(ending) => return ending,
+    };
+    match script(alloc, reader, writer, table) {
+        Ok(()) => Ending::Done,
+        Err(ScriptError::Read) => Ending::Reading,
+        Err(ScriptError::Write) => Ending::Writing,
+        Err(ScriptError::NoMemory) => Ending::NoMemory,
+    }
+}
+
+/// Takes no words, and looks at that before it reads its input: a tenants line of at most 65,536
+/// bytes, then a script. Gives the status of the program and its text on standard error: 0
+/// without a text, 2 for words or a bad tenants line, 3 for a failed read, 4 for a failed write,
+/// 5 for want of memory.
+pub fn program<R: Read, W: Write>(
+    alloc: Global,
+    words: &[String],
+    reader: &mut Watched<R>,
+    writer: &mut Watched<W>,
+) -> (u8, &'static str)
+    requires reader { has_failed reader.old ≡ false }
+    requires writer { has_failed writer.old ≡ false }
+    ensures outcome { IsOutcome result.0 result.1.now }
+    ensures words { words.now ≢ [] → (result.0 ≡ 2) × (result.1.now ≡ text_of Ending.Words) }
+    ensures untouched { words.now ≢ [] → (inner_of reader.new ≡ inner_of reader.old) × (inner_of writer.new ≡ inner_of writer.old) }
+{
+    if !words.is_empty() {
+        return Ending::Words.outcome();
+    }
+    ending(alloc, reader, writer).outcome()
+}

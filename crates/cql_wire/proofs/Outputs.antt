@@ -17,7 +17,6 @@ use Rattle.cql_wire.specs.Text.{LineText}
 
 -- ---- the one output without a line of 70
 
-
 -- what stands in the later lines stands in all
 deeper : (line later written : List ℕ) → written ≡ line ++ later → StandsIn later (told_line no_memory) → StandsIn written (told_line no_memory)
 deeper line later written split stands =
@@ -33,15 +32,15 @@ unique table before (Err fault ∷ rest) written output none =
     let (line, later, after, answered, split, others) = output in
     let more : later ≡ output_from table after rest = unique table after rest later others (λ stands. none (deeper line later written split stands)) in
     elim answered.0 [
-      inl is ↦ split ∙ (λ i. is i ++ more i) ∙ ap (λ b. fault_line fault ++ output_from table b rest) answered.1
-    | inr is ↦ absurd (none (first_stands line later written split is))
+      | inl is ↦ split ∙ (λ i. is i ++ more i) ∙ ap (λ b. fault_line fault ++ output_from table b rest) answered.1
+      | inr is ↦ absurd (none (first_stands line later written split is))
     ]
 unique table before (Ok call ∷ rest) written output none =
     let (line, later, after, answered, split, others) = output in
     let more : later ≡ output_from table after rest = unique table after rest later others (λ stands. none (deeper line later written split stands)) in
     elim answered [
-      inl is ↦ split ∙ (λ i. is.0 i ++ more i) ∙ ap (λ b. told_line (meant_after table before call) ++ output_from table b rest) is.1
-    | inr is ↦ absurd (none (first_stands line later written split is.0))
+      | inl is ↦ split ∙ (λ i. is.0 i ++ more i) ∙ ap (λ b. told_line (meant_after table before call) ++ output_from table b rest) is.1
+      | inr is ↦ absurd (none (first_stands line later written split is.0))
     ]
 
 exists : (table : List Tenant) (before : List (ℕ × Command)) (asked : List Asked) → IsOutput table before asked (output_from table before asked)
@@ -77,14 +76,14 @@ state_push s (c ∷ calls) call = state_push (state_after s c.0 c.1) calls call
 answered : (law : IsReplyLaw) (table : List Tenant) (calls : List (ℕ × Command)) (old new : State) (asked : Asked) (line : List ℕ) → old ≡ state_from (opening table) calls
     → IsServed old asked line new → (after : List (ℕ × Command)) × IsAnswered table calls asked line after × (new ≡ state_from (opening table) after)
 answered law table calls old new (Err fault) line is served = (calls, (served.0, refl), served.1 ∙ is)
-answered law table calls old new (Ok call) line is served = 
+answered law table calls old new (Ok call) line is served =
     elim served [
-      inl done ↦ (
+      | inl done ↦ (
         calls ++ call ∷ [],
         inl (done.0 ∙ ap (λ s. told_line (reply_to s call.0 call.1)) is ∙ ap told_line (law table calls call.0 call.1), refl),
         done.1 ∙ ap (λ s. state_after s call.0 call.1) is ∙ sym (state_push (opening table) calls call),
       )
-    | inr none ↦ (calls, inr (none.0, refl), none.1 ∙ is)
+      | inr none ↦ (calls, inr (none.0, refl), none.1 ∙ is)
     ]
 
 -- one more line
@@ -98,8 +97,8 @@ said_more law table old new lines line written reply said served =
       calls = after;
       core_is = core_is;
       leads = λ more rest output.
-        let whole : IsOutput table [] (all ++ asked_of table line ∷ more) (written ++ (reply ++ rest)) = said.leads (asked_of table line ∷ more) (reply ++ rest) (reply, rest, after, now, refl, output) in
-        let asked_is : all ++ asked_of table line ∷ more ≡ map (asked_of table) (lines ++ line ∷ []) ++ more = sym (append_assoc all (asked_of table line ∷ []) more) ∙ ap (λ l. l ++ more) (sym longer) in
-        subst (λ asked. IsOutput table [] asked ((written ++ reply) ++ rest)) asked_is
+          let whole : IsOutput table [] (all ++ asked_of table line ∷ more) (written ++ (reply ++ rest)) = said.leads (asked_of table line ∷ more) (reply ++ rest) (reply, rest, after, now, refl, output) in
+          let asked_is : all ++ asked_of table line ∷ more ≡ map (asked_of table) (lines ++ line ∷ []) ++ more = sym (append_assoc all (asked_of table line ∷ []) more) ∙ ap (λ l. l ++ more) (sym longer) in
+          subst (λ asked. IsOutput table [] asked ((written ++ reply) ++ rest)) asked_is
           (subst (λ w. IsOutput table [] (all ++ asked_of table line ∷ more) w) (sym (append_assoc written reply rest)) whole);
     }

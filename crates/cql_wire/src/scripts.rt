@@ -1,5 +1,5 @@
 //! Answers each line of a reader on a writer.
-ghost use Rattle.std.specs.Prelude.{◌≡◌, ◌⊎◌, ◌||◌, ◌+◌, ◌^◌, ◌<◌, true, is_err, Err};
+ghost use Rattle.std.specs.Prelude.{◌≡◌, ◌⊎◌, ◌||◌, ◌+◌, ◌^◌, ◌<◌, true, is_err, Err, OnOk};
 ghost use Rattle.cql_wire.specs.Asked.{asked_of};
 ghost use Rattle.cql_wire.specs.Next.{text_of};
 ghost use Rattle.cql_wire.specs.Output.{OutputLaw};
@@ -16,6 +16,9 @@ use cql_core::{Core, TenantTable, serve};
 use std::alloc::{AllocError, Global};
 use std::io::{Read, Write};
 use thiserror::Error;
+
+#[cfg(test)]
+mod tests;
 
 /// Why a script ended before its last line was answered.
 #[derive(Clone, Copy, Debug, PartialEq, Eq, Error)]
@@ -104,6 +107,7 @@ pub fn script<R: Read, W: Write>(
         (W.contents (inner_of writer.old)) (W.contents (inner_of writer.new)) (has_failed writer.new) result }
     ensures cause { result ≡ Err ScriptError.Read → (has_failed reader.new ≡ true)
         ⊎ (calls_of reader.old + 2 ^ 40 < 2 ^ 64 → calls_of reader.new ≡ calls_of reader.old + 2 ^ 40) }
+    ensures steady { OnOk result ((has_failed reader.new ≡ has_failed reader.old) × (has_failed writer.new ≡ has_failed writer.old)) }
     ensures untouched { result ≡ Err ScriptError.NoMemory → (reader.new ≡ reader.old) × (writer.new ≡ writer.old) }
 {
     reply_law();

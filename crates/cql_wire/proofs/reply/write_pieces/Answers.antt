@@ -1,4 +1,4 @@
-use Rattle.std.proofs.Common.{◌≡◌, ◌<◌, ◌++◌, ◌+◌, length, drop, sym, ◌∙◌, append_assoc, arith}
+use Rattle.std.proofs.Common.{◌<◌, ◌++◌, ◌+◌, length, drop, sym, ◌∙◌, append_assoc, arith}
 use Rattle.std.proofs.Math.Bool.{or-false}
 use Rattle.std.proofs.KnownBytes.{Appends-trans}
 use Rattle.cql_wire.proofs.Writing.{bytes_of, bytes_of-more, Grows-within, on_err_always}

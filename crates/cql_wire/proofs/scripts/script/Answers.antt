@@ -1,5 +1,5 @@
 use Rattle.std.proofs.Common.{◌≡◌, ◌∙◌, sym, ap, refl, subst, [], ◌∷◌, ◌++◌, true, false, ◌||◌, is_err, Ok, Err, Some}
-use Rattle.std.proofs.Math.Bool.{or-true}
+use Rattle.std.proofs.Math.Bool.{or-true, or-false}
 use Rattle.std.proofs.KnownBytes.{Appends-nil, Appends-trans}
 use Rattle.cql_core.specs.State.{opening}
 use Rattle.cql_wire.specs.declared.scripts.ScriptError.TheVariants.{Read, Write}
@@ -14,6 +14,8 @@ pub loop-core-init : goal.loop-core-init
 loop-core-init g c = record {
   done = ([], [], nothing_came _ _ c.in_ok-lines.ensures.begins.0, said_none _ _ (c.in_ok-core.ensures ∙ ap opening c.in_ok-try_clone.ensures), Appends-nil _);
   failed = c.in_ok-lines.ensures.begins.1;
+  reader = refl;
+  writer = refl;
   counts = counts_none _ _;
 }
 
@@ -32,6 +34,8 @@ loop-core-preserved g c =
         Appends-trans _ _ _ written reply appends more,
       );
       failed = c.next.follows.holds-at-none.0.fails ∙ ap is_err given;
+      reader = c.in_ok-line.ensures.reader ∙ c.loop-core.invariant.reader;
+      writer = c.in_ok-answer_line.ensures.failed ∙ or-false _ ∙ c.loop-core.invariant.writer;
       counts = counts_more _ _ _ _ _ _ c.loop-core.invariant.counts c.next.follows.holds-at-none.1;
     }
 

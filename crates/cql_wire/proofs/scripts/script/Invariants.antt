@@ -1,7 +1,7 @@
 -- The lines so far came of the input, and their replies were written.
 use Rattle.std.proofs.Common.{◌≡◌, ℕ, List, false}
 use Rattle.std.specs.Io.KnownBytes.{Appends}
-use Rattle.cql_wire.specs.Watched.{inner_of, calls_of}
+use Rattle.cql_wire.specs.Watched.{inner_of, has_failed, calls_of}
 use Rattle.cql_wire.specs.Reads.{CountsReads}
 use Rattle.cql_wire.specs.Text.{LineText}
 use Rattle.cql_wire.specs.Reading.{coming, work}
@@ -15,6 +15,8 @@ invariant-loop-core g l = record {
       × Said l.fn.table l.core lines written
       × Appends (g.W.Write.contents (inner_of l.initial.writer)) (g.W.Write.contents (inner_of l.writer)) written;
   failed : l.lines.failed ≡ false;
+  reader : has_failed l.reader ≡ has_failed l.initial.reader;
+  writer : has_failed l.writer ≡ has_failed l.initial.writer;
   counts : CountsReads l.initial.lines.reads_left l.lines.reads_left (calls_of l.initial.reader) (calls_of l.reader);
 }
 

@@ -1,8 +1,6 @@
-use Rattle.std.proofs.Common.{◌≡◌, Bool, true, false, ◌&&◌, map, sym, ap, ◌∙◌}
+use Rattle.std.proofs.Common.{true, false, sym, ap, ◌∙◌}
 use Rattle.std.specs.List.{list_any}
 use Rattle.std.specs.Str.{bytes_eq}
-use Rattle.serde_json.specs.View.{members_view}
-use Rattle.cql_wire.specs.Tree.{are_among}
 use Rattle.cql_wire.proofs.Keys.{are_among_more}
 use Rattle.cql_wire.proofs.tree.are_among.Goals as goal
 

@@ -1,5 +1,5 @@
 -- What comes from an instant on isn't seen before it.
-use Rattle.std.proofs.Common.{◌≡◌, ℕ, zero, suc, ◌+◌, ◌-◌, ◌≤◌, ◌<◌, List, [], ◌∷◌, map, take, true, false, cond, nat_lt, refl, sym, ap, ◌∙◌, arith}
+use Rattle.std.proofs.Common.{◌≡◌, ℕ, zero, suc, ◌+◌, ◌≤◌, List, [], ◌∷◌, map, take, true, false, cond, nat_lt, refl, sym, ap, ◌∙◌, arith}
 use Rattle.std.proofs.lemmas.Bool.Decides.{nat_tests}
 use Rattle.std.proofs.Math.Nat.{div-mul-le_self}
 use Rattle.cql_value.specs.Element.{Element}
@@ -7,12 +7,12 @@ use Rattle.cql_window.specs.declared.window.Window.{Window}
 use Rattle.cql_window.specs.declared.window.Window.TheVariants.{Range}
 use Rattle.cql_window.specs.Window.{end_of, count_before, kept, content}
 use Rattle.cql_core.specs.declared.plan.Plan.{Plan}
-use Rattle.cql_core.specs.declared.output.Output.{Output}
 use Rattle.cql_core.specs.Bag.{bag_of}
 use Rattle.cql_core.specs.Output.{output_of}
-use Rattle.cql_core.specs.Blocks.{extended, blocks_of_many, blocks_of, IsLocalLaw}
+use Rattle.cql_core.specs.Blocks.{blocks_of}
 use Rattle.cql_core.specs.Relation.{PinSeen, relation_at, output_at}
 use Rattle.cql_core.specs.Machine.{rows_before}
+use Rattle.cql_core.proofs.Every.{local_law}
 
 one_add : (n : ℕ) → 1 + n ≡ suc n
 one_add n = omega arith
@@ -53,17 +53,6 @@ same_relation : (plan : Plan) (base from next c : ℕ) (rows : List Element) →
 unfolding relation_at
 same_relation plan base from next c rows le =
     ap (λ l. cond (nat_lt base c) (bag_of (map (λ x. x.row) l)) []) (content_cut plan.window c next rows le)
-
-same_many : (O P : ℕ → Output) (c n : ℕ) → ((t : ℕ) → c ≤ t → t < c + n → O t ≡ P t) → blocks_of_many O c n ≡ blocks_of_many P c n
-unfolding blocks_of_many
-same_many O P c zero same = refl
-same_many O P c (suc n) same =
-    λ i. extended (c + n) (c + n) (same (c + n) (omega arith) (omega arith) i) (same_many O P c n (λ t ge lt. same t ge (omega arith)) i)
-
--- the blocks on an interval are those of the outputs there
-pub local_law : IsLocalLaw
-unfolding blocks_of
-local_law O P c l same = same_many O P c (l - c) (λ t ge lt. same t ge (omega arith))
 
 -- the rows before the end of a fetch tell what all rows tell
 pub same_blocks : (plan : Plan) (base from next : ℕ) (rows : List Element)

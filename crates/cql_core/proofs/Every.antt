@@ -128,6 +128,7 @@ same_many O P c zero same = refl
 same_many O P c (suc n) same =
     λ i. extended (c + n) (c + n) (same (c + n) (omega arith) (omega arith) i) (same_many O P c n (λ t ge lt. same t ge (omega arith)) i)
 
+-- the blocks on an interval are those of the outputs there
 pub local_law : IsLocalLaw
 unfolding blocks_of
 local_law O P c l same = same_many O P c (l - c) (λ t ge lt. same t ge (omega arith))

@@ -13,8 +13,8 @@ use Rattle.cql_core.specs.declared.tenants.Quotas.{Quotas}
 use Rattle.cql_core.specs.Checks.{Clocked, schema_of, time_told, put_told, beat_told, stream_told, base_told, query_told}
 use Rattle.cql_core.specs.Form.{plan_of}
 use Rattle.cql_core.specs.Law.{IsFetchLaw}
-use Rattle.cql_core.specs.Machine.{input_opened, step_at, reply_to, state_after, home_after, queries_after}
-use Rattle.cql_core.specs.State.{Named, Home, QueryState, State, no_home, find_named, clocked, is_place, home_at, queries_at}
+use Rattle.cql_core.specs.Machine.{input_opened, step_at, state_after, home_after, queries_after}
+use Rattle.cql_core.specs.State.{Named, Home, QueryState, State, find_named, clocked, is_place, home_at, queries_at}
 use Rattle.cql_core.specs.Told.{Told, Done, Based, Blocks, Refused, Says, reads}
 
 abbrev are_blocks : Told → Bool

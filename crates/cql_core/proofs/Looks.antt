@@ -1,6 +1,6 @@
 -- A look-up in the map's entries is one under names.
-use Rattle.std.proofs.Common.{◌≡◌, ℕ, zero, suc, Bool, true, false, List, [], ◌∷◌, ◌++◌, refl, ap, arith}
-use Rattle.std.specs.Prelude.{Result, Ok, Err, OnOk, OnErr, None, Some, slice_get, bytes_eq, String, string_bytes}
+use Rattle.std.proofs.Common.{◌≡◌, ℕ, Bool, true, false, List, [], ◌∷◌, ◌++◌, refl, ap, arith}
+use Rattle.std.specs.Prelude.{None, Some, bytes_eq, String, string_bytes}
 use Rattle.std.specs.Map.{lookup, set_value}
 use Rattle.cql_core.specs.Named.{Named, same_name, named_of, find_named, set_named, change_named}
 
@@ -40,11 +40,3 @@ change_lost f ss name h = rw h refl
 pub set_found : {B : Type 0} (ss : List (Named B)) (name : List ℕ) (old : B) → find_named ss name ≡ Some old → set_named ss name old ≡ ss
 set_found [] name old h = refl
 set_found (s ∷ ss) name old h = grind (arith, set_found ss name old)
-
-pub on_ok : {A E : Type 0} {P Q : Type 0} (r : Result A E) → (P → Q) → OnOk r P → OnOk r Q
-on_ok (Ok x) f p = f p
-on_ok (Err e) f p = p
-
-pub on_err : {A E : Type 0} {P Q : Type 0} (r : Result A E) → (P → Q) → OnErr r P → OnErr r Q
-on_err (Ok x) f p = p
-on_err (Err e) f p = f p

@@ -1,13 +1,13 @@
 -- A step at a tenant's place is the machine's.
-use Rattle.std.proofs.Common.{◌≡◌, ℕ, ◌<◌, ◌≤◌, Bool, true, false, List, length, set, get_or, refl, ap, subst, sym, ◌∙◌, arith}
-use Rattle.std.specs.Prelude.{nat_lt, if◌then◌else◌, Result, Ok, Err, IfOk, OnOk, OnErr, IsOk, MatchResult}
+use Rattle.std.proofs.Common.{◌≡◌, ℕ, ◌<◌, ◌≤◌, true, false, List, length, set, get_or, refl, ap, subst, sym, ◌∙◌, arith}
+use Rattle.std.specs.Prelude.{Result, Ok, Err, IfOk, OnOk, OnErr, IsOk, MatchResult}
 use Rattle.std.proofs.Common.{inl, inr}
 use Rattle.std.proofs.lemmas.Bool.Decides.{nat_tests}
 use Rattle.std.proofs.lemmas.List.{get_or_default, set-get_or}
 use Rattle.cql_core.specs.declared.command.Command.{Command}
 use Rattle.cql_core.specs.declared.refusal.Refusal.TheVariants.{UnknownTenant}
 use Rattle.cql_core.specs.Told.{Says, Refused, no_memory}
-use Rattle.cql_core.specs.State.{Named, Home, QueryState, State, no_home, is_place, home_at, queries_at}
+use Rattle.cql_core.specs.State.{Named, Home, QueryState, State, is_place, home_at, queries_at}
 use Rattle.cql_core.specs.Machine.{home_after, queries_after, step_at, step_of, state_after}
 use Rattle.cql_core.specs.Sound.{IsSound, IsHomeSound}
 use Rattle.cql_core.specs.declared.reply.Step.{Step}

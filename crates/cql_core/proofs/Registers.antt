@@ -1,6 +1,6 @@
 -- What a registration does.
-use Rattle.std.proofs.Common.{◌≡◌, ℕ, ◌<◌, Bool, true, false, List, [], ◌∷◌, ◌++◌, length, refl, ap, sym, ◌∙◌, arith}
-use Rattle.std.specs.Prelude.{Option, Some, None, Result, Ok, Err, is_some, nat_lt, if◌then◌else◌}
+use Rattle.std.proofs.Common.{◌≡◌, ℕ, ◌<◌, Bool, true, false, List, [], ◌∷◌, ◌++◌, length, refl, ap, arith}
+use Rattle.std.specs.Prelude.{Option, Some, None, Ok, Err, is_some, nat_lt, if◌then◌else◌}
 use Rattle.std.proofs.lemmas.Bool.Decides.{nat_tests}
 use Rattle.cql_value.specs.Name.{is_name}
 use Rattle.cql_core.specs.declared.command.Command.TheVariants as command
@@ -9,7 +9,7 @@ use Rattle.cql_core.specs.declared.refusal.Refusal.{Refusal}
 use Rattle.cql_core.specs.declared.state.StreamState.{StreamState}
 use Rattle.cql_core.specs.Form.{plan_of}
 use Rattle.cql_core.specs.Prepared.{plan_checked, or_refused}
-use Rattle.cql_core.specs.Told.{Told, Based}
+use Rattle.cql_core.specs.Told.{Based}
 use Rattle.cql_core.specs.State.{Named, Home, QueryState, find_named}
 use Rattle.cql_core.specs.Machine.{registered_told, queries_after}
 

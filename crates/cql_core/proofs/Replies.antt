@@ -1,5 +1,5 @@
 -- The reply to the next command, after any others.
-use Rattle.std.proofs.Common.{◌≡◌, ℕ, Bool, true, ◌==◌, List, [], ◌∷◌, ◌++◌, refl, ap, ◌∙◌, sym, append_assoc, append-nil, eq-eqb}
+use Rattle.std.proofs.Common.{◌≡◌, ℕ, true, ◌==◌, List, [], ◌∷◌, ◌++◌, refl, ap, ◌∙◌, sym, append_assoc, eq-eqb}
 use Rattle.std.specs.Prelude.{if◌then◌else◌}
 use Rattle.std.proofs.lemmas.List.{append_cancel_left}
 use Rattle.cql_core.specs.declared.command.Command.{Command}
@@ -42,8 +42,8 @@ reply_law table calls t c =
     let x : Told = reply_to (state_from (opening table) calls) t c in
     let y : Told = meant (known_from k (view t (nothing_made table) calls)) c in
     last_same (solo k (view t (nothing_made table) calls)) x y
-        (ap (λ rs. rs ++ x ∷ []) (sym before)
-        ∙ sym (replies_push t (opening table) calls c)
-        ∙ solo_law table t (calls ++ (t, c) ∷ [])
-        ∙ ap (solo k) (view_push t (nothing_made table) calls c)
-        ∙ solo_push k (view t (nothing_made table) calls) c)
+    (ap (λ rs. rs ++ x ∷ []) (sym before)
+    ∙ sym (replies_push t (opening table) calls c)
+    ∙ solo_law table t (calls ++ (t, c) ∷ [])
+    ∙ ap (solo k) (view_push t (nothing_made table) calls c)
+    ∙ solo_push k (view t (nothing_made table) calls) c)

@@ -1,6 +1,6 @@
 -- Commands that are served one by one.
-use Rattle.std.proofs.Common.{◌≡◌, ℕ, zero, suc, ◌+◌, ◌<◌, ◌≤◌, Bool, true, false, ◌⊎◌, inl, inr, List, [], ◌∷◌, ◌++◌, length, set, get_or, refl, ap, subst, sym, ◌∙◌, arith, rules}
-use Rattle.std.specs.Prelude.{nat_lt, is_some, Option, Some, None, if◌then◌else◌, map, take, drop, reverse}
+use Rattle.std.proofs.Common.{◌≡◌, ℕ, zero, suc, ◌<◌, ◌≤◌, Bool, true, false, ◌⊎◌, inl, inr, List, [], ◌∷◌, ◌++◌, length, set, refl, ap, subst, sym, ◌∙◌, arith, rules}
+use Rattle.std.specs.Prelude.{is_some, Option, Some, None, if◌then◌else◌, map, take, drop, reverse}
 use Rattle.std.proofs.lemmas.List.{set-get_or, reverse-append}
 use Rattle.cql_core.specs.declared.command.Command.{Command}
 use Rattle.cql_core.specs.declared.command.Command.TheVariants.{Stream, Put, Beat, Query, Fetch}
@@ -16,7 +16,7 @@ use Rattle.cql_core.specs.Form.{plan_of}
 use Rattle.cql_core.specs.Checks.{schema_of, Clocked, time_told, put_told, beat_told, stream_told, base_told, query_told}
 use Rattle.cql_core.specs.Told.{Told, Refused, Stepped, Says, Pinned, reads, no_memory}
 use Rattle.cql_core.specs.Relation.{PinSeen}
-use Rattle.cql_core.specs.State.{Named, Home, QueryState, State, find_named, clocked, is_place, home_at, queries_at, opening}
+use Rattle.cql_core.specs.State.{Named, Home, QueryState, State, find_named, clocked, is_place, home_at, queries_at}
 use Rattle.cql_core.specs.Machine.{input_opened, step_at, step_of, fetch_step, reply_to, state_after, home_after, queries_after}
 use Rattle.cql_core.specs.Steps.{told_of, stepped_of, IsPinned, Steps}
 use Rattle.cql_core.specs.History.{Made, is_no_memory, after, replay, Fits, IsLegal}

@@ -1,12 +1,12 @@
 -- The bytes of names and the values of digits.
-use Rattle.std.proofs.Common.{length, drop, get_or, ap, ◌≡◌, ℕ, zero, suc, ◌+◌, ◌*◌, ◌-◌, ◌≤◌, ◌<◌, ◌^◌, Bool, true, false, ◌&&◌, ◌||◌, List, [], ◌∷◌, refl, sym, ◌∙◌, arith, cond}
-use Rattle.std.specs.Prelude.{slice_index, nat_le, not, Option, Some, None, if◌then◌else◌}
+use Rattle.std.proofs.Common.{length, drop, get_or, ap, ◌≡◌, ℕ, zero, suc, ◌+◌, ◌*◌, ◌-◌, ◌≤◌, ◌<◌, Bool, true, false, ◌&&◌, List, [], ◌∷◌, refl, arith}
+use Rattle.std.specs.Prelude.{nat_le, Some, None, if◌then◌else◌}
 use Rattle.std.specs.List.{list_all}
 use Rattle.std.specs.Str.{IsAscii, IsUtf8}
 use Rattle.std.proofs.lemmas.Str.{IsUtf8-from_ascii}
 use Rattle.std.proofs.lemmas.Bool.Decides.{nat_tests}
 use Rattle.std.proofs.Math.Seq.{drop-cons}
-use Rattle.cql_value.specs.Name.{is_word_start, is_word_byte, is_word, is_reserved, is_name}
+use Rattle.cql_value.specs.Name.{is_word_start, is_word_byte, is_word, is_name}
 use Rattle.cql_core.specs.Form.{value_of}
 
 -- the value only grows

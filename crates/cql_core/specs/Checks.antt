@@ -1,5 +1,5 @@
 -- The checks of the commands, in their order, over what was looked up. The first refusal is told.
-use Rattle.std.specs.Prelude.{ℕ, ◌-◌, ◌^◌, Bool, true, false, ◌&&◌, List, [], ◌∷◌, length, Option, Some, None, option_map, option_and_then, is_some, min, nat_lt, if◌then◌else◌}
+use Rattle.std.specs.Prelude.{ℕ, ◌-◌, ◌^◌, Bool, false, List, [], ◌∷◌, Option, Some, None, option_map, option_and_then, min, nat_lt, if◌then◌else◌}
 use Rattle.cql_value.specs.declared.value.Value.{Value}
 use Rattle.cql_value.specs.declared.schema.Column.{Column}
 use Rattle.cql_value.specs.Name.{is_name}
@@ -7,7 +7,7 @@ use Rattle.cql_value.specs.Schema.{type_named, is_schema, is_row_of}
 use Rattle.cql_core.specs.declared.command.ColumnText.{ColumnText}
 use Rattle.cql_core.specs.declared.plan.Plan.{Plan}
 use Rattle.cql_core.specs.declared.tenants.Quotas.{Quotas}
-use Rattle.cql_core.specs.declared.refusal.Refusal.TheVariants.{StreamExists, BadName, BadColumns, TooManyStreams, UnknownStream, WrongRow, Late, AtTooLarge, TooManyQueries, QueryExists, UnknownQuery, NotYet, Behind}
+use Rattle.cql_core.specs.declared.refusal.Refusal.TheVariants.{StreamExists, BadName, BadColumns, TooManyStreams, UnknownStream, WrongRow, Late, AtTooLarge, TooManyQueries, QueryExists, NotYet}
 use Rattle.cql_core.specs.Told.{Told, Done, Based, Refused}
 
 -- the greatest instant

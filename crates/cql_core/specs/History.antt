@@ -1,8 +1,6 @@
 -- A history: commands with what they were told. One that was told of no memory counts as not sent.
-use Rattle.std.specs.Prelude.{◌≡◌, ℕ, Bool, true, false, ◌==◌, List, [], ◌∷◌, ◌++◌, if◌then◌else◌}
+use Rattle.std.specs.Prelude.{◌≡◌, ℕ, Bool, false, ◌==◌, List, [], ◌∷◌, ◌++◌, if◌then◌else◌}
 use Rattle.cql_core.specs.declared.command.Command.{Command}
-use Rattle.cql_core.specs.declared.refusal.Refusal.{Refusal}
-use Rattle.cql_core.specs.declared.refusal.Refusal.TheVariants.{NoMemory}
 use Rattle.cql_core.specs.Refusal.{number_of}
 use Rattle.cql_core.specs.declared.tenants.Tenant.{Tenant}
 use Rattle.cql_core.specs.Told.{Told, Done, Based, Blocks, Refused}

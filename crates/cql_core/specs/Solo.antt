@@ -1,8 +1,7 @@
 -- What a view means by itself: one tenant, with its streams and queries, and of each query the whole list of the rows of its input.
-use Rattle.std.specs.Prelude.{◌≡◌, ℕ, ◌+◌, true, List, [], ◌∷◌, ◌++◌, map, length, Option, Some, None, option_map, option_and_then, is_some, slice_get, unwrap_or, if◌then◌else◌}
+use Rattle.std.specs.Prelude.{ℕ, ◌+◌, List, [], ◌∷◌, ◌++◌, length, Option, Some, None, option_map, option_and_then, is_some, slice_get, unwrap_or, if◌then◌else◌}
 use Rattle.cql_value.specs.Element.{Element}
 use Rattle.cql_value.specs.declared.value.Value.{Value}
-use Rattle.cql_value.specs.declared.schema.Column.{Column}
 use Rattle.cql_core.specs.declared.command.ColumnText.{ColumnText}
 use Rattle.cql_core.specs.declared.command.Command.{Command}
 use Rattle.cql_core.specs.declared.command.Command.TheVariants.{Stream, Put, Beat, Query, Fetch}
@@ -11,7 +10,7 @@ use Rattle.cql_core.specs.declared.tenants.Quotas.{Quotas}
 use Rattle.cql_core.specs.declared.tenants.Tenant.{Tenant}
 use Rattle.cql_core.specs.declared.refusal.Refusal.TheVariants.{UnknownTenant, UnknownQuery, Behind}
 use Rattle.cql_core.specs.Blocks.{blocks_of}
-use Rattle.cql_core.specs.Relation.{PinSeen, output_at}
+use Rattle.cql_core.specs.Relation.{output_at}
 use Rattle.cql_core.specs.Form.{plan_of}
 use Rattle.cql_core.specs.Told.{Told, Blocks, Refused, is_accepted}
 use Rattle.cql_core.specs.Checks.{Clocked, schema_of, stream_told, put_told, beat_told, query_told, next_of, is_behind}

@@ -1,8 +1,7 @@
 -- The tenants of a server.
-use Rattle.std.specs.Prelude.{ℕ, Bool, true, ◌&&◌, not, List, [], ◌∷◌, length, Option, Some, None, nat_le, if◌then◌else◌, option_map, ◌+◌}
+use Rattle.std.specs.Prelude.{ℕ, Bool, true, ◌&&◌, not, List, [], ◌∷◌, length, Option, nat_le}
 use Rattle.std.specs.List.{list_all, list_any, position}
 use Rattle.std.specs.Str.{bytes_eq}
-use Rattle.cql_core.specs.declared.tenants.Quotas.{Quotas}
 use Rattle.cql_core.specs.declared.tenants.Tenant.{Tenant}
 
 abbrev pub is_within : ℕ → ℕ → ℕ → Bool

@@ -28,6 +28,12 @@ mod steps;
 mod tenants;
 #[cfg(test)]
 mod tests_answer;
+#[cfg(test)]
+mod tests_core;
+#[cfg(test)]
+mod tests_form;
+#[cfg(test)]
+mod tests_tenants;
 
 pub use answer::Answer;
 pub use command::{ColumnText, Command};

@@ -1,9 +1,6 @@
 // What a query computes.
-ghost use Rattle.std.specs.Prelude.{◌≡◌, IfOk};
-
 use cql_value::Name;
 use cql_window::Window;
-use std::alloc::AllocError;
 
 /// What a query tells of its relation at an instant, beside the relation of the instant before.
 #[derive(Clone, Copy, Debug, PartialEq, Eq)]

@@ -1,9 +1,7 @@
 // Commands, checked as far as that needs no state.
 ghost use Rattle.std.specs.Prelude.{◌≡◌, IfOk, option_map};
 ghost use Rattle.std.specs.Arc.{arc_value};
-ghost use Rattle.cql_value.specs.Name.{is_name};
-ghost use Rattle.cql_core.specs.Checks.{column_of, columns_of, schema_of};
-ghost use Rattle.cql_core.specs.Form.{plan_of};
+ghost use Rattle.cql_core.specs.Checks.{column_of, columns_of};
 ghost use Rattle.cql_core.specs.Prepared.{schema_checked, plan_checked, IsReady, command_of};
 
 use crate::command::{ColumnText, Command};

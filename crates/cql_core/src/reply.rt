@@ -19,6 +19,8 @@ pub enum Reply {
 /// What one step of the core gives: a reply, or a pin to be answered outside it.
 #[derive(Drop)]
 pub enum Step {
+    /// The reply.
     Done(Reply),
+    /// What a fetch needs; its answer is made by `evaluate::answer`.
     Pinned(Pin),
 }

@@ -24,6 +24,7 @@ pub fn finish(alloc: Global, step: Step) -> Reply
         Step::Done(reply) => reply,
         Step::Pinned(pin) => match answer(alloc, pin) {
             Ok(answer) => {
+                // Its clauses say that the blocks are the pin's.
                 let _ = answer.blocks();
                 Reply::Blocks(answer)
             }

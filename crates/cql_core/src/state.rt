@@ -1,6 +1,6 @@
 // What the core holds of the tenants.
 ghost use Rattle.std.specs.Prelude.{◌≡◌, OnOk, OnErr};
-ghost use Rattle.cql_core.specs.Machine.{fed, beaten};
+ghost use Rattle.cql_core.specs.Machine.{fed};
 
 use crate::plan::Plan;
 use crate::shared::Shared;

@@ -1,8 +1,7 @@
 // The steps of the commands, each over one tenant's home and queries.
-ghost use Rattle.std.specs.Prelude.{◌≡◌, ◌≤◌, ◌^◌, IfOk, IsOk, OnOk, OnErr, length, drop, is_some, option_copied};
+ghost use Rattle.std.specs.Prelude.{◌≡◌, ◌≤◌, IfOk, IsOk, OnOk, OnErr, length, drop, is_some, option_copied};
 ghost use Rattle.cql_core.specs.declared.command.Command.TheVariants as command;
 ghost use Rattle.cql_core.specs.Checks.{time_told, next_of, is_behind};
-ghost use Rattle.cql_core.specs.Told.{Says};
 ghost use Rattle.cql_core.specs.Steps.{told_of, stepped_of, TakesNoMemory};
 ghost use Rattle.cql_core.specs.Prepared.{schema_checked, plan_checked, command_of, IsReady};
 ghost use Rattle.cql_core.specs.State.{find_named, limit_of};

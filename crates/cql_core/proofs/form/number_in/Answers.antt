@@ -1,4 +1,4 @@
-use Rattle.std.proofs.Common.{◌+◌, ◌*◌, ◌-◌, ◌<◌, arith, get_or, sym, subst}
+use Rattle.std.proofs.Common.{arith}
 use Rattle.cql_core.proofs.Words.{too_much}
 use Rattle.cql_core.proofs.form.number_in.Goals as goal
 

@@ -1,4 +1,4 @@
-use Rattle.std.proofs.Common.{◌≡◌, ◌∙◌, sym, ap, add-one}
+use Rattle.std.proofs.Common.{◌∙◌, sym, ap, add-one}
 use Rattle.cql_core.specs.Checks.{column_of}
 use Rattle.cql_core.proofs.Columns.{stops, goes_on}
 use Rattle.cql_core.proofs.ready.columns_of.Goals as goal

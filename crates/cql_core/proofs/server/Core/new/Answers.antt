@@ -1,6 +1,3 @@
-use Rattle.std.proofs.Common.{sym, ◌∙◌, ap, subst}
-use Rattle.cql_core.specs.State.{opening, nothing_made, no_queries}
-use Rattle.cql_core.specs.Sound.{IsSound}
 use Rattle.cql_core.proofs.Sound.{sound_opening}
 use Rattle.cql_core.proofs.server.Core.new.Goals as goal
 

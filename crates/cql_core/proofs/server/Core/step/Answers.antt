@@ -1,6 +1,6 @@
-use Rattle.std.proofs.Common.{◌≡◌, ◌<◌, [], length, arith, refl}
+use Rattle.std.proofs.Common.{◌<◌, [], length, arith}
 use Rattle.cql_core.specs.Prepared.{command_of}
-use Rattle.cql_core.specs.State.{no_home, home_at, queries_at}
+use Rattle.cql_core.specs.State.{no_home}
 use Rattle.cql_core.proofs.Places.{there, sound_at, Stepping, sound_then, steps_then, steps_well_then, steps_as, steps_well_as}
 use Rattle.cql_core.proofs.server.Core.step.Goals as goal
 

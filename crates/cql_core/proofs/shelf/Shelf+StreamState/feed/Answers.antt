@@ -2,7 +2,8 @@ use Rattle.std.proofs.Common.{ap, ◌∙◌, sym}
 use Rattle.std.specs.Option.{option_copied_mut}
 use Rattle.cql_core.specs.Named.{named_of, find_named, set_named}
 use Rattle.cql_core.specs.Machine.{fed}
-use Rattle.cql_core.proofs.Looks.{look, written, change_found, change_lost, set_found, on_ok, on_err}
+use Rattle.cql_core.proofs.Looks.{look, written, change_found, change_lost, set_found}
+use Rattle.std.proofs.lemmas.Result.{on_ok_weaker, on_err_weaker}
 use Rattle.cql_core.proofs.shelf.Shelf+StreamState.feed.Goals as goal
 
 pub returns-in_default-clause-ok : goal.returns-in_default-clause-ok
@@ -17,7 +18,7 @@ returns-clause-ok c =
     let old = c.in-Some.stream.now in
     let new = c.feed.new.self in
     let found = ap (λ ss. find_named ss name) (sym c.self.view_is) ∙ sym (look c.self.inside.map.entries name) ∙ sym c.get_mut.ensures.value ∙ ap option_copied_mut c.in-Some.is in
-    on_ok c.feed.result (λ is. ap named_of (c.get_mut.follows.holds new).0 ∙ written c.self.inside.map.entries name new ∙ ap (λ ss. set_named ss name new) c.self.view_is
+    on_ok_weaker c.feed.result (λ is. ap named_of (c.get_mut.follows.holds new).0 ∙ written c.self.inside.map.entries name new ∙ ap (λ ss. set_named ss name new) c.self.view_is
     ∙ ap (set_named c.args.self.now name) is ∙ change_found (fed c.args.element.at c.args.element.row) c.args.self.now name old found) c.feed.ensures.ok
 
 pub returns-clause-err : goal.returns-clause-err
@@ -26,5 +27,5 @@ returns-clause-err c =
     let old = c.in-Some.stream.now in
     let new = c.feed.new.self in
     let found = ap (λ ss. find_named ss name) (sym c.self.view_is) ∙ sym (look c.self.inside.map.entries name) ∙ sym c.get_mut.ensures.value ∙ ap option_copied_mut c.in-Some.is in
-    on_err c.feed.result (λ is. ap named_of (c.get_mut.follows.holds new).0 ∙ written c.self.inside.map.entries name new ∙ ap (λ ss. set_named ss name new) c.self.view_is
+    on_err_weaker c.feed.result (λ is. ap named_of (c.get_mut.follows.holds new).0 ∙ written c.self.inside.map.entries name new ∙ ap (λ ss. set_named ss name new) c.self.view_is
     ∙ ap (set_named c.args.self.now name) is ∙ set_found c.args.self.now name old found) c.feed.ensures.err

@@ -1,6 +1,9 @@
 // What tenants ask for.
 use cql_value::{Items, Row, Text};
 
+/// The greatest instant, in ticks.
+pub(crate) const GREATEST: u64 = 4_611_686_018_427_387_903;
+
 /// A column as a command names it: its name and its type, neither checked yet.
 #[derive(Debug, Drop)]
 pub struct ColumnText {

@@ -6,15 +6,13 @@ ghost use Rattle.std.specs.Option.{option_copied};
 ghost use Rattle.cql_value.specs.Name.{is_word_byte, is_name};
 ghost use Rattle.cql_core.specs.Form.{is_blank, unblanked, after_keyword, after_sign, name_and_rest, value_of, number_and_rest, is_at_end, after_head, after_bracket, range_of, parts_of, plan_with, plan_of};
 
+use crate::command::GREATEST;
 use crate::plan::{OutputKind, Plan};
 use cql_value::name::is_name;
 use cql_value::{Name, NameError};
 use cql_window::Window;
 use std::alloc::{AllocError, Global};
 use std::str;
-
-/// The greatest instant, in ticks.
-const GREATEST: u64 = 4_611_686_018_427_387_903;
 
 fn is_blank(byte: u8) -> bool
     ensures { result ≡ is_blank byte }

@@ -10,7 +10,7 @@ ghost use Rattle.cql_core.specs.Sound.{IsHomeSound};
 ghost use Rattle.cql_core.specs.Relation.{IsPin};
 ghost use Rattle.cql_window.specs.Window.{count_before};
 
-use crate::command::ColumnText;
+use crate::command::{ColumnText, GREATEST};
 use crate::pin::Pin;
 use crate::plan::Plan;
 use crate::ready::Ready;
@@ -21,9 +21,6 @@ use crate::shelf::Shelf;
 use crate::state::{Home, QueryState, StreamState};
 use cql_value::{Items, Schema, Text, Timed};
 use std::alloc::{AllocError, Global};
-
-/// The greatest instant, in ticks.
-const GREATEST: u64 = 4_611_686_018_427_387_903;
 
 // What is told of a time that comes to a stream which takes none below `opened`.
 fn time_reply(opened: u64, at: u64) -> Reply

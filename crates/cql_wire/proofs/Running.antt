@@ -1,7 +1,7 @@
 -- Lemmas on the lines that were read so far.
 use Rattle.std.proofs.Common.{◌≡◌, ℕ, Bool, true, false, List, [], ◌∷◌, ◌++◌, Option, Some, None, Result, Ok, Err, refl, sym, ap, ◌∙◌, subst, append_assoc, append-nil, arith, suc, IfSome}
 use Rattle.std.proofs.lemmas.List.Elements.{All-append, All-nil, filter_map-append}
-use Rattle.std.proofs.lemmas.List.Splits.{slice_split_none, slice_split_at}
+use Rattle.std.proofs.lemmas.List.Splits.{slice_split_none}
 use Rattle.std.proofs.lemmas.Grind.{flat_map-append}
 use Rattle.std.proofs.KnownBytes.{Consumes-trans, Consumes-nil}
 use Rattle.std.specs.Io.KnownBytes.{Consumes, IsAtEnd, Appends, prepend_known}
@@ -9,6 +9,7 @@ use Rattle.std.specs.List.{All, filter_map, slice_split}
 use Rattle.cql_wire.specs.declared.watched.ReadFault.{ReadFault}
 use Rattle.cql_wire.specs.declared.lines.Line.{Line}
 use Rattle.cql_wire.specs.Text.{LineText, is_feed, HasNoFeed, line_found, lines_of, joined, Passed}
+use Rattle.cql_wire.proofs.Splitting.{split-joined}
 use Rattle.cql_wire.specs.Reading.{Reading, finds}
 use Rattle.cql_wire.specs.Next.{Next, text_of}
 use Rattle.cql_core.specs.declared.tenants.Tenant.{Tenant}
@@ -17,19 +18,6 @@ use Rattle.cql_wire.specs.Script.{WholeLines, BeginsWith, IsOutputOf, WritesOutp
 use Rattle.std.specs.Result.{IsErrAnd}
 
 -- ---- lines of a text
-
-split-joined : (raws : List (List ℕ)) (rest : List ℕ) → All HasNoFeed raws → HasNoFeed rest → slice_split is_feed (joined raws ++ rest) ≡ raws ++ rest ∷ []
-split-joined [] rest each part = slice_split_none is_feed rest part
-split-joined (raw ∷ raws) rest each part =
-    let shape : joined (raw ∷ raws) ++ rest ≡ raw ++ 10 ∷ (joined raws ++ rest) = append_assoc (raw ++ 10 ∷ []) (joined raws) rest ∙ append_assoc raw (10 ∷ []) (joined raws ++ rest) in
-    ap (slice_split is_feed) shape ∙ slice_split_at is_feed raw 10 (joined raws ++ rest) (each 0 [] (omega arith)) refl ∙ ap (λ l. raw ∷ l) (split-joined raws rest (λ k d h. each (suc k) d (omega arith)) part)
-
--- the text goes on
-split-joined-append : (raws : List (List ℕ)) (text : List ℕ) → All HasNoFeed raws → slice_split is_feed (joined raws ++ text) ≡ raws ++ slice_split is_feed text
-split-joined-append [] text each = refl
-split-joined-append (raw ∷ raws) text each =
-    let shape : joined (raw ∷ raws) ++ text ≡ raw ++ 10 ∷ (joined raws ++ text) = append_assoc (raw ++ 10 ∷ []) (joined raws) text ∙ append_assoc raw (10 ∷ []) (joined raws ++ text) in
-    ap (slice_split is_feed) shape ∙ slice_split_at is_feed raw 10 (joined raws ++ text) (each 0 [] (omega arith)) refl ∙ ap (λ l. raw ∷ l) (split-joined-append raws text (λ k d h. each (suc k) d (omega arith)))
 
 joined-append : (xs ys : List (List ℕ)) → joined (xs ++ ys) ≡ joined xs ++ joined ys
 joined-append xs ys = flat_map-append (λ line. line ++ 10 ∷ []) xs ys
@@ -95,7 +83,7 @@ came_line a b d old new failed lines line r e c next =
 all_lines : (input : List ℕ) (after : Option (List ℕ)) (raws : List (List ℕ)) (rest : List ℕ) → Passed (Some input) after raws rest → IsAtEnd after → lines_of input ≡ filter_map line_found (raws ++ rest ∷ [])
 all_lines input None raws rest p e = absurd p.consumed
 all_lines input (Some left) raws rest p e =
-    ap lines_of (p.consumed ∙ ap (λ l. (joined raws ++ rest) ++ l) e ∙ append-nil (joined raws ++ rest)) ∙ ap (filter_map line_found) (split-joined raws rest p.each p.part)
+    ap lines_of (p.consumed ∙ ap (λ l. (joined raws ++ rest) ++ l) e ∙ append-nil (joined raws ++ rest)) ∙ ap (filter_map line_found) (split-joined raws rest p.each ∙ ap (λ l. raws ++ l) (slice_split_none is_feed rest p.part))
 
 -- all lines of the input
 came_all : (input : List ℕ) (after : Option (List ℕ)) (ended : Bool) (lines : List LineText) → ended ≡ true → Came (Some input) after ended lines → lines_of input ≡ lines
@@ -107,7 +95,7 @@ first_lines input None raws lines p e = absurd p.consumed
 first_lines input (Some left) raws lines p e = (
   lines_of left,
   ap lines_of (p.consumed ∙ ap (λ l. l ++ left) (append-nil (joined raws)))
-      ∙ ap (filter_map line_found) (split-joined-append raws left p.each)
+      ∙ ap (filter_map line_found) (split-joined raws left p.each)
       ∙ filter_map-append line_found raws (slice_split is_feed left)
       ∙ ap (λ l. l ++ lines_of left) e,
 )

@@ -10,7 +10,7 @@ use Rattle.cql_wire.specs.Asked.{asked_of}
 use Rattle.cql_wire.specs.Output.{IsOutput}
 use Rattle.cql_wire.specs.Text.{LineText, line_found, lines_of, Passed}
 
--- the input was read to a place where these were the lines that were whole
+-- of the input so much was read: some whole lines, of which these aren't blank, and then a part of one
 abbrev pub WholeLines : Option (List ℕ) → Option (List ℕ) → List LineText → Type 0
 WholeLines before after lines = (raws : List (List ℕ)) × (rest : List ℕ) × Passed before after raws rest × (filter_map line_found raws ≡ lines)
 
@@ -18,7 +18,7 @@ WholeLines before after lines = (raws : List (List ℕ)) × (rest : List ℕ) ×
 abbrev pub BeginsWith : Option (List ℕ) → List LineText → Type 0
 BeginsWith before lines = IfSome before (λ input. (later : List LineText) × (lines_of input ≡ lines ++ later))
 
--- what an output of these lines is
+-- an output of these lines, from the opening on
 abbrev pub IsOutputOf : List Tenant → List LineText → List ℕ → Type 0
 IsOutputOf table lines written = IsOutput table [] (map (asked_of table) lines) written
 

@@ -14,7 +14,7 @@ use std::alloc::Global;
 /// In this order: `BadLine` (10) where the line is too long, the fault of its command (10, 11 or
 /// 12), `BadKey` (12) where it names no tenant, `UnknownTenant` (31) where the table doesn't have
 /// the tenant. `NoMemory` (70) may be told of any line.
-pub fn call_of(
+pub(crate) fn call_of(
     alloc: Global,
     table: &TenantTable,
     line: Line<'_>,

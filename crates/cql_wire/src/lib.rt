@@ -1,7 +1,8 @@
-//! Lines of bytes in, lines of bytes out: commands, replies and the faults of readers and writers.
+//! Lines of bytes in, lines of bytes out: commands, replies, scripts, and the faults of readers and
+//! writers.
 #![tactic(auto)]
 
-pub mod asked;
+mod asked;
 pub mod command;
 pub mod fault;
 pub mod first;
@@ -12,7 +13,6 @@ pub mod tenants;
 pub(crate) mod tree;
 pub mod watched;
 
-pub use asked::call_of;
 pub use command::read_command;
 pub use fault::LineFault;
 pub use first::{FirstFault, first_line};

@@ -1,0 +1,226 @@
+// A cursor over tokens.
+ghost use Rattle.std.specs.Prelude.{◌≡◌, ◌≢◌, ◌<◌, ◌≤◌, length, slice_get, map};
+ghost use Rattle.std.specs.Option.{option_copied};
+ghost use Rattle.cql_text.specs.Tokens as tokens;
+ghost use Rattle.cql_text.specs.Meaning as meaning;
+ghost use Rattle.cql_text.specs.Reading as spec;
+ghost use Rattle.cql_text.specs.Reading.{Reads};
+
+use crate::syntax::{Comparison, Function, Operation, SetOperator, StreamOperator};
+use crate::token::{Fixed, Lexeme, Token, is_same};
+use std::alloc::AllocError;
+use std::marker::Model;
+
+/// Why reading stopped.
+#[derive(Clone, Copy, Debug, PartialEq, Eq)]
+pub enum Stop {
+    Memory,
+    /// The token at which the cursor stands can't come there.
+    Refused,
+}
+
+impl From<AllocError> for Stop {
+    ghost use Rattle.std.specs.Prelude.{◌≡◌};
+    ghost use Rattle.cql_text.specs.declared.cursor.Stop.TheVariants.{Memory};
+
+    ghost from_gives = { λ _ e. e ≡ Memory };
+
+    fn from(_: AllocError) -> Stop {
+        Stop::Memory
+    }
+}
+
+/// The tokens that are left to read.
+#[derive(Drop)]
+pub struct Cursor<'a> {
+    rest: &'a [Lexeme],
+}
+
+impl<'a> Model for Cursor<'a> {
+    ghost use Rattle.std.specs.Prelude.{List};
+    ghost use Rattle.cql_text.specs.Tokens.{tokens_of};
+    ghost use Rattle.cql_text.specs.declared.token.Token.{Token};
+
+    ghost Value = { List Token };
+
+    ghost view = { λ c. tokens_of c.rest.now };
+}
+
+impl<'a> Cursor<'a> {
+    pub(crate) fn new(rest: &'a [Lexeme]) -> Cursor<'a>
+        ensures { result ≡ tokens.tokens_of rest.now }
+    {
+        Cursor { rest }
+    }
+
+    /// How many tokens are left.
+    pub(crate) fn left(&self) -> usize
+        ensures { result ≡ length self.now }
+    {
+        self.rest.len()
+    }
+
+    /// Whether the word or sign comes next.
+    pub(crate) fn sees(&self, fixed: Fixed) -> bool
+        ensures { result ≡ spec.sees fixed self.now }
+    {
+        match self.rest {
+            [
+                Lexeme {
+                    token: Token::Fixed(other),
+                    ..
+                },
+                ..
+            ] => is_same(*other, fixed),
+            _ => false,
+        }
+    }
+
+    /// Whether a word that isn't reserved comes next.
+    pub(crate) fn sees_word(&self) -> bool
+        ensures { result ≡ spec.next_is meaning.is_word self.now }
+    {
+        matches!(
+            self.rest,
+            [
+                Lexeme {
+                    token: Token::Word(_),
+                    ..
+                },
+                ..
+            ]
+        )
+    }
+
+    pub(crate) fn skip(&mut self)
+        ensures { self.new ≡ spec.next self.old }
+    {
+        if let [_, rest @ ..] = self.rest {
+            self.rest = rest;
+        }
+    }
+
+    /// Passes the word or sign, where it comes next, and says whether it did.
+    #[tactic(auto, unfolding(crate::specs::Reading::after))]
+    pub(crate) fn eat(&mut self, fixed: Fixed) -> bool
+        ensures found { result ≡ spec.sees fixed self.old }
+        ensures after { self.new ≡ spec.after fixed self.old }
+    {
+        let found = self.sees(fixed);
+        if found {
+            self.skip();
+        }
+        found
+    }
+
+    /// Passes the word or sign, which has to come next.
+    #[tactic(auto, unfolding(crate::specs::Reading::token_by, crate::specs::Tokens::sign))]
+    pub(crate) fn expect(&mut self, fixed: Fixed) -> Result<(), Stop>
+        ensures { Reads (spec.expect fixed self.old) result self.new }
+    {
+        if self.sees(fixed) {
+            self.skip();
+            Ok(())
+        } else {
+            Err(Stop::Refused)
+        }
+    }
+
+    /// The token that comes next, where there is one.
+    pub(crate) fn peek(&self) -> Option<&'a Token>
+        ensures { option_copied result ≡ slice_get self.now 0 }
+    {
+        match self.rest {
+            [Lexeme { token, .. }, ..] => Some(token),
+            [] => None,
+        }
+    }
+
+    /// The sign of a sum that comes next.
+    pub(crate) fn sum_sign(&self) -> Option<Operation>
+        ensures { result ≡ spec.at_head meaning.sum_sign self.now }
+    {
+        if self.sees(Fixed::Plus) {
+            Some(Operation::Add)
+        } else if self.sees(Fixed::Minus) {
+            Some(Operation::Subtract)
+        } else {
+            None
+        }
+    }
+
+    /// The sign of a product that comes next.
+    pub(crate) fn product_sign(&self) -> Option<Operation>
+        ensures { result ≡ spec.at_head meaning.product_sign self.now }
+    {
+        if self.sees(Fixed::Star) {
+            Some(Operation::Multiply)
+        } else {
+            None
+        }
+    }
+
+    /// The function that comes next.
+    pub(crate) fn function(&self) -> Option<Function>
+        ensures { result ≡ spec.at_head meaning.function_of self.now }
+    {
+        if self.sees(Fixed::Sum) {
+            Some(Function::Sum)
+        } else if self.sees(Fixed::Min) {
+            Some(Function::Min)
+        } else if self.sees(Fixed::Max) {
+            Some(Function::Max)
+        } else {
+            None
+        }
+    }
+
+    /// The sign of a comparison that comes next.
+    pub(crate) fn comparison(&self) -> Option<Comparison>
+        ensures { result ≡ spec.at_head meaning.comparison_of self.now }
+    {
+        if self.sees(Fixed::Equal) {
+            Some(Comparison::Equal)
+        } else if self.sees(Fixed::Unequal) {
+            Some(Comparison::Unequal)
+        } else if self.sees(Fixed::Less) {
+            Some(Comparison::Less)
+        } else if self.sees(Fixed::LessOrEqual) {
+            Some(Comparison::LessOrEqual)
+        } else if self.sees(Fixed::Greater) {
+            Some(Comparison::Greater)
+        } else if self.sees(Fixed::GreaterOrEqual) {
+            Some(Comparison::GreaterOrEqual)
+        } else {
+            None
+        }
+    }
+
+    /// The stream operator that comes next.
+    pub(crate) fn stream_operator(&self) -> Option<StreamOperator>
+        ensures { result ≡ spec.at_head meaning.stream_operator_of self.now }
+    {
+        if self.sees(Fixed::Istream) {
+            Some(StreamOperator::Istream)
+        } else if self.sees(Fixed::Dstream) {
+            Some(StreamOperator::Dstream)
+        } else if self.sees(Fixed::Rstream) {
+            Some(StreamOperator::Rstream)
+        } else {
+            None
+        }
+    }
+
+    /// The first word of a set operator that comes next.
+    pub(crate) fn set_operator(&self) -> Option<SetOperator>
+        ensures { result ≡ spec.at_head meaning.set_operator_of self.now }
+    {
+        if self.sees(Fixed::Union) {
+            Some(SetOperator::UnionAll)
+        } else if self.sees(Fixed::Except) {
+            Some(SetOperator::ExceptAll)
+        } else {
+            None
+        }
+    }
+}

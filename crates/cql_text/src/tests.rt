@@ -1,0 +1,85 @@
+mod tables;
+
+use crate::read::{ReadError, read};
+use crate::tests::tables::{READ, REFUSED, SHAPES, Shape};
+use std::alloc::{AllocError, Global};
+use std::test::Fail;
+
+// The canonical spelling of a text.
+fn canonical(alloc: Global, text: &str) -> Result<String, Fail> {
+    let syntax = read(alloc, text)?;
+    Ok(syntax.to_text(alloc)?)
+}
+
+// The byte at which a text is refused.
+fn refused_at(alloc: Global, text: &str) -> Option<usize> {
+    match read(alloc, text) {
+        Err(ReadError::BadQuery { at }) => Some(at),
+        _ => None,
+    }
+}
+
+// A canonical spelling is read again and printed the same.
+#[test]
+fn spellings(rt: HostRuntime) -> Result<(), Fail> {
+    let a = rt.alloc();
+    for (text, spelling) in READ {
+        let first = canonical(a, text)?;
+        assert_eq!(rt; first.as_str(), spelling, "of {text:?}");
+        let again = canonical(a, spelling)?;
+        assert_eq!(rt; again.as_str(), spelling, "again");
+    }
+    Ok(())
+}
+
+#[test]
+fn refusals(rt: HostRuntime) {
+    let a = rt.alloc();
+    for (text, at) in REFUSED {
+        assert_eq!(rt; refused_at(a, text), Some(at), "of {text:?}");
+    }
+}
+
+// Writes the text so many times.
+fn push_often(out: &mut String, text: &str, times: usize) -> Result<(), AllocError> {
+    for _ in 0..times {
+        out.push_str(text)?;
+    }
+    Ok(())
+}
+
+// The text of a shape.
+fn text_of(alloc: Global, shape: &Shape) -> Result<String, AllocError> {
+    let mut out = String::from_str(alloc, shape.before)?;
+    push_often(&mut out, shape.opening, shape.times)?;
+    out.push_str(shape.middle)?;
+    push_often(&mut out, shape.closing, shape.times)?;
+    out.push_str(shape.end)?;
+    Ok(out)
+}
+
+// Levels, and the number of bytes: what begins before byte 4096 and is at fault by itself is told,
+// also where it goes on behind.
+#[test]
+fn shapes(rt: HostRuntime) -> Result<(), Fail> {
+    let a = rt.alloc();
+    for shape in SHAPES {
+        let text = text_of(a, &shape)?;
+        assert_eq!(rt; refused_at(a, text.as_str()), shape.at);
+    }
+    Ok(())
+}
+
+// A copy has the parts of the query, and prints as it does.
+#[test]
+fn copies(rt: HostRuntime) -> Result<(), Fail> {
+    let a = rt.alloc();
+    let copy = read(a, "Select Istream(v) From a.s, p Group By v, k")?.try_clone(a)?;
+    assert_eq!(rt; copy.query().first.inputs.len(), 2);
+    let text = copy.to_text(a)?;
+    assert_eq!(rt;
+        text.as_str(),
+        "ISTREAM(SELECT v FROM a.s [RANGE UNBOUNDED], p [RANGE UNBOUNDED] GROUP BY v, k)"
+    );
+    Ok(())
+}

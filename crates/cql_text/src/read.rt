@@ -40,7 +40,7 @@ impl From<AllocError> for ReadError {
     }
 }
 
-/// The byte at which the last `left` tokens begin.
+// The byte at which the last `left` tokens begin.
 fn place(scanned: &Scanned, len: usize, left: usize) -> usize
     ensures { result ≡ spec.place scanned.now len left }
 {

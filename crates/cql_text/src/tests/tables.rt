@@ -1,6 +1,5 @@
 // A text: one, another so many times, a third, a fourth as many times, and a fifth; and the byte at
 // which it is refused.
-#[derive(Clone, Copy)]
 pub(super) struct Shape {
     pub(super) before: &'static str,
     pub(super) opening: &'static str,
@@ -11,7 +10,7 @@ pub(super) struct Shape {
     pub(super) at: Option<usize>,
 }
 
-pub(super) const SHAPES: [Shape; 18] = [
+const SHAPES: [Shape; 18] = [
     Shape {
         before: "Select ",
         opening: "(",
@@ -177,7 +176,7 @@ pub(super) const SHAPES: [Shape; 18] = [
 ];
 
 // Texts that are read, each with its canonical spelling.
-pub(super) const READ: [(&str, &str); 65] = [
+const READ: [(&str, &str); 65] = [
     (
         "Select Istream(*) From s [Range 2]",
         "ISTREAM(SELECT * FROM s [RANGE 2])",
@@ -429,7 +428,7 @@ pub(super) const READ: [(&str, &str); 65] = [
 ];
 
 // Texts that are refused, each with the byte.
-pub(super) const REFUSED: [(&str, usize); 69] = [
+const REFUSED: [(&str, usize); 69] = [
     ("", 0),
     ("   ", 3),
     ("Select * Form s", 9),
@@ -503,3 +502,15 @@ pub(super) const REFUSED: [(&str, usize); 69] = [
     ("Select ü From s", 7),
     ("Select 'ü' ü From s", 12),
 ];
+
+pub(super) fn shapes() -> &'static [Shape] {
+    &SHAPES
+}
+
+pub(super) fn texts_read() -> &'static [(&'static str, &'static str)] {
+    &READ
+}
+
+pub(super) fn texts_refused() -> &'static [(&'static str, usize)] {
+    &REFUSED
+}

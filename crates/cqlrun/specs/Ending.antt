@@ -1,5 +1,5 @@
 -- How a run ends: its status, and its text on standard error.
-use Rattle.std.specs.Prelude.{◌≡◌, ℕ, List, [], codes}
+use Rattle.std.specs.Prelude.{ℕ, List, [], codes}
 use Rattle.cqlrun.specs.declared.ending.Ending.{Ending}
 use Rattle.cqlrun.specs.declared.ending.Ending.TheVariants.{Done, Words, Tenants, Reading, Writing, NoMemory}
 
@@ -18,7 +18,3 @@ text_of Tenants = codes "cqlrun: the tenants line is refused"
 text_of Reading = codes "cqlrun: reading failed"
 text_of Writing = codes "cqlrun: writing failed"
 text_of NoMemory = codes "cqlrun: no memory"
-
--- a status with the text of one ending
-abbrev pub IsOutcome : ℕ → List ℕ → Type 0
-IsOutcome status text = (ending : Ending) × (status ≡ status_of ending) × (text ≡ text_of ending)

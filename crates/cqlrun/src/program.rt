@@ -1,7 +1,9 @@
 // The body of main, over any reader and writer.
-ghost use Rattle.std.specs.Prelude.{◌≡◌, ◌≢◌, [], false};
+ghost use Rattle.std.specs.Prelude.{◌≡◌, ◌≢◌, [], false, IsOk, MatchResult};
 ghost use Rattle.cql_wire.specs.Watched.{inner_of, has_failed};
-ghost use Rattle.cqlrun.specs.Ending.{IsOutcome, text_of};
+ghost use Rattle.cqlrun.specs.declared.ending.Ending.{Ending};
+ghost use Rattle.cqlrun.specs.Ending.{status_of, text_of};
+ghost use Rattle.cqlrun.specs.Run.{TellsTable, EndsBefore, IsRun};
 
 use crate::ending::Ending;
 use cql_core::TenantTable;
@@ -10,7 +12,13 @@ use std::alloc::Global;
 use std::io::{Read, Write};
 
 // The tenants of the first line of the input.
-fn tenants<R: Read>(alloc: Global, reader: &mut Watched<R>) -> Result<TenantTable, Ending> {
+fn tenants<R: Read>(alloc: Global, reader: &mut Watched<R>) -> Result<TenantTable, Ending>
+    requires { has_failed reader.old ≡ false }
+    ensures told { MatchResult result
+        (λ table. TellsTable (R.remaining (inner_of reader.old)) (R.remaining (inner_of reader.new)) table)
+        (λ ending. EndsBefore (R.remaining (inner_of reader.old)) (R.remaining (inner_of reader.new)) ending) }
+    ensures steady { IsOk result → has_failed reader.new ≡ false }
+{
     let line = match first_line(alloc, reader) {
         Ok(line) => line,
         Err(FirstFault::TooLong) => return Err(Ending::Tenants),
@@ -24,6 +32,7 @@ fn tenants<R: Read>(alloc: Global, reader: &mut Watched<R>) -> Result<TenantTabl
     }
 }
 
+// How a run without words ends.
 fn ending<R: Read, W: Write>(
     alloc: Global,
     reader: &mut Watched<R>,
@@ -31,6 +40,8 @@ fn ending<R: Read, W: Write>(
 ) -> Ending
     requires reader { has_failed reader.old ≡ false }
     requires writer { has_failed writer.old ≡ false }
+    ensures { IsRun (R.remaining (inner_of reader.old)) (R.remaining (inner_of reader.new))
+        (W.contents (inner_of writer.old)) (W.contents (inner_of writer.new)) (has_failed writer.new) result }
 {
     let table = match tenants(alloc, reader) {
         Ok(table) => table,
@@ -56,7 +67,9 @@ pub fn program<R: Read, W: Write>(
 ) -> (u8, &'static str)
     requires reader { has_failed reader.old ≡ false }
     requires writer { has_failed writer.old ≡ false }
-    ensures outcome { IsOutcome result.0 result.1.now }
+    ensures run { words.now ≡ [] → (ending : Ending) × (result.0 ≡ status_of ending) × (result.1.now ≡ text_of ending)
+        × IsRun (R.remaining (inner_of reader.old)) (R.remaining (inner_of reader.new))
+        (W.contents (inner_of writer.old)) (W.contents (inner_of writer.new)) (has_failed writer.new) ending }
     ensures words { words.now ≢ [] → (result.0 ≡ 2) × (result.1.now ≡ text_of Ending.Words) }
     ensures untouched { words.now ≢ [] → (inner_of reader.new ≡ inner_of reader.old) × (inner_of writer.new ≡ inner_of writer.old) }
 {

@@ -1,0 +1,42 @@
+-- What a run of the program leaves behind.
+use Rattle.std.specs.Prelude.{◌≡◌, ◌⊎◌, ◌≤◌, ⊤, ℕ, Bool, List, Option, Some, None, Result, Ok, Err}
+use Rattle.cql_core.specs.declared.tenants.Tenant.{Tenant}
+use Rattle.cql_wire.specs.First.{IsFirstLine, PassedOfFirst}
+use Rattle.cql_wire.specs.Table.{table_of}
+use Rattle.cql_wire.specs.Script.{Answers}
+use Rattle.cql_wire.specs.declared.scripts.ScriptError.{ScriptError}
+use Rattle.cql_wire.specs.declared.scripts.ScriptError.TheVariants.{Read, Write}
+use Rattle.cqlrun.specs.declared.ending.Ending.{Ending}
+use Rattle.cqlrun.specs.declared.ending.Ending.TheVariants as ending
+
+-- the first line of the input tells the table, and exactly it was read
+abbrev pub TellsTable : Option (List ℕ) → Option (List ℕ) → List Tenant → Type 0
+TellsTable before after table = (line : List ℕ) × IsFirstLine before after line × (table_of line ≡ Some table)
+
+-- the first line of the input is too long, or tells no table
+abbrev pub TellsNoTable : Option (List ℕ) → Option (List ℕ) → Type 0
+TellsNoTable before after = PassedOfFirst before after (λ n. n ≡ 65537) ⊎ ((line : List ℕ) × IsFirstLine before after line × (table_of line ≡ None))
+
+-- why no table was told: there is none, or a read failed before the first line was whole, or memory was refused
+abbrev pub EndsBefore : Option (List ℕ) → Option (List ℕ) → Ending → Type 0
+EndsBefore before after ending.Done = ⊥
+EndsBefore before after ending.Words = ⊥
+EndsBefore before after ending.Tenants = TellsNoTable before after
+EndsBefore before after ending.Reading = PassedOfFirst before after (λ n. n ≤ 65536)
+EndsBefore before after ending.Writing = ⊥
+EndsBefore before after ending.NoMemory = ⊤
+
+-- the first line tells a table, and the lines behind it were answered as the script's end says
+abbrev pub Scripted : Option (List ℕ) → Option (List ℕ) → Option (List ℕ) → Option (List ℕ) → Bool → Result (Unit {0}) ScriptError → Type 0
+Scripted before after old new writer_failed result =
+    (table : List Tenant) × (behind : Option (List ℕ)) × TellsTable before behind table × Answers table behind after old new writer_failed result
+
+-- What was read and written, by the ending: all lines behind the tenants line are answered; or no table was told and nothing was written; or those lines are answered that were whole before a read failed, or those before the one that a write failed at; or memory was refused and nothing was written.
+abbrev pub IsRun : Option (List ℕ) → Option (List ℕ) → Option (List ℕ) → Option (List ℕ) → Bool → Ending → Type 0
+IsRun before after old new writer_failed ending.Done = Scripted before after old new writer_failed (Ok tt)
+IsRun before after old new writer_failed ending.Words = ⊥
+IsRun before after old new writer_failed ending.Tenants = TellsNoTable before after × (new ≡ old)
+IsRun before after old new writer_failed ending.Reading =
+    Scripted before after old new writer_failed (Err Read) ⊎ (PassedOfFirst before after (λ n. n ≤ 65536) × (new ≡ old))
+IsRun before after old new writer_failed ending.Writing = Scripted before after old new writer_failed (Err Write)
+IsRun before after old new writer_failed ending.NoMemory = new ≡ old

@@ -151,3 +151,7 @@ abbrev pub Reads : Query → Result Query ReadError → Type 0
 Reads q (Ok s) = s ≡ q
 Reads q (Err NoMemory) = Unit {0}
 Reads q (Err (BadQuery at)) = ⊥
+
+-- Of every text: the reader gives the query that it is, and no other, and where there is none the least of the places where it is refused.
+abbrev pub ReadLaw : Type 0
+ReadLaw = (text : Bytes) → ((q : Query) → read_of text ≡ Ok q → Is text q) × ((q : Query) → Is text q → read_of text ≡ Ok q) × ((at : ℕ) → read_of text ≡ Err at → IsRefusedAt text at)

@@ -177,8 +177,15 @@ impl Model for Syntax {
     ghost invariant = { λ s. IsSyntax s.query };
 }
 
+/// What is read of a text, as a function of its bytes, is what the grammar says of it: the query
+/// that it is, or the least of the places where it is refused.
+pub fn read_law()
+    ensures { spec.ReadLaw }
+{}
+
 // The query that the text is, or the byte at which it is refused.
 fn read_query(alloc: Global, text: &str) -> Result<Query, ReadError>
+    ensures answers { Answers (spec.read_of text.now) result }
     ensures found { IfOk result (λ q. spec.Is text.now q) }
     ensures only { (q : syntax.Query) → spec.Is text.now q → Reads q result }
     ensures refused { (at : ℕ) → result ≡ Err (ReadError.BadQuery at) → spec.IsRefusedAt text.now at }
@@ -188,6 +195,8 @@ fn read_query(alloc: Global, text: &str) -> Result<Query, ReadError>
 
 /// The query that the text is, or the first byte at which it is refused (50).
 pub fn read(alloc: Global, text: &str) -> Result<Syntax, ReadError>
+    // One outcome for each text, unless memory runs out.
+    ensures answers { Answers (spec.read_of text.now) result }
     // What is read is so.
     ensures found { IfOk result (λ s. spec.Is text.now s) }
     // What is so is read, unless memory runs out.

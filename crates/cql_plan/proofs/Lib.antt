@@ -1,0 +1,9 @@
+mod Finding
+mod Each
+mod Few
+mod Meant
+mod Firsts
+mod Faults
+mod FitExpressions
+mod Fits
+mod Qualified

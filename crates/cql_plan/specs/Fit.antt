@@ -1,0 +1,107 @@
+-- Expressions and shapes that fit columns of given types.
+use Rattle.std.specs.Prelude.{◌≡◌, ℕ, List, [], ◌∷◌, ◌++◌, Option, Some, None, Ok, IfSome, Bool, true, false, not, ◌||◌, slice_get}
+use Rattle.std.specs.List.{AllByRecursion, Contains}
+use Rattle.cql_value.specs.declared.value.Value.{Value}
+use Rattle.cql_value.specs.declared.value.Value.TheVariants as value
+use Rattle.cql_value.specs.declared.schema.ColumnType.{ColumnType}
+use Rattle.cql_value.specs.declared.schema.ColumnType.TheVariants.{Number, Text}
+use Rattle.cql_text.specs.declared.syntax.Query.{Query}
+use Rattle.cql_plan.specs.declared.expr.Expr.{Expr, fold-Expr}
+use Rattle.cql_plan.specs.declared.expr.Expr.TheOpen.{Expr-F}
+use Rattle.cql_plan.specs.declared.expr.Expr.TheVariants as expr
+use Rattle.cql_plan.specs.declared.node.Join.{Join}
+use Rattle.cql_plan.specs.declared.node.Shape.{Shape}
+use Rattle.cql_plan.specs.declared.node.Item.{Item}
+use Rattle.cql_plan.specs.declared.node.Item.TheVariants as i
+use Rattle.cql_plan.specs.declared.node.Node.TheVariants as node
+use Rattle.cql_plan.specs.declared.plan.Branch.{Branch}
+use Rattle.cql_plan.specs.declared.plan.Planned.{Planned}
+use Rattle.cql_plan.specs.Sources.{Readable}
+use Rattle.cql_plan.specs.Typing.{typing}
+
+-- ---- expressions
+
+abbrev pub type_of : Value → ColumnType
+type_of (value.Number n) = Number
+type_of (value.Text t) = Text
+
+-- operations take numbers
+abbrev pub number_type : Option ColumnType → Option ColumnType → Option ColumnType
+number_type None b = None
+number_type (Some Text) b = None
+number_type (Some Number) None = None
+number_type (Some Number) (Some Text) = None
+number_type (Some Number) (Some Number) = Some Number
+
+-- one level of an expression, with the types of its parts
+abbrev pub type_step : List ColumnType → Expr-F (Option ColumnType) → Option ColumnType
+type_step columns (Expr-F.Column at) = slice_get columns at
+type_step columns (Expr-F.Constant v) = Some (type_of v)
+type_step columns (Expr-F.Binary op a b) = number_type a b
+
+-- the type of an expression over columns of these types, if it has one
+unfoldable pub expr_type : List ColumnType → Expr → Option ColumnType
+expr_type columns = fold-Expr (Option ColumnType) (type_step columns)
+
+-- ---- shapes
+
+abbrev pub is_empty : {A : Type 0} → List A → Bool
+is_empty [] = true
+is_empty (x ∷ xs) = false
+
+abbrev pub is_aggregate : Item → Bool
+is_aggregate (i.Value x) = false
+is_aggregate _ = true
+
+abbrev pub some_are : (Item → Bool) → List Item → Bool
+some_are p [] = false
+some_are p (x ∷ xs) = p x || some_are p xs
+
+-- there are grouped columns, or an aggregate
+abbrev pub is_grouped : Shape → Bool
+is_grouped shape = not (is_empty shape.groups) || some_are is_aggregate shape.items
+
+abbrev pub HasColumn : List ColumnType → ℕ → Type 0
+HasColumn columns at = (t : ColumnType) × (slice_get columns at ≡ Some t)
+
+-- an item over columns of these types: SUM takes numbers, MIN and MAX either type
+abbrev pub IsTypedItem : List ColumnType → Item → Type 0
+IsTypedItem columns (i.Value x) = (t : ColumnType) × (expr_type columns x ≡ Some t)
+IsTypedItem columns i.Count = Unit {0}
+IsTypedItem columns (i.Sum at) = slice_get columns at ≡ Some Number
+IsTypedItem columns (i.Min at) = HasColumn columns at
+IsTypedItem columns (i.Max at) = HasColumn columns at
+
+-- where there are groups, an item that is no aggregate is a grouped column
+abbrev pub IsGroupedItem : List ℕ → Item → Type 0
+IsGroupedItem groups (i.Value x) = (at : ℕ) × (x ≡ expr.Column at) × Contains groups at
+IsGroupedItem groups i.Count = Unit {0}
+IsGroupedItem groups (i.Sum at) = Unit {0}
+IsGroupedItem groups (i.Min at) = Unit {0}
+IsGroupedItem groups (i.Max at) = Unit {0}
+
+-- a shape that fits its columns
+pub record IsTyped (shape : Shape) : Type 0 where
+  pub items : AllByRecursion (IsTypedItem shape.columns) shape.items
+  pub groups : AllByRecursion (HasColumn shape.columns) shape.groups
+  pub grouped : is_grouped shape ≡ true → AllByRecursion (IsGroupedItem shape.groups) shape.items
+
+-- ---- plans
+
+-- the columns of all ports, in order
+abbrev pub all_columns : List (List ColumnType) → List ColumnType
+all_columns [] = []
+all_columns (columns ∷ ports) = columns ++ all_columns ports
+
+-- a block's shape stands over the columns of its join, and fits them
+pub record IsTypedBlock (block : Branch) : Type 0 where
+  pub join : Join
+  pub shape : Shape
+  pub is_join : block.join ≡ node.Join join
+  pub is_shape : block.shape ≡ node.Shape shape
+  pub columns : shape.columns ≡ all_columns join.ports
+  pub typed : IsTyped shape
+
+-- each block of a plan
+abbrev pub IsFitLaw : Type 0
+IsFitLaw = (readable : Readable) (query : Query) (plan : Planned) → typing readable query ≡ Ok plan → IsTypedBlock plan.first × IfSome plan.second IsTypedBlock

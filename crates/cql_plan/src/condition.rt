@@ -1,0 +1,113 @@
+// Conditions over the columns of a row.
+ghost use Rattle.std.specs.Prelude.{◌≡◌, ◌↔◌, IfOk, IsTrue};
+ghost use Rattle.std.specs.Option.{option_copied};
+ghost use Rattle.cql_plan.specs.Condition.{compares, operand_value, holds};
+
+use cql_text::syntax::Comparison;
+use cql_value::{Boxed, Value};
+use sqlite_items::at;
+use std::alloc::{AllocError, Global};
+use std::cmp::Ordering;
+
+/// A side of a comparison: a column of the row, counted from 0, or a constant.
+#[derive(Debug, Drop)]
+pub enum Operand {
+    Column(usize),
+    Constant(Value),
+}
+
+/// A condition over the columns of one row, counted from 0.
+#[derive(Debug, Drop)]
+pub enum Condition {
+    Always,
+    Compare(Operand, Comparison, Operand),
+    Not(Boxed<Condition>),
+    And(Boxed<Condition>, Boxed<Condition>),
+    Or(Boxed<Condition>, Boxed<Condition>),
+}
+
+// Whether two values in this order compare so.
+fn compares(comparison: Comparison, order: Ordering) -> bool
+    ensures { result ≡ compares comparison order }
+{
+    match comparison {
+        Comparison::Equal => order.is_eq(),
+        Comparison::Unequal => !order.is_eq(),
+        Comparison::Less => order.is_lt(),
+        Comparison::LessOrEqual => !order.is_gt(),
+        Comparison::Greater => order.is_gt(),
+        Comparison::GreaterOrEqual => !order.is_lt(),
+    }
+}
+
+impl Operand {
+    // Its value on the row, where it has the column.
+    fn value<'a>(&'a self, row: &'a [Value]) -> Option<&'a Value>
+        ensures { option_copied result ≡ operand_value row.now self.now }
+    {
+        match self {
+            Operand::Column(place) => at(row, *place),
+            Operand::Constant(value) => Some(value),
+        }
+    }
+
+    /// A copy that equals it.
+    pub fn try_clone(&self, alloc: Global) -> Result<Operand, AllocError>
+        ensures { IfOk result (λ o. o ≡ self.now) }
+    {
+        match self {
+            Operand::Column(at) => Ok(Operand::Column(*at)),
+            Operand::Constant(value) => Ok(Operand::Constant(value.try_clone(alloc)?)),
+        }
+    }
+}
+
+/// Whether the row meets the condition.
+#[tactic(auto, unfolding(crate::specs::Condition::holds))]
+pub fn meets(condition: &Condition, row: &[Value]) -> bool
+    ensures { result ≡ holds row.now condition.now }
+{
+    match condition {
+        Condition::Always => true,
+        Condition::Compare(left, comparison, right) => match left.value(row) {
+            Some(left) => match right.value(row) {
+                Some(right) => compares(*comparison, left.cmp(right)),
+                None => false,
+            },
+            None => false,
+        },
+        Condition::Not(inner) => !meets(inner.get(), row),
+        Condition::And(left, right) => meets(left.get(), row) && meets(right.get(), row),
+        Condition::Or(left, right) => meets(left.get(), row) || meets(right.get(), row),
+    }
+}
+
+impl Condition {
+    /// A copy that equals it.
+    pub fn try_clone(&self, alloc: Global) -> Result<Condition, AllocError>
+        ensures { IfOk result (λ c. c ≡ self.now) }
+    {
+        match self {
+            Condition::Always => Ok(Condition::Always),
+            Condition::Compare(left, comparison, right) => {
+                let left = left.try_clone(alloc)?;
+                let right = right.try_clone(alloc)?;
+                Ok(Condition::Compare(left, *comparison, right))
+            }
+            Condition::Not(inner) => {
+                let inner = inner.get().try_clone(alloc)?;
+                Ok(Condition::Not(Boxed::new(alloc, inner)?))
+            }
+            Condition::And(left, right) => {
+                let left = left.get().try_clone(alloc)?;
+                let right = right.get().try_clone(alloc)?;
+                Ok(Condition::And(Boxed::new(alloc, left)?, Boxed::new(alloc, right)?))
+            }
+            Condition::Or(left, right) => {
+                let left = left.get().try_clone(alloc)?;
+                let right = right.get().try_clone(alloc)?;
+                Ok(Condition::Or(Boxed::new(alloc, left)?, Boxed::new(alloc, right)?))
+            }
+        }
+    }
+}

@@ -1,0 +1,78 @@
+// Expressions over the columns of a row.
+ghost use Rattle.std.specs.Prelude.{◌≡◌, IfOk};
+ghost use Rattle.cql_plan.specs.Expr.{arithmetic, expr_value};
+
+use cql_text::syntax::Operation;
+use cql_value::{Boxed, Value};
+use sqlite_items::at;
+use std::alloc::{AllocError, Global};
+
+/// An expression over the columns of one row, counted from 0.
+#[derive(Debug, Drop)]
+pub enum Expr {
+    Column(usize),
+    Constant(Value),
+    Binary(Operation, Boxed<Expr>, Boxed<Expr>),
+}
+
+// The number that an operation gives, unless it is outside i64.
+fn compute(op: Operation, left: &Value, right: &Value) -> Option<Value>
+    ensures { result ≡ arithmetic op left.now right.now }
+{
+    if let Value::Number(m) = left {
+        if let Value::Number(n) = right {
+            let number = match op {
+                Operation::Add => m.checked_add(*n),
+                Operation::Subtract => m.checked_sub(*n),
+                Operation::Multiply => m.checked_mul(*n),
+            };
+            return match number {
+                Some(z) => Some(Value::Number(z)),
+                None => None,
+            };
+        }
+    }
+    None
+}
+
+/// The value of the expression on the row: none where an operation is outside i64.
+#[tactic(auto, unfolding(crate::specs::Expr::expr_value))]
+pub fn evaluate(alloc: Global, expr: &Expr, row: &[Value]) -> Result<Option<Value>, AllocError>
+    ensures { IfOk result (λ v. v ≡ expr_value row.now expr.now) }
+{
+    match expr {
+        Expr::Column(place) => match at(row, *place) {
+            Some(value) => Ok(Some(value.try_clone(alloc)?)),
+            None => Ok(None),
+        },
+        Expr::Constant(value) => Ok(Some(value.try_clone(alloc)?)),
+        Expr::Binary(op, left, right) => {
+            let left = evaluate(alloc, left.get(), row)?;
+            let right = evaluate(alloc, right.get(), row)?;
+            match left {
+                Some(left) => match right {
+                    Some(right) => Ok(compute(*op, &left, &right)),
+                    None => Ok(None),
+                },
+                None => Ok(None),
+            }
+        }
+    }
+}
+
+impl Expr {
+    /// A copy that equals it.
+    pub fn try_clone(&self, alloc: Global) -> Result<Expr, AllocError>
+        ensures { IfOk result (λ e. e ≡ self.now) }
+    {
+        match self {
+            Expr::Column(at) => Ok(Expr::Column(*at)),
+            Expr::Constant(value) => Ok(Expr::Constant(value.try_clone(alloc)?)),
+            Expr::Binary(op, left, right) => {
+                let left = left.get().try_clone(alloc)?;
+                let right = right.get().try_clone(alloc)?;
+                Ok(Expr::Binary(*op, Boxed::new(alloc, left)?, Boxed::new(alloc, right)?))
+            }
+        }
+    }
+}

@@ -1,0 +1,30 @@
+// The laws of the typing: functions with empty bodies, whose contracts are the laws.
+ghost use Rattle.cql_plan.specs.Law.{
+  IsColumnLaw,
+  IsFaultLaw,
+  IsFirstFaultLaw,
+  IsQualifiedLaw,
+};
+
+/// A written column means the one column of the joined row that it may mean; it is unknown where
+/// there is none, and ambiguous where there are two.
+pub fn column_law()
+    ensures { IsColumnLaw }
+{}
+
+/// Of inputs, columns of GROUP BY and items the first fault from the left is told, and where there
+/// is none each gives what stands at its place.
+pub fn first_fault_law()
+    ensures { IsFirstFaultLaw }
+{}
+
+/// A fault of the typing is one of the four refusals, never want of memory.
+pub fn fault_law()
+    ensures { IsFaultLaw }
+{}
+
+/// Where the inputs have distinct aliases, and each stream distinct columns, a column with an
+/// alias before the dot is never ambiguous.
+pub fn qualified_law()
+    ensures { IsQualifiedLaw }
+{}

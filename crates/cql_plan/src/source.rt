@@ -1,0 +1,203 @@
+// The inputs of a block.
+ghost use Rattle.std.specs.Prelude.{◌≡◌, IfOk, Some, option_copied};
+ghost use Rattle.std.specs.List.{list_any};
+ghost use Rattle.std.specs.Str.{bytes_eq};
+ghost use Rattle.cql_plan.specs.Outcome.{Answers, each};
+ghost use Rattle.cql_plan.specs.Sources as spec;
+
+use crate::error::PlanError;
+use crate::lookup::Lookup;
+use crate::plan::{Input, Window, clone_name_if_any};
+use crate::row::{Field, clone_fields, column_named, fields_of, kinds_of};
+use cql_text::syntax;
+use cql_value::{Column, ColumnType, Items, Name};
+use std::alloc::{AllocError, Global};
+
+/// An input of a block: what the plan keeps of it, its alias and its columns.
+#[derive(Debug, Drop)]
+pub(crate) struct Source {
+    pub(crate) input: Input,
+    pub(crate) alias: Name,
+    pub(crate) fields: Items<Field>,
+}
+
+// A column by which an input is parted: its place in the stream's own row.
+fn part_column(fields: &[Field], name: &Name) -> Result<usize, PlanError>
+    ensures { result ≡ spec.part_column fields.now name.now }
+{
+    match column_named(fields, &None, name) {
+        Ok(found) => Ok(found.place),
+        Err(error) => Err(error),
+    }
+}
+
+#[tactic(auto, using(crate::proofs::Each::stops, crate::proofs::Each::goes_on, crate::proofs::Each::ends))]
+fn part_columns(alloc: Global, fields: &[Field], names: &[Name]) -> Result<Items<usize>, PlanError>
+    ensures { Answers (each (spec.part_column fields.now) names.now) result }
+{
+    let mut places = Items::new(alloc);
+    for name in names {
+        places.push(part_column(fields, name)?)?;
+    }
+    Ok(places)
+}
+
+#[tactic(auto, unfolding(crate::specs::Sources::window_of))]
+fn window_of(alloc: Global, fields: &[Field], window: &syntax::Window) -> Result<Window, PlanError>
+    ensures { Answers (spec.window_of fields.now window.now) result }
+{
+    match window {
+        syntax::Window::Range(length, slide) => Ok(Window::Range {
+            length: *length,
+            slide: *slide,
+        }),
+        syntax::Window::Rows(count, slide) => Ok(Window::Rows {
+            count: *count,
+            slide: *slide,
+        }),
+        syntax::Window::Unbounded => Ok(Window::All),
+        syntax::Window::Partition(names, count) => {
+            let columns = part_columns(alloc, fields, names.as_slice())?;
+            Ok(Window::Parts {
+                columns,
+                count: *count,
+            })
+        }
+    }
+}
+
+// The written alias, else the stream's name without its owner.
+fn alias_of(input: &syntax::Input) -> Result<Name, AllocError>
+    ensures { IfOk result (λ a. a ≡ spec.alias_of input.now) }
+{
+    match &input.alias {
+        None => input.stream.name.try_clone(),
+        Some(alias) => alias.try_clone(),
+    }
+}
+
+// An input of a stream with these columns.
+fn source_with(
+    alloc: Global,
+    input: &syntax::Input,
+    columns: &[Column],
+) -> Result<Source, PlanError>
+    ensures { Answers (spec.source_with input.now (Some columns.now)) result }
+{
+    let alias = alias_of(input)?;
+    let fields = fields_of(alloc, &alias, columns)?;
+    let window = window_of(alloc, fields.as_slice(), &input.window)?;
+    let owner = clone_name_if_any(&input.stream.qualifier)?;
+    let stream = input.stream.name.try_clone()?;
+    Ok(Source {
+        input: Input {
+            owner,
+            stream,
+            window,
+        },
+        alias,
+        fields,
+    })
+}
+
+// The owner that is written before a stream, if any.
+fn owner_of(input: &syntax::Input) -> Option<&str>
+    ensures { option_copied result ≡ input.now.stream.qualifier }
+{
+    match &input.stream.qualifier {
+        None => None,
+        Some(owner) => Some(owner.as_str()),
+    }
+}
+
+// An input: its stream can be read, and has the columns by which it is parted.
+#[tactic(auto, unfolding(crate::specs::Sources::source_of))]
+fn source_of<L: Lookup>(
+    alloc: Global,
+    lookup: &L,
+    input: &syntax::Input,
+) -> Result<Source, PlanError>
+    ensures { Answers (spec.source_of (L.readable lookup.now) input.now) result }
+{
+    match lookup.schema(owner_of(input), input.stream.name.as_str()) {
+        None => Err(PlanError::UnknownStream),
+        Some(schema) => source_with(alloc, input, schema.columns()),
+    }
+}
+
+/// The inputs of a block, from the left.
+#[tactic(auto, using(crate::proofs::Each::stops, crate::proofs::Each::goes_on, crate::proofs::Each::ends))]
+pub(crate) fn sources<L: Lookup>(
+    alloc: Global,
+    lookup: &L,
+    inputs: &[syntax::Input],
+) -> Result<Items<Source>, PlanError>
+    ensures { Answers (each (spec.source_of (L.readable lookup.now)) inputs.now) result }
+{
+    let mut sources = Items::new(alloc);
+    for input in inputs {
+        sources.push(source_of(alloc, lookup, input)?)?;
+    }
+    Ok(sources)
+}
+
+// Whether an input has the alias.
+fn has_alias(sources: &[Source], alias: &Name) -> bool
+    ensures { result ≡ list_any (λ other. bytes_eq alias.now other.alias) sources.now }
+{
+    sources.iter().any(|source| *alias == source.alias)
+}
+
+/// Whether no two inputs have one alias.
+#[tactic(auto, unfolding(crate::specs::Sources::are_apart))]
+pub(crate) fn are_apart(sources: &[Source]) -> bool
+    ensures { result ≡ spec.are_apart sources.now }
+{
+    let mut rest = sources;
+    while let Some((first, later)) = rest.split_first() {
+        if has_alias(later, &first.alias) {
+            return false;
+        }
+        rest = later;
+    }
+    true
+}
+
+/// The columns of all inputs, in order.
+#[tactic(auto, unfolding(crate::specs::Sources::joined_row))]
+pub(crate) fn joined_row(alloc: Global, sources: &[Source]) -> Result<Items<Field>, AllocError>
+    ensures { IfOk result (λ row. row ≡ spec.joined_row sources.now) }
+{
+    let mut row = Items::new(alloc);
+    let mut rest = sources;
+    while let Some((first, later)) = rest.split_first() {
+        row.append(clone_fields(alloc, first.fields.as_slice())?)?;
+        rest = later;
+    }
+    Ok(row)
+}
+
+/// The types of each input's columns.
+pub(crate) fn ports_of(
+    alloc: Global,
+    sources: &[Source],
+) -> Result<Items<Items<ColumnType>>, AllocError>
+    ensures { IfOk result (λ ports. ports ≡ spec.ports_of sources.now) }
+{
+    let mut ports = Items::new(alloc);
+    for source in sources {
+        ports.push(kinds_of(alloc, source.fields.as_slice())?)?;
+    }
+    Ok(ports)
+}
+
+/// What the plan keeps of each input.
+pub(crate) fn inputs_of(alloc: Global, sources: &[Source]) -> Result<Items<Input>, AllocError>
+    ensures { IfOk result (λ inputs. inputs ≡ spec.inputs_of sources.now) }
+{
+    let mut inputs = Items::new(alloc);
+    for source in sources {
+        inputs.push(source.input.try_clone(alloc)?)?;
+    }
+    Ok(inputs)
+}

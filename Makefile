@@ -15,6 +15,7 @@ run:
 test:
 	rt ci
 
-# times puts through the built cqlrun
+# times puts, and texts of two lengths, through the built cqlrun
 bench: build
 	bench/puts $(RUNNER)
+	bench/texts $(RUNNER)

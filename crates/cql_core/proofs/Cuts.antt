@@ -7,7 +7,7 @@ use Rattle.cql_window.specs.declared.window.Window.{Window}
 use Rattle.cql_window.specs.declared.window.Window.TheVariants.{Range}
 use Rattle.cql_window.specs.Window.{end_of, count_before, kept, content}
 use Rattle.cql_core.specs.declared.plan.Plan.{Plan}
-use Rattle.cql_core.specs.Bag.{bag_of}
+use Rattle.cql_bag.specs.Bag.{bag_of}
 use Rattle.cql_core.specs.Output.{output_of}
 use Rattle.cql_core.specs.Blocks.{blocks_of}
 use Rattle.cql_core.specs.Relation.{PinSeen, relation_at, output_at}

@@ -12,7 +12,7 @@ use Rattle.cql_core.specs.Output.{is_empty, same_rows, same_output}
 use Rattle.cql_core.specs.Blocks.{AreBlocks, joined, extended, blocks_of_many, blocks_of, IsBlocksLaw, IsLocalLaw}
 use Rattle.cql_core.specs.Runs.{Extends, GoesOn}
 use Rattle.cql_core.proofs.Blocks.{blocks_from, are_unique}
-use Rattle.cql_core.proofs.Rows.{tied, count_self}
+use Rattle.cql_core.proofs.Ties.{tied, ties_itself}
 use Rattle.cql_core.proofs.Extend.{extends_empty, extends_last, extends_new}
 
 both : (a b : Bool) → (a && b) ≡ true → (a ≡ true) × (b ≡ true)
@@ -29,7 +29,7 @@ same_rows-equal (a ∷ as') (b ∷ bs) h =
 
 rows_themselves : (a : List (List Value)) → same_rows a a ≡ true
 rows_themselves [] = refl
-rows_themselves (a ∷ as') = λ i. count_self a i && rows_themselves as' i
+rows_themselves (a ∷ as') = λ i. ties_itself a i && rows_themselves as' i
 
 pub output_same : (p q : Output) → same_output p q ≡ true → p ≡ q
 unfolding same_output

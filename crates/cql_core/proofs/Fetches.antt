@@ -1,6 +1,6 @@
 -- Only a fetch is told blocks, and it changes nothing.
 use Rattle.std.proofs.Common.{◌≡◌, ℕ, Bool, true, false, List, Option, set, length, refl, ap, sym, ◌∙◌, rules}
-use Rattle.std.specs.Prelude.{Some, None, if◌then◌else◌, is_some}
+use Rattle.std.specs.Prelude.{Some, None, Result, Ok, Err, if◌then◌else◌, is_some}
 use Rattle.std.proofs.lemmas.List.{set-get_or}
 use Rattle.cql_value.specs.declared.schema.Column.{Column}
 use Rattle.cql_value.specs.declared.value.Value.{Value}
@@ -8,13 +8,14 @@ use Rattle.cql_core.specs.declared.command.Command.{Command}
 use Rattle.cql_core.specs.declared.command.Command.TheVariants.{Stream, Put, Beat, Query, Fetch}
 use Rattle.cql_core.specs.declared.output.Block.{Block}
 use Rattle.cql_core.specs.declared.plan.Plan.{Plan}
+use Rattle.cql_core.specs.declared.refusal.Refusal.{Refusal}
 use Rattle.cql_core.specs.declared.refusal.Refusal.TheVariants.{UnknownTenant}
 use Rattle.cql_core.specs.declared.tenants.Quotas.{Quotas}
-use Rattle.cql_core.specs.Checks.{Clocked, schema_of, time_told, put_told, beat_told, stream_told, base_told, query_told}
-use Rattle.cql_core.specs.Form.{plan_of}
+use Rattle.cql_core.specs.Checks.{Clocked, schema_of, time_told, put_told, beat_told, stream_told, base_told, plan_told, query_told}
+use Rattle.cql_core.specs.Planned.{reading, plan_of}
 use Rattle.cql_core.specs.Law.{IsFetchLaw}
 use Rattle.cql_core.specs.Machine.{input_opened, step_at, state_after, home_after, queries_after}
-use Rattle.cql_core.specs.State.{Named, Home, QueryState, State, find_named, clocked, is_place, home_at, queries_at}
+use Rattle.cql_core.specs.State.{Named, Home, QueryState, State, find_named, clocked, readable_at, is_place, home_at, queries_at}
 use Rattle.cql_core.specs.Told.{Told, Done, Based, Blocks, Refused, Says, reads}
 
 abbrev are_blocks : Told → Bool
@@ -46,9 +47,13 @@ base_short : (opened : Option ℕ) → are_blocks (base_told opened) ≡ false
 base_short None = refl
 base_short (Some opened) = refl
 
-query_short : (quotas : Quotas) (many : ℕ) (exists : Bool) (name : List ℕ) (plan : Option Plan) (opened : Option ℕ) → are_blocks (query_told quotas many exists name plan opened) ≡ false
-query_short quotas many exists name None opened = search (rules, either_short)
-query_short quotas many exists name (Some plan) opened = search (rules, either_short, base_short)
+plan_short : (planned : Result Plan Refusal) (opened : Option ℕ) → are_blocks (plan_told planned opened) ≡ false
+plan_short (Err refusal) opened = refl
+plan_short (Ok plan) opened = base_short opened
+
+query_short : (quotas : Quotas) (many : ℕ) (exists : Bool) (name : List ℕ) (read : Result (Result Plan Refusal) ℕ) (opened : Option ℕ) → are_blocks (query_told quotas many exists name read opened) ≡ false
+query_short quotas many exists name (Err at) opened = search (rules, either_short)
+query_short quotas many exists name (Ok planned) opened = search (rules, either_short, plan_short)
 
 clash : {P : Type 0} (told : Told) (blocks : List Block) (next : ℕ) → are_blocks told ≡ false → told ≡ Blocks blocks next → P
 clash told blocks next short is = absurd (let k : true ≡ false = sym (ap are_blocks is) ∙ short in cc)
@@ -63,7 +68,7 @@ stays_at home queries (Stream name columns) blocks next is = clash _ blocks next
 stays_at home queries (Put stream at row) blocks next is = clash _ blocks next (put_short (clocked home stream) at row) is
 stays_at home queries (Beat stream at) blocks next is = clash _ blocks next (beat_short (clocked home stream) at) is
 stays_at home queries (Query name text) blocks next is =
-    clash _ blocks next (query_short home.quotas (length queries) (is_some (find_named queries name)) name (plan_of text) (input_opened home (plan_of text))) is
+    clash _ blocks next (query_short home.quotas (length queries) (is_some (find_named queries name)) name (reading (readable_at home) text) (input_opened home (plan_of (readable_at home) text))) is
 stays_at home queries (Fetch name until) blocks next is = record { home_stays = refl; queries_stay = refl }
 
 stays : (s : State) (tenant : ℕ) (command : Command) (blocks : List Block) (next : ℕ) (there : Bool) → is_place s.homes tenant ≡ there

@@ -3,6 +3,7 @@ use Rattle.std.proofs.Common.{◌≡◌, ℕ, suc, Bool, true, false, List, [], 
 use Rattle.std.specs.Prelude.{Option, Some, None, option_map, is_some, if◌then◌else◌}
 use Rattle.std.proofs.lemmas.Slice.Eq.{bytes_eq-Decides}
 use Rattle.cql_core.specs.Named.{Named, same_name, find_named, set_named, each_named}
+pub use Rattle.cql_core.specs.Named.{each}
 
 pub name_eq : (n m : List ℕ) → same_name n m ≡ true → n ≡ m
 unfolding same_name
@@ -15,11 +16,6 @@ name_same n = (bytes_eq-Decides n n).1 refl
 -- a name that is the same as a second is as the second to any third
 pub name_swap : (n e m : List ℕ) → same_name n e ≡ true → same_name m e ≡ same_name m n
 name_swap n e m h = ap (same_name m) (sym (name_eq n e h))
-
--- each thing seen as another, under the same name
-abbrev pub each : {A B : Type 0} → (A → B) → List (Named A) → List (Named B)
-each f [] = []
-each f (x ∷ xs) = record { name = x.name; item = f x.item } ∷ each f xs
 
 module _ {A B : Type 0} (f : A → B) where
   find_by : (x : A) (r : Option A) (s : Option B) (b : Bool) → s ≡ option_map f r → (if b then Some (f x) else s) ≡ option_map f (if b then Some x else r)

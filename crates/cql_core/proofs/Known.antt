@@ -14,11 +14,11 @@ use Rattle.cql_core.specs.declared.refusal.Refusal.TheVariants.{Behind}
 use Rattle.cql_core.specs.declared.state.StreamState.{StreamState}
 use Rattle.cql_core.specs.Blocks.{blocks_of}
 use Rattle.cql_core.specs.Relation.{output_at}
-use Rattle.cql_core.specs.Form.{plan_of}
+use Rattle.cql_core.specs.Planned.{reading, plan_of}
 use Rattle.cql_core.specs.Told.{Blocks, Refused, is_accepted, Says, Pinned, reads}
 use Rattle.cql_core.specs.Checks.{Clocked, schema_of, stream_told, put_told, beat_told, query_told, next_of, is_behind}
 use Rattle.cql_core.specs.Named.{Named, same_name, find_named, set_named, each_named}
-use Rattle.cql_core.specs.State.{Home, QueryState, clock_of, opened_of, elements_of, input_rows}
+use Rattle.cql_core.specs.State.{Home, QueryState, clock_of, readable_at, opened_of, elements_of, input_rows}
 use Rattle.cql_core.specs.Machine.{change_stream, new_stream, fed, beaten, with_stream, home_after, new_query, pin_of, fetch_step, step_at, with_query, queries_after}
 use Rattle.cql_core.specs.Solo.{Asked, Known, opened_in, limit_in, fetched_meant, own_meant, time_known, joined_rows, new_asked, with_asked, known_done, own_known}
 use Rattle.cql_core.proofs.Finds.{name_eq, each, find_each, length_each, each_push, each_set, some_each, or_else, find_push, find_set}
@@ -30,7 +30,7 @@ asked_of home q = record { plan = q.plan; base = q.base; cursor = q.cursor; rows
 
 -- all that the tenant of a home knows
 abbrev pub known_at : Home → List (Named QueryState) → Known
-known_at home queries = record { quotas = Some home.quotas; streams = each clock_of home.streams; queries = each (asked_of home) queries }
+known_at home queries = record { name = home.name; quotas = Some home.quotas; streams = each clock_of home.streams; queries = each (asked_of home) queries }
 
 -- the queries skip elements that are there
 abbrev pub AllFit : Home → List (Named QueryState) → Type 0
@@ -68,8 +68,8 @@ module _ (home : Home) (queries : List (Named QueryState)) where
   same_told (Put stream at row) = λ i. put_told (sym (find_each clock_of home.streams stream) i) at row
   same_told (Beat stream at) = λ i. beat_told (sym (find_each clock_of home.streams stream) i) at
   same_told (Query name text) =
-      λ i. query_told home.quotas (sym (length_each (asked_of home) queries) i) (sym (some_each (asked_of home) queries name) i) name (plan_of text)
-      (option_and_then (λ p. opened_known home queries p.stream i) (plan_of text))
+      λ i. query_told home.quotas (sym (length_each (asked_of home) queries) i) (sym (some_each (asked_of home) queries name) i) name (reading (readable_at home) text)
+      (option_and_then (λ p. opened_known home queries p.stream i) (plan_of (readable_at home) text))
   same_told (Fetch name until) =
       fetch_by until (find_named queries name) ∙ ap (λ o. fetched_meant (known_at home queries) o until) (sym (find_each (asked_of home) queries name))
 
@@ -173,6 +173,7 @@ module _ (home : Home) (qs : List (Named QueryState)) (fits : AllFit home qs) wh
         = λ m. elements_by (fed at row s) m ∙ grown_by at row m _ refl in
         record {
           known = λ i. record {
+            name = home.name;
             quotas = Some home.quotas;
             streams = time_changed at (fed at row s) refl i;
             queries = grow_asked home (changed home n (fed at row s)) n (record { at = at; row = row }) grown qs fits i;
@@ -185,6 +186,7 @@ module _ (home : Home) (qs : List (Named QueryState)) (fits : AllFit home qs) wh
         let kept : (m : List ℕ) → elements_of (changed home n (beaten at s)) m ≡ elements_of home m = λ m. elements_by (beaten at s) m ∙ kept_by at m _ refl in
         record {
           known = λ i. record {
+            name = home.name;
             quotas = Some home.quotas;
             streams = time_changed (at + 1) (beaten at s) refl i;
             queries = stay_asked home (changed home n (beaten at s)) kept qs i;
@@ -217,7 +219,7 @@ module _ (home : Home) (qs : List (Named QueryState)) (fits : AllFit home qs) wh
       let kept : (m : List ℕ) → elements_of home' m ≡ elements_of home m
       = λ m. ap held (find_push home.streams name (new_stream schema) m) ∙ nothing_held name schema (find_named home.streams m) (same_name m name) in
       record {
-        known = λ i. record { quotas = Some home.quotas; streams = each_push clock_of home.streams (record { name = name; item = new_stream schema }) i; queries = stay_asked home home' kept qs i };
+        known = λ i. record { name = home.name; quotas = Some home.quotas; streams = each_push clock_of home.streams (record { name = name; item = new_stream schema }) i; queries = stay_asked home home' kept qs i };
         fits = stay_fit home home' kept qs fits;
       }
 
@@ -236,6 +238,7 @@ module _ (home : Home) (qs : List (Named QueryState)) (fits : AllFit home qs) wh
       let new : Named QueryState = record { name = name; item = new_query home plan } in
       record {
         known = λ i. record {
+          name = home.name;
           quotas = Some home.quotas;
           streams = each clock_of home.streams;
           queries = (each_push (asked_of home) qs new ∙ ap (λ a. each (asked_of home) qs ++ record { name = name; item = a } ∷ []) (new_known plan)) i;
@@ -250,5 +253,5 @@ module _ (home : Home) (qs : List (Named QueryState)) (fits : AllFit home qs) wh
   own_step (Stream name columns) = choose_home _ _ (ap is_accepted (same_told home qs (Stream name columns))) _ _ qs _ _ (λ fine. own_stream name columns) (λ refused. stays)
   own_step (Put n at row) = choose_home _ _ (ap is_accepted (same_told home qs (Put n at row))) _ _ qs _ _ (λ fine. own_put n at row _ refl fine) (λ refused. stays)
   own_step (Beat n at) = choose_home _ _ (ap is_accepted (same_told home qs (Beat n at))) _ _ qs _ _ (λ fine. own_beat n at _ refl fine) (λ refused. stays)
-  own_step (Query name text) = choose_queries _ _ (ap is_accepted (same_told home qs (Query name text))) home _ _ _ _ (own_query name (plan_of text)) stays
+  own_step (Query name text) = choose_queries _ _ (ap is_accepted (same_told home qs (Query name text))) home _ _ _ _ (own_query name (plan_of (readable_at home) text)) stays
   own_step (Fetch name until) = choose_known _ home qs _ stays

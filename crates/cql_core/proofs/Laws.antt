@@ -121,13 +121,13 @@ law t (call ∷ calls) s k tied = law_by t s k tied call.0 call.1 calls (law t c
 
 -- at the opening
 opening_known : (table : List Tenant) (t : ℕ) → known_if (is_place (nothing_made table) t) (home_at (nothing_made table) t) (queries_at (no_queries table) t) ≡ nothing_known table t
-opening_known [] t = λ i. record { quotas = none_below t i; streams = []; queries = [] }
+opening_known [] t = λ i. record { name = []; quotas = none_below t i; streams = []; queries = [] }
   where
     none_below : (t : ℕ) → ◌≡◌ {A = Option Quotas} (if nat_lt t 0 then Some no_home.quotas else None) None
     none_below t = let e : nat_lt t 0 ≡ false = grind (arith, nat_tests) in rw e refl
 opening_known (x ∷ table) zero =
     let e : nat_lt 0 (suc (length (nothing_made table))) ≡ true = grind (arith, nat_tests) in
-    λ i. record { quotas = (if e i then Some x.quotas else None); streams = []; queries = [] }
+    λ i. record { name = x.name; quotas = (if e i then Some x.quotas else None); streams = []; queries = [] }
 opening_known (x ∷ table) (suc t) =
     let e : nat_lt (suc t) (suc (length (nothing_made table))) ≡ nat_lt t (length (nothing_made table)) = grind (arith, nat_tests) in
     (λ i. known_if (e i) (home_at (nothing_made table) t) (queries_at (no_queries table) t)) ∙ opening_known table t

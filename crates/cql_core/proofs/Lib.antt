@@ -1,9 +1,7 @@
 mod Alone
 mod Blocks
 mod Columns
-mod Counting
 mod Cuts
-mod Entries
 mod Every
 mod Extend
 mod Fetches
@@ -11,9 +9,7 @@ mod Finds
 mod Histories
 mod Known
 mod Laws
-mod Listing
 mod Looks
-mod Making
 mod Moments
 mod Order
 mod Places
@@ -21,8 +17,8 @@ mod Queries
 mod Quiet
 mod Registers
 mod Replies
-mod Rows
+mod Schemas
 mod Serving
 mod Sound
 mod Stretches
-mod Words
+mod Ties

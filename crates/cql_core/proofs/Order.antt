@@ -16,14 +16,14 @@ use Rattle.cql_core.specs.declared.command.Command.TheVariants.{Stream, Put, Bea
 use Rattle.cql_core.specs.declared.plan.Plan.{Plan}
 use Rattle.cql_core.specs.declared.refusal.Refusal.TheVariants.{UnknownTenant}
 use Rattle.cql_core.specs.declared.tenants.Quotas.{Quotas}
-use Rattle.cql_core.specs.Bag.{bag_of}
-use Rattle.cql_core.specs.Form.{plan_of}
+use Rattle.cql_bag.specs.Bag.{bag_of}
+use Rattle.cql_core.specs.Planned.{plan_of}
 use Rattle.cql_core.specs.Relation.{relation_at}
 use Rattle.cql_core.specs.Told.{Refused, is_accepted}
 use Rattle.cql_core.specs.Checks.{Clocked, schema_of, time_told, put_told, beat_told}
 use Rattle.cql_core.specs.Named.{Named, same_name, find_named, set_named, each_named}
 use Rattle.cql_core.specs.View.{Seen, Own}
-use Rattle.cql_core.specs.Solo.{Asked, Known, nothing_known, own_meant, meant, joined_rows, new_asked, with_asked, known_done, known_after, known_from}
+use Rattle.cql_core.specs.Solo.{Asked, Known, nothing_known, readable_in, own_meant, meant, joined_rows, new_asked, with_asked, known_done, known_after, known_from}
 use Rattle.cql_core.specs.Law.{IsRelationLaw}
 use Rattle.cql_core.proofs.Finds.{name_eq, or_else, find_push, find_set}
 use Rattle.cql_core.proofs.Cuts.{seen_by}
@@ -168,7 +168,7 @@ module _ (k : Known) (ordered : IsOrdered k) where
   step_ordered (Own (Stream name columns)) = choose k _ (is_accepted (meant k (Stream name columns))) (λ fine. stream_ordered name columns) ordered
   step_ordered (Own (Put n at row)) = choose k _ (is_accepted (meant k (Put n at row))) (λ fine. put_by n at row _ refl (accepted_own k (Put n at row) _ refl fine).1) ordered
   step_ordered (Own (Beat n at)) = choose k _ (is_accepted (meant k (Beat n at))) (λ fine. beat_by n at _ refl (accepted_own k (Beat n at) _ refl fine).1) ordered
-  step_ordered (Own (Query name text)) = choose k _ (is_accepted (meant k (Query name text))) (λ fine. query_by name (plan_of text)) ordered
+  step_ordered (Own (Query name text)) = choose k _ (is_accepted (meant k (Query name text))) (λ fine. query_by name (plan_of (readable_in k) text)) ordered
   step_ordered (Own (Fetch name until)) = choose k _ (is_accepted (meant k (Fetch name until))) (λ fine. ordered) ordered
 
 all_ordered : (k : Known) (seen : List Seen) → IsOrdered k → IsOrdered (known_from k seen)

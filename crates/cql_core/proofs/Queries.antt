@@ -1,19 +1,20 @@
 -- What a view makes of a query.
 use Rattle.std.proofs.Common.{◌≡◌, ℕ, Bool, true, false, ◌&&◌, List, [], ◌∷◌, ◌++◌, length, refl, ap, ◌∙◌, sym, append_assoc, append-nil}
-use Rattle.std.specs.Prelude.{Option, Some, None, option_map, option_and_then, is_some, if◌then◌else◌, nat_lt}
+use Rattle.std.specs.Prelude.{Option, Some, None, option_map, Result, Ok, Err, is_some, if◌then◌else◌, nat_lt}
 use Rattle.cql_value.specs.Element.{Element}
 use Rattle.cql_value.specs.Name.{is_name}
 use Rattle.cql_core.specs.declared.command.Command.{Command}
 use Rattle.cql_core.specs.declared.command.Command.TheVariants.{Stream, Put, Beat, Query, Fetch}
 use Rattle.cql_core.specs.declared.plan.Plan.{Plan}
+use Rattle.cql_core.specs.declared.refusal.Refusal.{Refusal}
 use Rattle.cql_core.specs.declared.refusal.Refusal.TheVariants.{BadName, QueryExists, TooManyQueries, UnknownTenant}
 use Rattle.cql_core.specs.declared.tenants.Quotas.{Quotas}
-use Rattle.cql_core.specs.Form.{plan_of}
+use Rattle.cql_core.specs.Planned.{reading, plan_in, plan_of}
 use Rattle.cql_core.specs.Told.{Told, Refused, is_accepted}
 use Rattle.cql_core.specs.Checks.{base_told, query_told}
 use Rattle.cql_core.specs.Named.{same_name, find_named}
 use Rattle.cql_core.specs.View.{Seen, Own}
-use Rattle.cql_core.specs.Solo.{Asked, Known, nothing_known, opened_in, own_meant, meant, joined_rows, new_asked, with_asked, known_done, known_after, known_from}
+use Rattle.cql_core.specs.Solo.{Asked, Known, nothing_known, readable_in, opened_in, own_meant, meant, joined_rows, new_asked, with_asked, known_done, known_after, known_from}
 use Rattle.cql_core.specs.Law.{element_of, elements_accepted, IsQueryLaw}
 use Rattle.cql_core.proofs.Finds.{find_each_named, find_keep, find_new}
 
@@ -46,7 +47,7 @@ module _ (k : Known) (name : List ℕ) (q : Asked) (here : find_named k.queries 
   asked_by n (Some plan) = find_keep k.queries n (new_asked k plan) name q here
 
   query_by : (n text : List ℕ) (b : Bool) → find_named (if b then known_done k (Query n text) else k).queries name ≡ Some q
-  query_by n text true = asked_by n (plan_of text)
+  query_by n text true = asked_by n (plan_of (readable_in k) text)
   query_by n text false = here
 
   same_step : (c : Command) (b : Bool) → (known_done k c).queries ≡ k.queries → find_named (if b then known_done k c else k).queries name ≡ Some q
@@ -81,16 +82,19 @@ none_of : {A : Type 0} (o : Option A) → is_some o ≡ false → o ≡ None
 none_of None h = refl
 none_of (Some x) h = absurd cc
 
-not_there : (k : Known) (name text : List ℕ) (plan : Plan) (o : Option Quotas) → k.quotas ≡ o → plan_of text ≡ Some plan → is_accepted (meant k (Query name text)) ≡ true → find_named k.queries name ≡ None
+accepted_new : (quotas : Quotas) (many : ℕ) (exists : Bool) (name : List ℕ) (read : Result (Result Plan Refusal) ℕ) (opened : Option ℕ) (plan : Plan) → plan_in read ≡ Some plan → is_accepted (query_told quotas many exists name read opened) ≡ true → exists ≡ false
+accepted_new quotas many exists name (Err at) opened plan is fine = absurd cc
+accepted_new quotas many exists name (Ok (Err refusal)) opened plan is fine = absurd cc
+accepted_new quotas many exists name (Ok (Ok p)) opened plan is fine = new_by (is_name name) exists (nat_lt many quotas.queries) (base_told opened) fine
+
+not_there : (k : Known) (name text : List ℕ) (plan : Plan) (o : Option Quotas) → k.quotas ≡ o → plan_of (readable_in k) text ≡ Some plan → is_accepted (meant k (Query name text)) ≡ true → find_named k.queries name ≡ None
 not_there k name text plan None is text_is fine =
     let e : meant k (Query name text) ≡ Refused UnknownTenant = rw is refl in absurd (cc (ap is_accepted e))
 not_there k name text plan (Some quotas) is text_is fine =
     let e : meant k (Query name text) ≡ own_meant quotas k (Query name text) = rw is refl in
-    let told : Option Plan → Told = λ p. query_told quotas (length k.queries) (is_some (find_named k.queries name)) name p (option_and_then (λ p. opened_in k p.stream) p) in
-    let accepted : is_accepted (told (Some plan)) ≡ true = sym (ap (λ p. is_accepted (told p)) text_is) ∙ sym (ap is_accepted e) ∙ fine in
-    none_of (find_named k.queries name) (new_by (is_name name) (is_some (find_named k.queries name)) (nat_lt (length k.queries) quotas.queries) (base_told (opened_in k plan.stream)) accepted)
+    none_of (find_named k.queries name) (accepted_new quotas (length k.queries) (is_some (find_named k.queries name)) name (reading (readable_in k) text) _ plan text_is (sym (ap is_accepted e) ∙ fine))
 
-registered : (k : Known) (name text : List ℕ) (plan : Plan) → plan_of text ≡ Some plan → is_accepted (meant k (Query name text)) ≡ true
+registered : (k : Known) (name text : List ℕ) (plan : Plan) → plan_of (readable_in k) text ≡ Some plan → is_accepted (meant k (Query name text)) ≡ true
     → find_named (known_after k (Own (Query name text))).queries name ≡ Some (new_asked k plan)
 registered k name text plan text_is fine =
     ap (λ b. find_named (if b then known_done k (Query name text) else k).queries name) fine

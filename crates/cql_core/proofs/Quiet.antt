@@ -9,7 +9,7 @@ use Rattle.cql_window.specs.declared.window.Window.{Window}
 use Rattle.cql_window.specs.Window.{content}
 use Rattle.cql_core.specs.declared.output.Output.{Output}
 use Rattle.cql_core.specs.declared.plan.OutputKind.{OutputKind}
-use Rattle.cql_core.specs.Bag.{Counts, bag_of}
+use Rattle.cql_bag.specs.Bag.{Counts, bag_of}
 use Rattle.cql_core.specs.Output.{output_of}
 use Rattle.cql_core.specs.Runs.{IsStretch}
 use Rattle.cql_core.specs.Relation.{PinSeen, relation_at, output_at}

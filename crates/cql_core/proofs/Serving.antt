@@ -1,6 +1,6 @@
 -- Commands that are served one by one.
 use Rattle.std.proofs.Common.{◌≡◌, ℕ, zero, suc, ◌<◌, ◌≤◌, Bool, true, false, ◌⊎◌, inl, inr, List, [], ◌∷◌, ◌++◌, length, set, refl, ap, subst, sym, ◌∙◌, arith, rules}
-use Rattle.std.specs.Prelude.{is_some, Option, Some, None, if◌then◌else◌, map, take, drop, reverse}
+use Rattle.std.specs.Prelude.{is_some, Option, Some, None, Result, Ok, Err, if◌then◌else◌, map, take, drop, reverse}
 use Rattle.std.proofs.lemmas.List.{set-get_or, reverse-append}
 use Rattle.cql_core.specs.declared.command.Command.{Command}
 use Rattle.cql_core.specs.declared.command.Command.TheVariants.{Stream, Put, Beat, Query, Fetch}
@@ -12,11 +12,18 @@ use Rattle.cql_value.specs.declared.value.Value.{Value}
 use Rattle.cql_value.specs.declared.schema.Column.{Column}
 use Rattle.cql_core.specs.declared.plan.Plan.{Plan}
 use Rattle.cql_core.specs.declared.tenants.Quotas.{Quotas}
-use Rattle.cql_core.specs.Form.{plan_of}
-use Rattle.cql_core.specs.Checks.{schema_of, Clocked, time_told, put_told, beat_told, stream_told, base_told, query_told}
+use Rattle.cql_plan.specs.declared.error.PlanError.{PlanError}
+use Rattle.cql_plan.specs.declared.error.PlanError.TheVariants as fault
+use Rattle.cql_plan.specs.declared.plan.Planned.{Planned}
+use Rattle.cql_plan.specs.Sources.{Readable}
+use Rattle.cql_plan.specs.Typing.{typing}
+use Rattle.cql_text.specs.declared.syntax.Query.{Query as Written}
+use Rattle.cql_text.specs.Read.{read_of}
+use Rattle.cql_core.specs.Planned.{refusal_of, served_plan, or_not_yet, or_refusal, typed_as, planned, planned_from, plan_of}
+use Rattle.cql_core.specs.Checks.{schema_of, Clocked, time_told, put_told, beat_told, stream_told, base_told, plan_told, query_told}
 use Rattle.cql_core.specs.Told.{Told, Refused, Stepped, Says, Pinned, reads, no_memory}
 use Rattle.cql_core.specs.Relation.{PinSeen}
-use Rattle.cql_core.specs.State.{Named, Home, QueryState, State, find_named, clocked, is_place, home_at, queries_at}
+use Rattle.cql_core.specs.State.{Named, Home, QueryState, State, find_named, clocked, readable_at, is_place, home_at, queries_at}
 use Rattle.cql_core.specs.Machine.{input_opened, step_at, step_of, fetch_step, reply_to, state_after, home_after, queries_after}
 use Rattle.cql_core.specs.Steps.{told_of, stepped_of, IsPinned, Steps}
 use Rattle.cql_core.specs.History.{Made, is_no_memory, after, replay, Fits, IsLegal}
@@ -105,9 +112,28 @@ base_has : (opened : Option ℕ) → is_no_memory (base_told opened) ≡ false
 base_has None = refl
 base_has (Some opened) = refl
 
-query_has : (quotas : Quotas) (many : ℕ) (exists : Bool) (name : List ℕ) (plan : Option Plan) (opened : Option ℕ) → is_no_memory (query_told quotas many exists name plan opened) ≡ false
-query_has quotas many exists name None opened = search (rules, either_has)
-query_has quotas many exists name (Some plan) opened = search (rules, either_has, base_has)
+plan_has : (plan : Option Plan) (opened : Option ℕ) → is_no_memory (plan_told (or_not_yet plan) opened) ≡ false
+plan_has None opened = refl
+plan_has (Some plan) opened = base_has opened
+
+error_has : (error : PlanError) (opened : Option ℕ) → is_no_memory (plan_told (Err (refusal_of error)) opened) ≡ false
+error_has fault.UnknownStream opened = refl
+error_has fault.UnknownColumn opened = refl
+error_has fault.AmbiguousColumn opened = refl
+error_has fault.TypeMismatch opened = refl
+error_has fault.NoMemory opened = refl
+
+typed_has : (q : Written) (r : Result Planned PlanError) (opened : Option ℕ) → is_no_memory (plan_told (typed_as q (or_refusal r)) opened) ≡ false
+typed_has q (Err error) opened = error_has error opened
+typed_has q (Ok typed) opened = plan_has (served_plan typed q) opened
+
+planned_has : (readable : Readable) (q : Written) (opened : Option ℕ) → is_no_memory (plan_told (planned readable q) opened) ≡ false
+unfolding planned
+planned_has readable q opened = typed_has q (typing readable q) opened
+
+query_has : (quotas : Quotas) (many : ℕ) (exists : Bool) (name : List ℕ) (readable : Readable) (read : Result Written ℕ) (opened : Option ℕ) → is_no_memory (query_told quotas many exists name (planned_from readable read) opened) ≡ false
+query_has quotas many exists name readable (Err at) opened = search (rules, either_has)
+query_has quotas many exists name readable (Ok q) opened = search (rules, either_has, planned_has)
 
 fetch_has : (home : Home) (q : Option QueryState) (until : Option ℕ) → is_no_memory (reads (fetch_step home q until)) ≡ false
 fetch_has home None until = refl
@@ -117,7 +143,7 @@ step_has : (home : Home) (queries : List (Named QueryState)) (command : Command)
 step_has home queries (Stream name columns) = stream_has home.quotas (length home.streams) (is_some (find_named home.streams name)) name (schema_of columns)
 step_has home queries (Put stream at row) = put_has (clocked home stream) at row
 step_has home queries (Beat stream at) = beat_has (clocked home stream) at
-step_has home queries (Query name text) = query_has home.quotas (length queries) (is_some (find_named queries name)) name (plan_of text) (input_opened home (plan_of text))
+step_has home queries (Query name text) = query_has home.quotas (length queries) (is_some (find_named queries name)) name (readable_at home) (read_of text) (input_opened home (plan_of (readable_at home) text))
 step_has home queries (Fetch name until) = fetch_has home (find_named queries name) until
 
 -- the machine never tells that there is no memory

@@ -1,6 +1,6 @@
 -- The machine keeps what is true of its state.
 use Rattle.std.proofs.Common.{◌≡◌, ℕ, zero, suc, ◌+◌, ◌^◌, ◌≤◌, ◌<◌, Bool, true, false, eqb, List, [], ◌∷◌, length, set, refl, ap, subst, ◌∙◌, sym, arith, length-set}
-use Rattle.std.specs.Prelude.{Option, Some, None, option_map, unwrap_or, if◌then◌else◌, nat_le, nat_lt}
+use Rattle.std.specs.Prelude.{Option, Some, None, option_map, option_and_then, Result, Ok, Err, unwrap_or, if◌then◌else◌, nat_le, nat_lt}
 use Rattle.std.proofs.lemmas.Bool.Decides.{nat_tests}
 use Rattle.cql_value.specs.declared.value.Value.{Value}
 use Rattle.cql_value.specs.declared.schema.Column.{Column}
@@ -12,11 +12,18 @@ use Rattle.cql_core.specs.declared.plan.Plan.{Plan}
 use Rattle.cql_core.specs.declared.refusal.Refusal.TheVariants.{AtTooLarge, Late, WrongRow}
 use Rattle.cql_core.specs.declared.state.StreamState.{StreamState}
 use Rattle.cql_core.specs.declared.tenants.Tenant.{Tenant}
-use Rattle.cql_core.specs.Form.{parts_of, plan_with, plan_of}
+use Rattle.cql_plan.specs.Sources.{Readable}
+use Rattle.cql_plan.specs.Typing.{typing}
+use Rattle.cql_core.specs.declared.refusal.Refusal.{Refusal}
+use Rattle.cql_plan.specs.declared.plan.Planned.{Planned}
+use Rattle.cql_text.specs.declared.syntax.Input.{Input}
+use Rattle.cql_text.specs.declared.syntax.Query.{Query as Written}
+use Rattle.cql_text.specs.Read.{read_of}
+use Rattle.cql_core.specs.Planned.{plain_range, served_input, plan_with, served_plan, or_refusal, typed_as, planned, or_not_yet, planned_from, plan_in, plan_of}
 use Rattle.cql_core.specs.Relation.{IsPin}
 use Rattle.cql_core.specs.Told.{Told, Done, Refused, is_accepted}
 use Rattle.cql_core.specs.Checks.{greatest, next_of, is_behind, time_told, put_told, beat_told, schema_of}
-use Rattle.cql_core.specs.State.{Named, Home, QueryState, State, same_name, find_named, nothing_made, no_queries, opening, is_place, home_at, queries_at, clock_of, opened_of, limit_of}
+use Rattle.cql_core.specs.State.{Named, Home, QueryState, State, same_name, find_named, nothing_made, no_queries, opening, is_place, home_at, queries_at, clock_of, opened_of, limit_of, readable_at}
 use Rattle.cql_core.specs.Machine.{made_told, fed_told, beaten_told, change_stream, new_stream, fed, beaten, with_stream, home_after, registered_told, new_query, with_query, queries_after, state_after}
 use Rattle.cql_core.specs.Sound.{IsFollowed, IsSound}
 use Rattle.cql_core.proofs.Finds.{name_eq, or_else, find_push, find_set}
@@ -113,14 +120,32 @@ home_goes home (Fetch name until) = stays home
 some_eq : {A : Type 0} (a b : A) → Some a ≡ Some b → a ≡ b
 some_eq a b e = cc
 
-text_slides : (plan : Plan) (b : Bool) (o : Option (List ℕ × ℕ)) → (if b then option_map (λ p. plan_with p.0 p.1) o else None) ≡ Some plan → IsWindow plan.window
-text_slides plan true None is = absurd cc
-text_slides plan true (Some p) is = subst (λ (p : Plan). IsWindow p.window) (some_eq (plan_with p.0 p.1) plan is) (omega arith)
-text_slides plan false o is = absurd cc
+ticks_slide : (typed : Planned) (q : Written) (input : Input) (plan : Plan) (o : Option ℕ) → option_map (plan_with typed q input) o ≡ Some plan → IsWindow plan.window
+ticks_slide typed q input plan None is = absurd cc
+ticks_slide typed q input plan (Some ticks) is = subst (λ (p : Plan). IsWindow p.window) (some_eq (plan_with typed q input ticks) plan is) (omega arith)
 
-pub plan_slides : (text : List ℕ) (plan : Plan) → plan_of text ≡ Some plan → IsWindow plan.window
-unfolding plan_of
-plan_slides text plan is = text_slides plan (nat_le (length text) 4096) (parts_of text) is
+input_slides : (typed : Planned) (q : Written) (plan : Plan) (o : Option Input) → option_and_then (λ input. option_map (plan_with typed q input) (plain_range input.window)) o ≡ Some plan → IsWindow plan.window
+input_slides typed q plan None is = absurd cc
+input_slides typed q plan (Some input) is = ticks_slide typed q input plan (plain_range input.window) is
+
+served_slides : (plan : Plan) (o : Option Plan) → ((p : Plan) → o ≡ Some p → IsWindow p.window) → plan_in (Ok (or_not_yet o)) ≡ Some plan → IsWindow plan.window
+served_slides plan None slides is = absurd cc
+served_slides plan (Some p) slides is = subst (λ (p : Plan). IsWindow p.window) (some_eq p plan is) (slides p refl)
+
+typed_slides : (q : Written) (plan : Plan) (r : Result Planned Refusal) → plan_in (Ok (typed_as q r)) ≡ Some plan → IsWindow plan.window
+typed_slides q plan (Err refusal) is = absurd cc
+typed_slides q plan (Ok typed) is = served_slides plan (served_plan typed q) (λ p is. input_slides typed q p (served_input q) is) is
+
+query_slides : (readable : Readable) (q : Written) (plan : Plan) → plan_in (Ok (planned readable q)) ≡ Some plan → IsWindow plan.window
+unfolding planned
+query_slides readable q plan is = typed_slides q plan (or_refusal (typing readable q)) is
+
+read_slides : (readable : Readable) (plan : Plan) (r : Result Written ℕ) → plan_in (planned_from readable r) ≡ Some plan → IsWindow plan.window
+read_slides readable plan (Err at) is = absurd cc
+read_slides readable plan (Ok q) is = query_slides readable q plan is
+
+pub plan_slides : (readable : Readable) (text : List ℕ) (plan : Plan) → plan_of readable text ≡ Some plan → IsWindow plan.window
+plan_slides readable text plan is = read_slides readable plan (read_of text) is
 
 -- all queries of a home are followed
 abbrev AllFollowed : Home → List (Named QueryState) → Type 0
@@ -151,7 +176,7 @@ step_followed home qs (Stream name columns) all = λ n q found. goes_followed ho
 step_followed home qs (Put name at row) all = λ n q found. goes_followed home _ q (home_goes home (Put name at row)) (all n q found)
 step_followed home qs (Beat name at) all = λ n q found. goes_followed home _ q (home_goes home (Beat name at)) (all n q found)
 step_followed home qs (Query name text) all =
-    choose_queries home qs _ (is_accepted (registered_told home qs name text)) (query_followed home qs name (plan_of text) (λ plan is. plan_slides text plan is) all) all
+    choose_queries home qs _ (is_accepted (registered_told home qs name text)) (query_followed home qs name (plan_of (readable_at home) text) (λ plan is. plan_slides (readable_at home) text plan is) all) all
 step_followed home qs (Fetch name until) all = all
 
 -- the state

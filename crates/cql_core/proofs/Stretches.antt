@@ -3,7 +3,7 @@ use Rattle.std.proofs.Common.{◌≡◌, ◌≤◌, ℕ, ◌+◌, List, sym, ap,
 use Rattle.cql_core.specs.declared.output.Output.{Output}
 use Rattle.cql_core.specs.declared.plan.OutputKind.{OutputKind}
 use Rattle.cql_core.specs.declared.output.Block.{Block}
-use Rattle.cql_core.specs.Bag.{Counts}
+use Rattle.cql_bag.specs.Bag.{Counts}
 use Rattle.cql_core.specs.Output.{output_of}
 use Rattle.cql_core.specs.Blocks.{AreBlocks}
 use Rattle.cql_core.specs.Runs.{RunsSeen, StandFor, IsStretch}

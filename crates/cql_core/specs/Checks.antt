@@ -1,5 +1,5 @@
 -- The checks of the commands, in their order, over what was looked up. The first refusal is told.
-use Rattle.std.specs.Prelude.{ℕ, ◌-◌, ◌^◌, Bool, false, List, [], ◌∷◌, Option, Some, None, option_map, option_and_then, min, nat_lt, if◌then◌else◌}
+use Rattle.std.specs.Prelude.{ℕ, ◌-◌, ◌^◌, Bool, false, List, [], ◌∷◌, Option, Some, None, option_map, option_and_then, Result, Ok, Err, min, nat_lt, if◌then◌else◌}
 use Rattle.cql_value.specs.declared.value.Value.{Value}
 use Rattle.cql_value.specs.declared.schema.Column.{Column}
 use Rattle.cql_value.specs.Name.{is_name}
@@ -7,7 +7,8 @@ use Rattle.cql_value.specs.Schema.{type_named, is_schema, is_row_of}
 use Rattle.cql_core.specs.declared.command.ColumnText.{ColumnText}
 use Rattle.cql_core.specs.declared.plan.Plan.{Plan}
 use Rattle.cql_core.specs.declared.tenants.Quotas.{Quotas}
-use Rattle.cql_core.specs.declared.refusal.Refusal.TheVariants.{StreamExists, BadName, BadColumns, TooManyStreams, UnknownStream, WrongRow, Late, AtTooLarge, TooManyQueries, QueryExists, NotYet}
+use Rattle.cql_core.specs.declared.refusal.Refusal.{Refusal}
+use Rattle.cql_core.specs.declared.refusal.Refusal.TheVariants.{StreamExists, BadName, BadColumns, TooManyStreams, UnknownStream, WrongRow, Late, AtTooLarge, BadQuery, TooManyQueries, QueryExists}
 use Rattle.cql_core.specs.Told.{Told, Done, Based, Refused}
 
 -- the greatest instant
@@ -54,11 +55,16 @@ abbrev pub base_told : Option ℕ → Told
 base_told None = Refused UnknownStream
 base_told (Some opened) = Based opened
 
--- a query is registered, where there are so many and maybe one of the name; its plan, if its text has one, with the least time that its input still takes
-abbrev pub query_told : Quotas → ℕ → Bool → List ℕ → Option Plan → Option ℕ → Told
-query_told quotas many exists name None opened = if is_name name then Refused NotYet else Refused BadName
-query_told quotas many exists name (Some plan) opened =
-    if is_name name then (if exists then Refused QueryExists else (if nat_lt many quotas.queries then base_told opened else Refused TooManyQueries)) else Refused BadName
+-- a query that has a plan is told its base
+abbrev pub plan_told : Result Plan Refusal → Option ℕ → Told
+plan_told (Err refusal) opened = Refused refusal
+plan_told (Ok plan) opened = base_told opened
+
+-- A query is registered, where there are so many and maybe one of the name. Its text is refused at a byte, or has a plan or a refusal; with the least time that the plan's input still takes.
+abbrev pub query_told : Quotas → ℕ → Bool → List ℕ → Result (Result Plan Refusal) ℕ → Option ℕ → Told
+query_told quotas many exists name (Err at) opened = if is_name name then Refused (BadQuery at) else Refused BadName
+query_told quotas many exists name (Ok planned) opened =
+    if is_name name then (if exists then Refused QueryExists else (if nat_lt many quotas.queries then plan_told planned opened else Refused TooManyQueries)) else Refused BadName
 
 -- where a fetch ends: the limit, or `until` where that is less
 abbrev pub next_of : ℕ → Option ℕ → ℕ

@@ -8,14 +8,14 @@ use Rattle.cql_core.specs.declared.command.Command.TheVariants.{Stream, Put, Bea
 use Rattle.cql_core.specs.declared.output.Block.{Block}
 use Rattle.cql_core.specs.declared.plan.Plan.{Plan}
 use Rattle.cql_core.specs.declared.tenants.Tenant.{Tenant}
-use Rattle.cql_core.specs.Bag.{bag_of}
-use Rattle.cql_core.specs.Form.{plan_of}
+use Rattle.cql_bag.specs.Bag.{bag_of}
+use Rattle.cql_core.specs.Planned.{plan_of}
 use Rattle.cql_core.specs.Relation.{relation_at}
 use Rattle.cql_core.specs.Told.{Told, Blocks, is_accepted}
 use Rattle.cql_core.specs.State.{State, same_name, find_named, nothing_made, opening}
 use Rattle.cql_core.specs.Machine.{reply_to, state_after}
 use Rattle.cql_core.specs.View.{Seen, Own, view}
-use Rattle.cql_core.specs.Solo.{Known, Asked, nothing_known, opened_in, meant, known_after, known_from, solo}
+use Rattle.cql_core.specs.Solo.{Known, Asked, nothing_known, readable_in, opened_in, meant, known_after, known_from, solo}
 
 -- the replies to one tenant of a whole run of the machine
 abbrev pub replies_to : ℕ → State → List (ℕ × Command) → List Told
@@ -64,7 +64,7 @@ elements_accepted k stream (e ∷ es) = element_of k stream e ++ elements_accept
 -- a registered query's base is the least time that its input took at its registration, and its rows are the elements accepted on its input after it
 abbrev pub IsQueryLaw : Type 0
 IsQueryLaw = (table : List Tenant) (tenant : ℕ) (before after : List Seen) (name text : List ℕ) (plan : Plan)
-    → plan_of text ≡ Some plan
+    → plan_of (readable_in (known_from (nothing_known table tenant) before)) text ≡ Some plan
     → is_accepted (meant (known_from (nothing_known table tenant) before) (Query name text)) ≡ true
     → find_named (known_from (nothing_known table tenant) (before ++ Own (Query name text) ∷ after)).queries name
     ≡ Some (record {

@@ -1,16 +1,13 @@
 pub mod Answer
-pub mod Bag
-pub mod BagLaws
 pub mod Blocks
 pub mod Changes
 pub mod Checks
-pub mod Form
+pub mod Planned
 pub mod History
 pub mod Law
 pub mod Machine
 pub mod Named
 pub mod Output
-pub mod Place
 pub mod Prepared
 pub mod Refusal
 pub mod Relation

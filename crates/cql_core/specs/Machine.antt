@@ -10,11 +10,11 @@ use Rattle.cql_core.specs.declared.command.Command.TheVariants.{Stream, Put, Bea
 use Rattle.cql_core.specs.declared.plan.Plan.{Plan}
 use Rattle.cql_core.specs.declared.state.StreamState.{StreamState}
 use Rattle.cql_core.specs.declared.refusal.Refusal.TheVariants.{UnknownTenant, UnknownQuery, Behind}
-use Rattle.cql_core.specs.Form.{plan_of}
+use Rattle.cql_core.specs.Planned.{reading, plan_of}
 use Rattle.cql_core.specs.Relation.{PinSeen}
 use Rattle.cql_core.specs.Told.{Told, Refused, is_accepted, Stepped, Says, Pinned, reads}
 use Rattle.cql_core.specs.Checks.{schema_of, stream_told, put_told, beat_told, query_told, next_of, is_behind}
-use Rattle.cql_core.specs.State.{Named, Home, QueryState, State, find_named, set_named, is_place, home_at, queries_at, clocked, opened_of, elements_of, limit_of, input_rows}
+use Rattle.cql_core.specs.State.{Named, Home, QueryState, State, find_named, set_named, is_place, home_at, queries_at, clocked, readable_at, opened_of, elements_of, limit_of, input_rows}
 
 -- the checks of the commands on streams; they look at the tenant's home alone, and at no query
 abbrev pub made_told : Home → List ℕ → List ColumnText → Told
@@ -64,7 +64,7 @@ input_opened home plan = option_and_then (λ p. opened_of home p.stream) plan
 
 abbrev pub registered_told : Home → List (Named QueryState) → List ℕ → List ℕ → Told
 registered_told home queries name text =
-    query_told home.quotas (length queries) (is_some (find_named queries name)) name (plan_of text) (input_opened home (plan_of text))
+    query_told home.quotas (length queries) (is_some (find_named queries name)) name (reading (readable_at home) text) (input_opened home (plan_of (readable_at home) text))
 
 -- a query that is registered now; it skips the elements that are there
 abbrev pub new_query : Home → Plan → QueryState
@@ -104,7 +104,7 @@ abbrev pub queries_after : Home → List (Named QueryState) → Command → List
 queries_after home queries (Stream name columns) = queries
 queries_after home queries (Put stream at row) = queries
 queries_after home queries (Beat stream at) = queries
-queries_after home queries (Query name text) = if is_accepted (registered_told home queries name text) then with_query home name (plan_of text) queries else queries
+queries_after home queries (Query name text) = if is_accepted (registered_told home queries name text) then with_query home name (plan_of (readable_at home) text) queries else queries
 queries_after home queries (Fetch name until) = queries
 
 -- the step of a tenant; 31 comes before all else

@@ -29,5 +29,10 @@ change_named {A} f name xs = changed (find_named xs name)
     changed None = xs
     changed (Some item) = set_named xs name (f item)
 
+-- each thing seen as another, under the same name
+abbrev pub each : {A B : Type 0} → (A → B) → List (Named A) → List (Named B)
+each f [] = []
+each f (x ∷ xs) = record { name = x.name; item = f x.item } ∷ each f xs
+
 abbrev pub each_named : {A : Type 0} → (A → A) → List (Named A) → List (Named A)
 each_named {A} f xs = map {A = Named A} (λ x. record x { item = f x.item }) xs

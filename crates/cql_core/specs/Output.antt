@@ -7,7 +7,7 @@ use Rattle.cql_core.specs.declared.plan.OutputKind.{OutputKind}
 use Rattle.cql_core.specs.declared.plan.OutputKind.TheVariants.{Istream}
 use Rattle.cql_core.specs.declared.output.Output.{Output}
 use Rattle.cql_core.specs.declared.output.Output.TheVariants.{Rows}
-use Rattle.cql_core.specs.Bag.{Counts, minus, listing}
+use Rattle.cql_bag.specs.Bag.{Counts, minus, listing}
 
 abbrev pub is_nil : {A : Type 0} → List A → Bool
 is_nil [] = true

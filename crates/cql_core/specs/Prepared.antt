@@ -2,16 +2,16 @@
 use Rattle.std.specs.Prelude.{◌≡◌, ℕ, List, Option, Some, None, Result, Ok, Err, if◌then◌else◌}
 use Rattle.cql_value.specs.declared.schema.Column.{Column}
 use Rattle.cql_value.specs.Name.{is_name}
+use Rattle.cql_text.specs.declared.syntax.Query.{Query}
+use Rattle.cql_text.specs.Read.{read_of}
 use Rattle.cql_core.specs.declared.command.ColumnText.{ColumnText}
 use Rattle.cql_core.specs.declared.command.Command.{Command}
 use Rattle.cql_core.specs.declared.command.Command.TheVariants as command
-use Rattle.cql_core.specs.declared.plan.Plan.{Plan}
 use Rattle.cql_core.specs.declared.refusal.Refusal.{Refusal}
-use Rattle.cql_core.specs.declared.refusal.Refusal.TheVariants.{BadName, BadColumns, NotYet}
+use Rattle.cql_core.specs.declared.refusal.Refusal.TheVariants.{BadName, BadColumns, BadQuery}
 use Rattle.cql_core.specs.declared.ready.Ready.{Ready}
 use Rattle.cql_core.specs.declared.ready.Ready.TheVariants as ready
 use Rattle.cql_core.specs.Checks.{schema_of}
-use Rattle.cql_core.specs.Form.{plan_of}
 
 abbrev pub or_refused : {A : Type 0} → Refusal → Option A → Result A Refusal
 or_refused refusal None = Err refusal
@@ -21,9 +21,13 @@ or_refused refusal (Some x) = Ok x
 abbrev pub schema_checked : List ℕ → List ColumnText → Result (List Column) Refusal
 schema_checked name columns = if is_name name then or_refused BadColumns (schema_of columns) else Err BadName
 
--- the plan of a new query; 21 comes before 58
-abbrev pub plan_checked : List ℕ → List ℕ → Result Plan Refusal
-plan_checked name text = if is_name name then or_refused NotYet (plan_of text) else Err BadName
+abbrev pub or_bad_query : Result Query ℕ → Result Query Refusal
+or_bad_query (Ok q) = Ok q
+or_bad_query (Err at) = Err (BadQuery at)
+
+-- what the text of a new query says; 21 comes before 50
+abbrev pub query_checked : List ℕ → List ℕ → Result Query Refusal
+query_checked name text = if is_name name then or_bad_query (read_of text) else Err BadName
 
 abbrev pub command_of : Ready → Command
 command_of (ready.Stream name columns checked) = command.Stream name columns
@@ -36,5 +40,5 @@ abbrev pub IsReady : Ready → Type 0
 IsReady (ready.Stream name columns checked) = checked ≡ schema_checked name columns
 IsReady (ready.Put stream element) = Unit {0}
 IsReady (ready.Beat stream at) = Unit {0}
-IsReady (ready.Query name text checked) = checked ≡ plan_checked name text
+IsReady (ready.Query name text checked) = checked ≡ query_checked name text
 IsReady (ready.Fetch name until) = Unit {0}

@@ -1,7 +1,7 @@
 -- The numbers and names of the refusals.
 use Rattle.std.specs.Prelude.{ℕ, List, codes}
 use Rattle.cql_core.specs.declared.refusal.Refusal.{Refusal}
-use Rattle.cql_core.specs.declared.refusal.Refusal.TheVariants.{StreamExists, BadName, BadColumns, TooManyStreams, UnknownStream, UnknownTenant, WrongRow, Late, AtTooLarge, TooManyQueries, QueryExists, UnknownQuery, NotYet, Behind, NoMemory}
+use Rattle.cql_core.specs.declared.refusal.Refusal.TheVariants.{StreamExists, BadName, BadColumns, TooManyStreams, UnknownStream, UnknownTenant, WrongRow, Late, AtTooLarge, BadQuery, UnknownColumn, AmbiguousColumn, TypeMismatch, TooManyQueries, QueryExists, UnknownQuery, NotYet, Behind, NoMemory}
 
 abbrev pub number_of : Refusal → ℕ
 number_of StreamExists = 20
@@ -13,6 +13,10 @@ number_of UnknownTenant = 31
 number_of WrongRow = 40
 number_of Late = 41
 number_of AtTooLarge = 42
+number_of (BadQuery at) = 50
+number_of UnknownColumn = 52
+number_of AmbiguousColumn = 53
+number_of TypeMismatch = 54
 number_of TooManyQueries = 55
 number_of QueryExists = 56
 number_of UnknownQuery = 57
@@ -30,6 +34,10 @@ name_of UnknownTenant = codes "UnknownTenant"
 name_of WrongRow = codes "WrongRow"
 name_of Late = codes "Late"
 name_of AtTooLarge = codes "AtTooLarge"
+name_of (BadQuery at) = codes "BadQuery"
+name_of UnknownColumn = codes "UnknownColumn"
+name_of AmbiguousColumn = codes "AmbiguousColumn"
+name_of TypeMismatch = codes "TypeMismatch"
 name_of TooManyQueries = codes "TooManyQueries"
 name_of QueryExists = codes "QueryExists"
 name_of UnknownQuery = codes "UnknownQuery"

@@ -5,7 +5,7 @@ use Rattle.cql_window.specs.declared.window.Window.{Window}
 use Rattle.cql_window.specs.Window.{IsWindow, content}
 use Rattle.cql_core.specs.declared.plan.Plan.{Plan}
 use Rattle.cql_core.specs.declared.output.Output.{Output}
-use Rattle.cql_core.specs.Bag.{Counts, bag_of}
+use Rattle.cql_bag.specs.Bag.{Counts, bag_of}
 use Rattle.cql_core.specs.Output.{output_of}
 
 -- a query over the rows of its input, asked for the instants from one to before another

@@ -11,7 +11,8 @@ use Rattle.cql_core.specs.declared.tenants.Tenant.{Tenant}
 use Rattle.cql_core.specs.declared.refusal.Refusal.TheVariants.{UnknownTenant, UnknownQuery, Behind}
 use Rattle.cql_core.specs.Blocks.{blocks_of}
 use Rattle.cql_core.specs.Relation.{output_at}
-use Rattle.cql_core.specs.Form.{plan_of}
+use Rattle.cql_plan.specs.Sources.{Readable}
+use Rattle.cql_core.specs.Planned.{own_streams, reading, plan_of}
 use Rattle.cql_core.specs.Told.{Told, Blocks, Refused, is_accepted}
 use Rattle.cql_core.specs.Checks.{Clocked, schema_of, stream_told, put_told, beat_told, query_told, next_of, is_behind}
 use Rattle.cql_core.specs.Named.{Named, same_name, find_named, set_named, each_named}
@@ -24,14 +25,19 @@ pub record Asked : Type 0 where
   pub cursor : ℕ
   pub rows : List Element
 
--- what a tenant knows: its quotas, if it is in the table, its streams in order of making, and its live queries in order of registration
+-- what a tenant knows: its name and its quotas, if it is in the table, its streams in order of making, and its live queries in order of registration
 pub record Known : Type 0 where
+  pub name : List ℕ
   pub quotas : Option Quotas
   pub streams : List (Named Clocked)
   pub queries : List (Named Asked)
 
 abbrev pub nothing_known : List Tenant → ℕ → Known
-nothing_known table tenant = record { quotas = option_map (λ t. t.quotas) (slice_get table tenant); streams = []; queries = [] }
+nothing_known table tenant = record { name = unwrap_or (option_map (λ t. t.name) (slice_get table tenant)) []; quotas = option_map (λ t. t.quotas) (slice_get table tenant); streams = []; queries = [] }
+
+-- the streams that the tenant reads
+abbrev pub readable_in : Known → Readable
+readable_in k = own_streams k.name k.streams
 
 abbrev pub opened_in : Known → List ℕ → Option ℕ
 opened_in k stream = option_map (λ s. s.opened) (find_named k.streams stream)
@@ -55,7 +61,7 @@ beaten_meant k stream at = beat_told (find_named k.streams stream) at
 
 abbrev pub registered_meant : Quotas → Known → List ℕ → List ℕ → Told
 registered_meant quotas k name text =
-    query_told quotas (length k.queries) (is_some (find_named k.queries name)) name (plan_of text) (option_and_then (λ p. opened_in k p.stream) (plan_of text))
+    query_told quotas (length k.queries) (is_some (find_named k.queries name)) name (reading (readable_in k) text) (option_and_then (λ p. opened_in k p.stream) (plan_of (readable_in k) text))
 
 abbrev pub fetched_meant : Known → Option Asked → Option ℕ → Told
 fetched_meant k None until = Refused UnknownQuery
@@ -99,7 +105,7 @@ abbrev pub known_done : Known → Command → Known
 known_done k (Stream name columns) = record k { streams = k.streams ++ record { name = name; item = record { schema = unwrap_or (schema_of columns) []; opened = 0 } } ∷ [] }
 known_done k (Put stream at row) = record k { streams = time_known at stream k.streams; queries = each_named (joined_rows stream (record { at = at; row = row })) k.queries }
 known_done k (Beat stream at) = record k { streams = time_known (at + 1) stream k.streams }
-known_done k (Query name text) = record k { queries = with_asked k name (plan_of text) }
+known_done k (Query name text) = record k { queries = with_asked k name (plan_of (readable_in k) text) }
 known_done k (Fetch name until) = k
 
 abbrev pub own_known : Known → Command → Known

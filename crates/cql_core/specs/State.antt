@@ -7,6 +7,9 @@ use Rattle.cql_core.specs.declared.state.StreamState.{StreamState}
 pub use Rattle.cql_core.specs.declared.state.Home.{Home}
 pub use Rattle.cql_core.specs.declared.state.QueryState.{QueryState}
 use Rattle.cql_core.specs.Checks.{Clocked}
+use Rattle.cql_plan.specs.Sources.{Readable}
+use Rattle.cql_core.specs.Planned.{own_streams}
+use Rattle.cql_core.specs.Named.{each}
 pub use Rattle.cql_core.specs.Named.{Named, same_name, find_named, set_named}
 
 -- the homes of all tenants are the directory; their queries, in order of registration, stand beside them at the same places
@@ -14,14 +17,14 @@ pub record State : Type 0 where
   pub homes : List Home
   pub queries : List (List (Named QueryState))
 
-abbrev pub empty_home : Quotas → Home
-empty_home quotas = record { quotas = quotas; streams = [] }
+abbrev pub empty_home : List ℕ → Quotas → Home
+empty_home name quotas = record { name = name; quotas = quotas; streams = [] }
 
 abbrev pub no_home : Home
-no_home = empty_home (record { streams = 0; queries = 0; hold = 0; result = 0 })
+no_home = empty_home [] (record { streams = 0; queries = 0; hold = 0; result = 0 })
 
 abbrev pub nothing_made : List Tenant → List Home
-nothing_made table = map (λ t. empty_home t.quotas) table
+nothing_made table = map (λ t. empty_home t.name t.quotas) table
 
 abbrev pub no_queries : List Tenant → List (List (Named QueryState))
 no_queries table = map {B = List (Named QueryState)} (λ t. []) table
@@ -45,6 +48,10 @@ clock_of s = record { schema = s.schema; opened = s.opened }
 -- the columns and the least time of the tenant's stream of that name
 abbrev pub clocked : Home → List ℕ → Option Clocked
 clocked home name = option_map clock_of (find_named home.streams name)
+
+-- the streams that the tenant of a home reads
+abbrev pub readable_at : Home → Readable
+readable_at home = own_streams home.name (each clock_of home.streams)
 
 abbrev pub opened_of : Home → List ℕ → Option ℕ
 opened_of home name = option_map (λ s. s.opened) (find_named home.streams name)

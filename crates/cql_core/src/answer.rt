@@ -16,9 +16,14 @@ pub struct Answer {
 }
 
 impl Model for Answer {
+    ghost use Rattle.cql_plan.specs.contracts.expr.Expr as expr;
+    ghost use Rattle.cql_plan.specs.contracts.condition.Condition as condition;
+    ghost use Rattle.std.specs.Coded.{codes};
     ghost use Rattle.cql_core.specs.Answer.{AnswerSeen, IsAnswer};
 
     ghost Value = { AnswerSeen };
+
+    ghost coded = { Prim.hlevel (codes, expr.the_row.coded, condition.the_row.coded) };
 
     ghost view = { λ a. record { pin = a.pin; blocks = a.blocks } };
 

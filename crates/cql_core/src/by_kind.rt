@@ -2,9 +2,9 @@
 ghost use Rattle.std.specs.Prelude.{◌≡◌, IfOk};
 ghost use Rattle.cql_core.specs.Output.{output_of};
 
-use crate::bag::Bag;
 use crate::output::Output;
 use crate::plan::OutputKind;
+use cql_bag::Bag;
 use std::alloc::{AllocError, Global};
 
 /// The output of an instant, by the relation of the instant before and that of this one.

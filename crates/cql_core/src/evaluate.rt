@@ -6,13 +6,13 @@ ghost use Rattle.cql_core.specs.Relation.{relation_at, output_at};
 ghost use Rattle.cql_core.specs.Runs.{StandFor};
 
 use crate::answer::Answer;
-use crate::bag::Bag;
 use crate::by_kind::output;
 use crate::changes::changes;
 use crate::output::Block;
 use crate::pin::Pin;
 use crate::relation::relation;
 use crate::runs::Runs;
+use cql_bag::Bag;
 use cql_value::Items;
 use std::alloc::{AllocError, Global};
 

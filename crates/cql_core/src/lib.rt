@@ -3,17 +3,15 @@
 #![tactic(auto)]
 
 pub mod answer;
-mod bag;
-pub mod bag_law;
 mod by_kind;
 mod changes;
 mod command;
 pub mod evaluate;
-mod form;
 pub mod law;
 mod output;
 mod pin;
 mod plan;
+mod planned;
 mod ready;
 mod refusal;
 mod relation;
@@ -31,7 +29,7 @@ mod tests_answer;
 #[cfg(test)]
 mod tests_core;
 #[cfg(test)]
-mod tests_form;
+mod tests_queries;
 #[cfg(test)]
 mod tests_tenants;
 

@@ -22,10 +22,15 @@ pub struct Pin {
 }
 
 impl Model for Pin {
+    ghost use Rattle.cql_plan.specs.contracts.expr.Expr as expr;
+    ghost use Rattle.cql_plan.specs.contracts.condition.Condition as condition;
+    ghost use Rattle.std.specs.Coded.{codes};
     ghost use Rattle.std.specs.Arc.{arc_value};
     ghost use Rattle.cql_core.specs.Relation.{PinSeen, IsPin};
 
     ghost Value = { PinSeen };
+
+    ghost coded = { Prim.hlevel (codes, expr.the_row.coded, condition.the_row.coded) };
 
     ghost view = { λ p. record { plan = arc_value p.plan; base = p.base; from = p.from; next = p.next; rows = p.rows.items } };
 

@@ -1,5 +1,6 @@
 // What a query computes.
-use cql_value::Name;
+use cql_plan::plan::Plan as Typed;
+use cql_value::{Name, Text};
 use cql_window::Window;
 
 /// What a query tells of its relation at an instant, beside the relation of the instant before.
@@ -9,9 +10,12 @@ pub enum OutputKind {
     Istream,
 }
 
-/// A query: the window through which it looks at a stream of the tenant's own, and what it tells.
+/// A query: what its typing plans and its canonical text; and of a query that is served the window
+/// through which it looks at a stream of the tenant's own, and what it tells.
 #[derive(Debug, Drop)]
 pub struct Plan {
+    pub typed: Typed,
+    pub text: Text,
     pub stream: Name,
     pub window: Window,
     pub kind: OutputKind,

@@ -2,13 +2,11 @@
 ghost use Rattle.std.specs.Prelude.{◌≡◌, IfOk, option_map};
 ghost use Rattle.std.specs.Arc.{arc_value};
 ghost use Rattle.cql_core.specs.Checks.{column_of, columns_of};
-ghost use Rattle.cql_core.specs.Prepared.{schema_checked, plan_checked, IsReady, command_of};
+ghost use Rattle.cql_core.specs.Prepared.{schema_checked, query_checked, IsReady, command_of};
 
 use crate::command::{ColumnText, Command};
-use crate::form::read_plan;
-use crate::plan::Plan;
 use crate::refusal::Refusal;
-use crate::shared::Shared;
+use cql_text::read::{ReadError, Syntax, read};
 use cql_value::name::is_name;
 use cql_value::{Column, ColumnType, Items, Name, NameError, Schema, Text, Timed};
 use std::alloc::{AllocError, Global};
@@ -34,7 +32,7 @@ pub(crate) enum Ready {
     Query {
         name: Text,
         text: Text,
-        checked: Result<Shared<Plan>, Refusal>,
+        checked: Result<Syntax, Refusal>,
     },
     Fetch {
         name: Text,
@@ -117,20 +115,17 @@ fn check_stream(
     }
 }
 
-// The plan of a new query, or why there is none.
-fn check_query(
-    alloc: Global,
-    name: &str,
-    text: &str,
-) -> Result<Result<Shared<Plan>, Refusal>, AllocError>
-    ensures { IfOk result (λ checked. checked ≡ plan_checked name.now text.now) }
+// What the text of a new query says, or why it is refused.
+fn check_query(alloc: Global, name: &str, text: &str) -> Result<Result<Syntax, Refusal>, AllocError>
+    ensures { IfOk result (λ checked. checked ≡ query_checked name.now text.now) }
 {
     if !is_name(name) {
         return Ok(Err(Refusal::BadName));
     }
-    match read_plan(alloc, text)? {
-        Some(plan) => Ok(Ok(Shared::new(Arc::new(alloc, plan)?))),
-        None => Ok(Err(Refusal::NotYet)),
+    match read(alloc, text) {
+        Ok(syntax) => Ok(Ok(syntax)),
+        Err(ReadError::BadQuery { at }) => Ok(Err(Refusal::BadQuery { at })),
+        Err(ReadError::NoMemory) => Err(AllocError),
     }
 }
 

@@ -14,7 +14,8 @@ pub enum Refusal {
     BadColumns,
     /// The tenant's quota of streams is used up (23).
     TooManyStreams,
-    /// No such stream of the tenant's own (30).
+    /// No such stream, or none that the tenant may read; for a put or a heartbeat none of its own
+    /// (30).
     UnknownStream,
     /// The tenant isn't in the table (31).
     UnknownTenant,
@@ -24,13 +25,21 @@ pub enum Refusal {
     Late,
     /// The time is above 2^62 - 1 (42).
     AtTooLarge,
+    /// The text is no query, first at this byte (50).
+    BadQuery { at: usize },
+    /// No input has the column (52).
+    UnknownColumn,
+    /// More than one input has the column, or two inputs have one alias (53).
+    AmbiguousColumn,
+    /// Types that don't go together (54).
+    TypeMismatch,
     /// The tenant's quota of queries is used up (55).
     TooManyQueries,
     /// The tenant has a query of that name (56).
     QueryExists,
     /// The tenant has no query of that name (57).
     UnknownQuery,
-    /// The query can't be evaluated yet (58).
+    /// The query is right, and can't be evaluated yet (58).
     NotYet,
     /// The instant is below the query's cursor (62).
     Behind,
@@ -53,6 +62,10 @@ impl Refusal {
             Refusal::WrongRow => 40,
             Refusal::Late => 41,
             Refusal::AtTooLarge => 42,
+            Refusal::BadQuery { .. } => 50,
+            Refusal::UnknownColumn => 52,
+            Refusal::AmbiguousColumn => 53,
+            Refusal::TypeMismatch => 54,
             Refusal::TooManyQueries => 55,
             Refusal::QueryExists => 56,
             Refusal::UnknownQuery => 57,
@@ -76,6 +89,10 @@ impl Refusal {
             Refusal::WrongRow => "WrongRow",
             Refusal::Late => "Late",
             Refusal::AtTooLarge => "AtTooLarge",
+            Refusal::BadQuery { .. } => "BadQuery",
+            Refusal::UnknownColumn => "UnknownColumn",
+            Refusal::AmbiguousColumn => "AmbiguousColumn",
+            Refusal::TypeMismatch => "TypeMismatch",
             Refusal::TooManyQueries => "TooManyQueries",
             Refusal::QueryExists => "QueryExists",
             Refusal::UnknownQuery => "UnknownQuery",

@@ -1,10 +1,10 @@
 // The relation of a pin at a cursor.
 ghost use Rattle.std.specs.Prelude.{◌≡◌, ◌≤◌, ◌^◌, map, IfOk};
-ghost use Rattle.cql_core.specs.Bag.{bag_of};
+ghost use Rattle.cql_bag.specs.Bag.{bag_of};
 ghost use Rattle.cql_core.specs.Relation.{relation_at};
 
-use crate::bag::Bag;
 use crate::pin::Pin;
+use cql_bag::Bag;
 use cql_value::Timed;
 use cql_window::content_at;
 use std::alloc::{AllocError, Global};

@@ -22,10 +22,15 @@ pub struct Core {
 }
 
 impl Model for Core {
+    ghost use Rattle.cql_plan.specs.contracts.expr.Expr as expr;
+    ghost use Rattle.cql_plan.specs.contracts.condition.Condition as condition;
+    ghost use Rattle.std.specs.Coded.{codes};
     ghost use Rattle.cql_core.specs.State.{State};
     ghost use Rattle.cql_core.specs.Sound.{IsSound};
 
     ghost Value = { State };
+
+    ghost coded = { Prim.hlevel (codes, expr.the_row.coded, condition.the_row.coded) };
 
     ghost view = { λ c. record { homes = c.homes.items; queries = c.queries.items } };
 
@@ -39,6 +44,7 @@ fn homes_of(alloc: Global, tenants: &[Tenant]) -> Result<Vec<Home>, AllocError>
     let mut homes = Vec::new(alloc);
     for tenant in tenants {
         homes.push(Home {
+            name: tenant.name.try_clone()?,
             quotas: tenant.quotas,
             streams: Shelf::new(alloc),
         })?;

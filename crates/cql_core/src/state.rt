@@ -6,7 +6,7 @@ use crate::plan::Plan;
 use crate::shared::Shared;
 use crate::shelf::Shelf;
 use crate::tenants::Quotas;
-use cql_value::{Items, Schema, Timed};
+use cql_value::{Items, Name, Schema, Timed};
 use std::alloc::AllocError;
 
 /// A stream: its columns, the least time in ticks that it still takes, and its elements in order
@@ -31,9 +31,10 @@ impl StreamState {
     }
 }
 
-/// A tenant's quotas, and its streams in order of making.
+/// A tenant's name and quotas, and its streams in order of making.
 #[derive(Drop)]
 pub struct Home {
+    pub name: Name,
     pub quotas: Quotas,
     pub streams: Shelf<StreamState>,
 }

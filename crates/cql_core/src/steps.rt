@@ -3,7 +3,7 @@ ghost use Rattle.std.specs.Prelude.{◌≡◌, ◌≤◌, IfOk, IsOk, OnOk, OnEr
 ghost use Rattle.cql_core.specs.declared.command.Command.TheVariants as command;
 ghost use Rattle.cql_core.specs.Checks.{time_told, next_of, is_behind};
 ghost use Rattle.cql_core.specs.Steps.{told_of, stepped_of, TakesNoMemory};
-ghost use Rattle.cql_core.specs.Prepared.{schema_checked, plan_checked, command_of, IsReady};
+ghost use Rattle.cql_core.specs.Prepared.{schema_checked, query_checked, command_of, IsReady};
 ghost use Rattle.cql_core.specs.State.{find_named, limit_of};
 ghost use Rattle.cql_core.specs.Machine.{made_told, fed_told, beaten_told, home_after, registered_told, queries_after, fetch_step, step_at, rows_before, pin_of};
 ghost use Rattle.cql_core.specs.Sound.{IsHomeSound};
@@ -13,12 +13,14 @@ ghost use Rattle.cql_window.specs.Window.{count_before};
 use crate::command::{ColumnText, GREATEST};
 use crate::pin::Pin;
 use crate::plan::Plan;
+use crate::planned::planned;
 use crate::ready::Ready;
 use crate::refusal::Refusal;
 use crate::reply::{Reply, Step};
 use crate::shared::Shared;
 use crate::shelf::Shelf;
 use crate::state::{Home, QueryState, StreamState};
+use cql_text::read::Syntax;
 use cql_value::{Items, Schema, Text, Timed};
 use std::alloc::{AllocError, Global};
 
@@ -150,15 +152,15 @@ pub fn register(
     queries: &mut Shelf<QueryState>,
     name: &Text,
     text: &Text,
-    checked: &Result<Shared<Plan>, Refusal>,
+    checked: &Result<Syntax, Refusal>,
 ) -> Result<Reply, AllocError>
-    requires { checked.now ≡ plan_checked name.now text.now }
+    requires { checked.now ≡ query_checked name.now text.now }
     ensures reply { IfOk result (λ reply. told_of reply ≡ registered_told home.now queries.old name.now text.now) }
     ensures state { OnOk result (queries.new ≡ queries_after home.now queries.old (command.Query name.now text.now)) }
     ensures err { OnErr result (queries.new ≡ queries.old) }
 {
-    let plan = match checked {
-        Ok(plan) => plan,
+    let syntax = match checked {
+        Ok(syntax) => syntax,
         Err(refusal) => return Ok(Reply::Refused(*refusal)),
     };
     if is_taken(queries, name) {
@@ -167,11 +169,15 @@ pub fn register(
     if queries.len() as u64 >= home.quotas.queries {
         return Ok(Reply::Refused(Refusal::TooManyQueries));
     }
-    let Some(stream) = source(home, plan) else {
+    let plan = match planned(alloc, home, syntax)? {
+        Ok(plan) => plan,
+        Err(refusal) => return Ok(Reply::Refused(refusal)),
+    };
+    let Some(stream) = source(home, &plan) else {
         return Ok(Reply::Refused(Refusal::UnknownStream));
     };
     let base = stream.opened;
-    let query = new_query(plan, stream)?;
+    let query = new_query(&plan, stream)?;
     let name = String::from_str(alloc, name.as_str())?;
     queries.push(name, query)?;
     Ok(Reply::Base(base))

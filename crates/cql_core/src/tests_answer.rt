@@ -1,6 +1,10 @@
 use crate::evaluate::answer;
 use crate::{Answer, Output, OutputKind, Pin, Plan};
-use cql_value::{Name, Row, Timed, Value};
+use cql_plan::lookup::Lookup;
+use cql_plan::plan::Plan as Typed;
+use cql_plan::resolve::resolve;
+use cql_text::read::read;
+use cql_value::{Column, ColumnType, Name, Row, Schema, Text, Timed, Value};
 use cql_window::Window;
 use std::alloc::Global;
 use std::sync::Arc;
@@ -181,6 +185,33 @@ const CASES: &[Case] = &[
     },
 ];
 
+// One stream, under any name.
+#[derive(Drop)]
+struct OneStream {
+    schema: Schema,
+}
+
+impl Lookup for OneStream {
+    ghost use Rattle.std.specs.Prelude.{Some};
+
+    ghost readable = { λ l owner stream. Some l.schema };
+
+    fn schema(&self, _owner: Option<&str>, _stream: &str) -> Option<&Schema> {
+        Some(&self.schema)
+    }
+}
+
+// What is planned of a query, of which an answer needs no more than that it is there.
+fn typed(alloc: Global) -> Result<Typed, Fail> {
+    let column = Column {
+        name: Name::read(alloc, "v")?,
+        kind: ColumnType::Number,
+    };
+    let schema = Schema::new(vec![in alloc; column]?)?;
+    let syntax = read(alloc, "Select Istream(*) From s [Now]")?;
+    Ok(resolve(alloc, &syntax, &OneStream { schema })?)
+}
+
 fn answered(alloc: Global, case: &Case) -> Result<Answer, Fail> {
     let mut rows = Vec::new(alloc);
     for row in case.rows {
@@ -188,6 +219,8 @@ fn answered(alloc: Global, case: &Case) -> Result<Answer, Fail> {
         rows.push(Timed::new(row.0, Arc::new(alloc, Row::new(values))?))?;
     }
     let plan = Plan {
+        typed: typed(alloc)?,
+        text: Text::new(alloc, "ISTREAM(SELECT * FROM s [NOW])")?,
         stream: Name::read(alloc, "s")?,
         window: Window::Range {
             length: case.length,

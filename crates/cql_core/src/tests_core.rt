@@ -1,8 +1,8 @@
 // Whole lists of commands with the replies that they are to be given, run by `run` and step by
 // step.
 use crate::{
-    Block, ColumnText, Command, Core, Output, Quotas, Reply, Tenant, TenantId, TenantTable, finish,
-    prepare, run,
+    Block, ColumnText, Command, Core, Output, Quotas, Refusal, Reply, Tenant, TenantId,
+    TenantTable, finish, prepare, run,
 };
 use Asked::*;
 use Cell::*;
@@ -43,6 +43,7 @@ pub(crate) enum Want {
     Base(u64),
     Blocks(&'static [Told], u64),
     Refused(u64),
+    NoQuery(usize),
 }
 
 // A tenant's command, and its reply.
@@ -175,6 +176,7 @@ pub(crate) fn is_told(reply: &Reply, want: &Want) -> bool {
             answer.next() == *next && are_blocks(answer.blocks(), blocks)
         }
         (Reply::Refused(refusal), Refused(number)) => refusal.number() == *number,
+        (Reply::Refused(Refusal::BadQuery { at }), NoQuery(place)) => *at == *place,
         _ => false,
     }
 }
@@ -652,17 +654,23 @@ const STREAM_ORDER: &[Call] = &[
     Call("a", Stream("u", COLUMN), Refused(23)),
 ];
 
-// Of two faults of a query: its name, its text, a query of that name, the room, its stream.
+// Of two faults of a query: its name, its text, a query of that name, the room, its stream and
+// types, whether it is served.
 const QUERY_ORDER: &[Call] = &[
     Call("a", Query("1", ""), Refused(21)),
     Call("a", Query("1", RANGE), Refused(21)),
-    Call("a", Query("q", ""), Refused(58)),
+    Call("a", Query("q", ""), NoQuery(0)),
     Call("a", Query("q", RANGE), Refused(30)),
+    Call("a", Query("q", "Select * From s"), Refused(30)),
     Call("a", Stream("s", COLUMN), Done),
+    Call("a", Query("q", "Select z From s"), Refused(52)),
+    Call("a", Query("q", "Select * From s"), Refused(58)),
     Call("a", Query("q", RANGE), Base(0)),
     Call("a", Query("1", RANGE), Refused(21)),
-    Call("a", Query("q", ""), Refused(58)),
-    Call("a", Query("p", ""), Refused(58)),
+    Call("a", Query("q", ""), NoQuery(0)),
+    Call("a", Query("p", ""), NoQuery(0)),
+    Call("a", Query("p", "Select z From s"), Refused(55)),
+    Call("a", Query("p", "Select * From s"), Refused(55)),
     Call("a", Query("q", RANGE), Refused(56)),
     Call(
         "a",

@@ -1,5 +1,4 @@
 // Tenants, refusals, and the parts that a run of commands doesn't show.
-use crate::bag_law::{bag_of_counts, listing_counts, minus_counts, same_counts};
 use crate::law::{alone_law, history_law, isolation_law, query_law, relation_law, solo_law};
 use crate::runs::{Runs, blocks_are_unique, blocks_law, local_law};
 use crate::{BadTenants, Output, Quotas, Refusal, Tenant, TenantTable};
@@ -187,10 +186,6 @@ fn laws() {
     query_law();
     relation_law();
     alone_law();
-    same_counts();
-    minus_counts();
-    bag_of_counts();
-    listing_counts();
     blocks_are_unique();
     blocks_law();
     local_law();

@@ -6,6 +6,7 @@ mod Keys
 mod Outputs
 mod Pieces
 mod Readings
+mod Refusals
 mod ReplyLines
 mod Running
 mod Serving

@@ -8,6 +8,8 @@ use Rattle.cql_value.specs.declared.value.Value.TheVariants.{Number, Text}
 use Rattle.cql_core.specs.declared.output.Output.{Output}
 use Rattle.cql_core.specs.declared.output.Output.TheVariants.{Rows}
 use Rattle.cql_core.specs.declared.output.Block.{Block}
+use Rattle.cql_core.specs.declared.refusal.Refusal.{Refusal}
+use Rattle.cql_core.specs.declared.refusal.Refusal.TheVariants.{BadQuery}
 use Rattle.cql_core.specs.Refusal as refusal
 use Rattle.cql_core.specs.Told.{Told, Done, Based, Blocks, Refused, no_memory}
 use Rattle.cql_wire.specs.declared.fault.LineFault.{LineFault}
@@ -51,12 +53,21 @@ blocks_text = list_text block_text
 abbrev pub refused_line : List ℕ → ℕ → List ℕ
 refused_line name number = codes "{\"name\":\"" ++ (name ++ (codes "\",\"refused\":" ++ (decimal number ++ codes "}\n")))
 
+-- the same, with the byte at which a text is refused
+abbrev pub refused_at_line : ℕ → List ℕ → ℕ → List ℕ
+refused_at_line at name number = codes "{\"at\":" ++ (decimal at ++ (codes ",\"name\":\"" ++ (name ++ (codes "\",\"refused\":" ++ (decimal number ++ codes "}\n")))))
+
+-- a text that is no query is told with its byte, all else without
+abbrev pub refusal_line : Refusal → List ℕ
+refusal_line (BadQuery at) = refused_at_line at (refusal.name_of (BadQuery at)) (refusal.number_of (BadQuery at))
+refusal_line r = refused_line (refusal.name_of r) (refusal.number_of r)
+
 -- the line of what is told
 abbrev pub told_line : Told → List ℕ
 told_line Done = codes "{\"ok\":true}\n"
 told_line (Based base) = codes "{\"base\":" ++ (decimal base ++ codes "}\n")
 told_line (Blocks blocks next) = codes "{\"blocks\":" ++ (blocks_text blocks ++ (codes ",\"next\":" ++ (decimal next ++ codes "}\n")))
-told_line (Refused r) = refused_line (refusal.name_of r) (refusal.number_of r)
+told_line (Refused r) = refusal_line r
 
 -- the line of a line that gives no command
 abbrev pub fault_line : LineFault → List ℕ

@@ -3,7 +3,7 @@ ghost use Rattle.std.specs.Prelude.{◌≡◌, ◌++◌, ◌||◌, is_err, flat_
 ghost use Rattle.std.specs.Io.KnownBytes.{Appends};
 ghost use Rattle.cql_core.specs.Told.{Done, Based, Blocks, Refused};
 ghost use Rattle.cql_wire.specs.Watched.{inner_of, has_failed, Grows};
-ghost use Rattle.cql_wire.specs.Line.{value_text, row_text, rows_text, block_text, blocks_text, refused_line, told_line, fault_line, AppendsEither, GrowsEither, AppendsReply, GrowsReply};
+ghost use Rattle.cql_wire.specs.Line.{value_text, row_text, rows_text, block_text, blocks_text, refused_line, refused_at_line, told_line, fault_line, AppendsEither, GrowsEither, AppendsReply, GrowsReply};
 ghost use Rattle.cql_core.specs.Steps.{told_of};
 
 use crate::fault::LineFault;
@@ -161,13 +161,47 @@ pub fn write_base<W: Write>(writer: &mut Watched<W>, base: u64) -> Result<(), Wr
     write_pieces(writer, &["{\"base\":", digits, "}\n"])
 }
 
+// Writes the line of a refusal with the byte at which a text is refused.
+fn write_refused_at<W: Write>(
+    writer: &mut Watched<W>,
+    at: u64,
+    name: &str,
+    number: u64,
+) -> Result<(), WriteFault>
+    ensures ok { OnOk result (Appends (W.contents (inner_of writer.old)) (W.contents (inner_of writer.new)) (refused_at_line at name.now number)) }
+    ensures err { OnErr result (Grows (W.contents (inner_of writer.old)) (W.contents (inner_of writer.new)) (refused_at_line at name.now number)) }
+    ensures failed { has_failed writer.new ≡ (has_failed writer.old || is_err result) }
+{
+    let mut place = itoa::Buffer::new();
+    let place = place.format(at);
+    let mut digits = itoa::Buffer::new();
+    let digits = digits.format(number);
+    write_pieces(
+        writer,
+        &[
+            "{\"at\":",
+            place,
+            ",\"name\":\"",
+            name,
+            "\",\"refused\":",
+            digits,
+            "}\n",
+        ],
+    )
+}
+
 /// Writes the line of a refusal. Takes no memory.
 pub fn write_refusal<W: Write>(writer: &mut Watched<W>, refusal: Refusal) -> Result<(), WriteFault>
     ensures ok { OnOk result (Appends (W.contents (inner_of writer.old)) (W.contents (inner_of writer.new)) (told_line (Refused refusal))) }
     ensures err { OnErr result (Grows (W.contents (inner_of writer.old)) (W.contents (inner_of writer.new)) (told_line (Refused refusal))) }
     ensures failed { has_failed writer.new ≡ (has_failed writer.old || is_err result) }
 {
-    write_refused(writer, refusal.name(), refusal.number())
+    match refusal {
+        Refusal::BadQuery { at } => {
+            write_refused_at(writer, at as u64, refusal.name(), refusal.number())
+        }
+        _ => write_refused(writer, refusal.name(), refusal.number()),
+    }
 }
 
 /// Writes the line of a line that gives no command (10, 11, 12, 31 or 70). Takes no memory.

@@ -7,13 +7,13 @@ use std::io::{ErrorKind, Read, Write};
 use std::process::Abort;
 use std::test::Fail;
 
-const TENANTS: &str = concat!(
+pub(crate) const TENANTS: &str = concat!(
     "{\"tenants\":[",
     "{\"hold\":100,\"key\":\"ka\",\"name\":\"a\",\"queries\":8,\"result\":1000,\"streams\":8},",
     "{\"hold\":100,\"key\":\"kb\",\"name\":\"b\",\"queries\":8,\"result\":1000,\"streams\":8}]}\n",
 );
 
-const STREAM: &str =
+pub(crate) const STREAM: &str =
     "{\"columns\":[[\"v\",\"int\"]],\"do\":\"stream\",\"name\":\"s\",\"tenant\":\"a\"}\n";
 
 const QUERY: &str =
@@ -25,7 +25,7 @@ const BEAT: &str = "{\"at\":8,\"do\":\"beat\",\"stream\":\"s\",\"tenant\":\"a\"}
 
 const FETCH: &str = "{\"do\":\"fetch\",\"name\":\"q\",\"tenant\":\"a\"}\n";
 
-const DONE: &str = "{\"ok\":true}\n";
+pub(crate) const DONE: &str = "{\"ok\":true}\n";
 
 const BASE: &str = "{\"base\":0}\n";
 
@@ -107,7 +107,7 @@ fn outcome(
     Ok((status, said, written))
 }
 
-fn expect(
+pub(crate) fn expect(
     rt: &(impl Abort + Alloc<A = Global>),
     lines: &[&str],
     replies: &[&str],

@@ -1,5 +1,5 @@
 use Rattle.std.proofs.lemmas.Slice.Eq.{slice_eq-Decides}
-use Rattle.cql_core.proofs.Rows.{same-Decides}
+use Rattle.cql_core.proofs.Ties.{same-Decides}
 use Rattle.cql_core.proofs.output.are_same.Goals as goal
 
 pub returns : goal.returns

@@ -1,5 +1,5 @@
 use Rattle.std.proofs.Common.{◌≡◌, map, drop}
-use Rattle.cql_core.specs.Bag.{put_rows, bag_of}
+use Rattle.cql_bag.specs.Bag.{put_rows, bag_of}
 use Rattle.cql_core.proofs.relation.bag_of_rows.Given as goal
 
 -- the rows that are left make the whole

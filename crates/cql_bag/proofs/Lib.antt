@@ -1,0 +1,6 @@
+mod Counting
+mod Differences
+mod Entries
+mod Listing
+mod Making
+mod Rows

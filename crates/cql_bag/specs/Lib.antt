@@ -1,0 +1,4 @@
+pub mod Bag
+pub mod Changes
+pub mod Law
+pub mod Place

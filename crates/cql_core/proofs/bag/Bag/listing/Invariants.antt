@@ -1,7 +1,0 @@
-use Rattle.std.proofs.Common.{◌≡◌, take}
-use Rattle.cql_core.specs.Bag.{listing}
-use Rattle.cql_core.proofs.bag.Bag.listing.Given as goal
-
--- the entries so far are listed
-abbrev pub invariant-loop-entry : goal.invariant-loop-entry
-invariant-loop-entry l = l.rows.items ≡ listing (take l.entry-index l.entry-items)

@@ -1,0 +1,14 @@
+mod AllOf
+mod Choices
+mod Column
+mod Examples
+mod Expressions
+mod Groups
+mod Keys
+mod Member
+mod Overflow
+mod Plain
+mod Rows
+mod Ties
+mod Totals
+mod Values

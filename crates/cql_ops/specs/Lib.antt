@@ -1,0 +1,11 @@
+pub mod Exact
+pub mod Examples
+pub mod Groups
+pub mod Join
+pub mod JoinLaws
+pub mod Ports
+pub mod Shape
+pub mod ShapeLaws
+pub mod Typed
+pub mod Value
+pub mod ValueLaws

@@ -1,0 +1,44 @@
+// Each law once.
+use crate::OpError;
+use crate::law::{
+    bags_law, count_law, expression_examples, expression_law, fault_law, group_law,
+    grouped_column_law, groups_law, items_law, join_example, joined_law, joined_types_law, key_law,
+    keys_law, max_law, min_law, overflow_law, plain_law, product_law, shape_examples, sum_law,
+    whole_law,
+};
+use cql_plan::fit::fit_law;
+use std::alloc::AllocError;
+use std::test::Fail;
+
+#[test]
+fn no_memory(rt: HostRuntime) -> Result<(), Fail> {
+    assert_eq!(rt; OpError::from(AllocError), OpError::NoMemory);
+    Ok(())
+}
+
+#[test]
+fn laws() {
+    expression_law();
+    expression_examples();
+    items_law();
+    plain_law();
+    sum_law();
+    count_law();
+    min_law();
+    max_law();
+    key_law();
+    group_law();
+    grouped_column_law();
+    groups_law();
+    keys_law();
+    whole_law();
+    fit_law();
+    overflow_law();
+    shape_examples();
+    joined_law();
+    joined_types_law();
+    product_law();
+    join_example();
+    fault_law();
+    bags_law();
+}

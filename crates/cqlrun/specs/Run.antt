@@ -1,5 +1,5 @@
 -- What a run of the program leaves behind.
-use Rattle.std.specs.Prelude.{◌≡◌, ◌⊎◌, ◌≤◌, ⊤, ℕ, Bool, List, Option, Some, None, Result, Ok, Err}
+use Rattle.std.specs.Prelude.{◌≡◌, ◌⊎◌, ◌≤◌, ◌<◌, ◌+◌, ◌^◌, ⊤, ℕ, Bool, true, List, Option, Some, None, Result, Ok, Err}
 use Rattle.cql_core.specs.declared.tenants.Tenant.{Tenant}
 use Rattle.cql_wire.specs.First.{IsFirstLine, PassedOfFirst}
 use Rattle.cql_wire.specs.Table.{table_of}
@@ -40,3 +40,7 @@ IsRun before after old new writer_failed ending.Reading =
     Scripted before after old new writer_failed (Err Read) ⊎ (PassedOfFirst before after (λ n. n ≤ 65536) × (new ≡ old))
 IsRun before after old new writer_failed ending.Writing = Scripted before after old new writer_failed (Err Write)
 IsRun before after old new writer_failed ending.NoMemory = new ≡ old
+
+-- a failed read is told: the reader has failed, or 2^40 reads were made, if so many can be counted
+abbrev pub IsReadFault : Bool → ℕ → ℕ → Type 0
+IsReadFault reader_failed before after = (reader_failed ≡ true) ⊎ (before + 65537 + 2 ^ 40 < 2 ^ 64 → 2 ^ 40 ≤ after)

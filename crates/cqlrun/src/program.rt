@@ -1,9 +1,9 @@
 // The body of main, over any reader and writer.
-ghost use Rattle.std.specs.Prelude.{◌≡◌, ◌≢◌, [], false, IsOk, MatchResult};
-ghost use Rattle.cql_wire.specs.Watched.{inner_of, has_failed};
+ghost use Rattle.std.specs.Prelude.{◌≡◌, ◌≢◌, ◌≤◌, ◌+◌, [], true, false, Err, IsOk, MatchResult};
+ghost use Rattle.cql_wire.specs.Watched.{inner_of, has_failed, calls_of};
 ghost use Rattle.cqlrun.specs.declared.ending.Ending.{Ending};
 ghost use Rattle.cqlrun.specs.Ending.{status_of, text_of};
-ghost use Rattle.cqlrun.specs.Run.{TellsTable, EndsBefore, IsRun};
+ghost use Rattle.cqlrun.specs.Run.{TellsTable, EndsBefore, IsRun, IsReadFault};
 
 use crate::ending::Ending;
 use cql_core::TenantTable;
@@ -18,6 +18,8 @@ fn tenants<R: Read>(alloc: Global, reader: &mut Watched<R>) -> Result<TenantTabl
         (λ table. TellsTable (R.remaining (inner_of reader.old)) (R.remaining (inner_of reader.new)) table)
         (λ ending. EndsBefore (R.remaining (inner_of reader.old)) (R.remaining (inner_of reader.new)) ending) }
     ensures steady { IsOk result → has_failed reader.new ≡ false }
+    ensures calls { calls_of reader.new ≤ calls_of reader.old + 65537 }
+    ensures cause { result ≡ Err Ending.Reading → has_failed reader.new ≡ true }
 {
     let line = match first_line(alloc, reader) {
         Ok(line) => line,
@@ -40,8 +42,9 @@ fn ending<R: Read, W: Write>(
 ) -> Ending
     requires reader { has_failed reader.old ≡ false }
     requires writer { has_failed writer.old ≡ false }
-    ensures { IsRun (R.remaining (inner_of reader.old)) (R.remaining (inner_of reader.new))
+    ensures run { IsRun (R.remaining (inner_of reader.old)) (R.remaining (inner_of reader.new))
         (W.contents (inner_of writer.old)) (W.contents (inner_of writer.new)) (has_failed writer.new) result }
+    ensures cause { result ≡ Ending.Reading → IsReadFault (has_failed reader.new) (calls_of reader.old) (calls_of reader.new) }
 {
     let table = match tenants(alloc, reader) {
         Ok(table) => table,
@@ -70,6 +73,7 @@ pub fn program<R: Read, W: Write>(
     ensures run { words.now ≡ [] → (ending : Ending) × (result.0 ≡ status_of ending) × (result.1.now ≡ text_of ending)
         × IsRun (R.remaining (inner_of reader.old)) (R.remaining (inner_of reader.new))
         (W.contents (inner_of writer.old)) (W.contents (inner_of writer.new)) (has_failed writer.new) ending }
+    ensures cause { result.0 ≡ 3 → IsReadFault (has_failed reader.new) (calls_of reader.old) (calls_of reader.new) }
     ensures words { words.now ≢ [] → (result.0 ≡ 2) × (result.1.now ≡ text_of Ending.Words) }
     ensures untouched { words.now ≢ [] → (inner_of reader.new ≡ inner_of reader.old) × (inner_of writer.new ≡ inner_of writer.old) }
 {

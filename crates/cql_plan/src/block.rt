@@ -98,9 +98,9 @@ fn checked_of(
     ensures value { IfOk result (λ c. c ≡ spec.checked_of distinct sources.now condition groups items.now) }
     ensures kinds { IfOk result (λ c. HasKinds c.branch) }
 {
-    let kinds = kinds_in(alloc, items)?;
     let join = join_of(alloc, sources, condition)?;
     let shape = shape_of(alloc, sources, groups, items)?;
+    let kinds = kinds_in(alloc, items)?;
     let distinct = distinct_of(alloc, distinct, &kinds)?;
     let inputs = inputs_of(alloc, sources)?;
     Ok(Checked {

@@ -10,7 +10,7 @@ use std::alloc::{AllocError, Global};
 use std::cmp::Ordering;
 
 /// A side of a comparison: a column of the row, counted from 0, or a constant.
-#[derive(Debug, Drop)]
+#[derive(Debug)]
 pub enum Operand {
     Column(usize),
     Constant(Value),
@@ -37,6 +37,15 @@ fn compares(comparison: Comparison, order: Ordering) -> bool
         Comparison::LessOrEqual => !order.is_gt(),
         Comparison::Greater => order.is_gt(),
         Comparison::GreaterOrEqual => !order.is_lt(),
+    }
+}
+
+impl Drop for Operand {
+    fn drop(self) {
+        match self {
+            Operand::Column(_at) => {}
+            Operand::Constant(_value) => {}
+        }
     }
 }
 
@@ -99,14 +108,14 @@ impl Condition {
                 Ok(Condition::Not(Boxed::new(alloc, inner)?))
             }
             Condition::And(left, right) => {
-                let left = left.get().try_clone(alloc)?;
-                let right = right.get().try_clone(alloc)?;
-                Ok(Condition::And(Boxed::new(alloc, left)?, Boxed::new(alloc, right)?))
+                let left = Boxed::new(alloc, left.get().try_clone(alloc)?)?;
+                let right = Boxed::new(alloc, right.get().try_clone(alloc)?)?;
+                Ok(Condition::And(left, right))
             }
             Condition::Or(left, right) => {
-                let left = left.get().try_clone(alloc)?;
-                let right = right.get().try_clone(alloc)?;
-                Ok(Condition::Or(Boxed::new(alloc, left)?, Boxed::new(alloc, right)?))
+                let left = Boxed::new(alloc, left.get().try_clone(alloc)?)?;
+                let right = Boxed::new(alloc, right.get().try_clone(alloc)?)?;
+                Ok(Condition::Or(left, right))
             }
         }
     }

@@ -51,7 +51,7 @@ pub struct SetOp {
 }
 
 /// A step of the computation of a block or of two.
-#[derive(Debug, Drop)]
+#[derive(Debug)]
 pub enum Node {
     Join(Join),
     Shape(Shape),
@@ -144,6 +144,17 @@ impl SetOp {
             kind: self.kind,
             columns,
         })
+    }
+}
+
+impl Drop for Node {
+    fn drop(self) {
+        match self {
+            Node::Join(_join) => {}
+            Node::Shape(_shape) => {}
+            Node::Distinct(_columns) => {}
+            Node::SetOp(_op) => {}
+        }
     }
 }
 

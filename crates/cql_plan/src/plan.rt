@@ -8,7 +8,7 @@ use std::alloc::{AllocError, Global};
 use std::marker::Model;
 
 /// Which rows of an input count. A slide of 1 is no slide.
-#[derive(Debug, Drop)]
+#[derive(Debug)]
 pub enum Window {
     /// The last ticks, moved on each so many ticks.
     Range { length: u64, slide: u64 },
@@ -22,7 +22,7 @@ pub enum Window {
 }
 
 /// A stream that a plan reads, of an owner or the caller's own, through a window.
-#[derive(Debug, Drop)]
+#[derive(Debug)]
 pub struct Input {
     pub owner: Option<Name>,
     pub stream: Name,
@@ -31,7 +31,7 @@ pub struct Input {
 
 /// What is computed of a block: the join of its inputs, its items, and with DISTINCT each row
 /// once.
-#[derive(Debug, Drop)]
+#[derive(Debug)]
 pub struct Branch {
     pub join: Node,
     pub shape: Node,
@@ -53,7 +53,7 @@ pub enum OutputKind {
 
 /// What a plan says: the inputs of both blocks in order, the blocks, and the set operation where
 /// there are two.
-#[derive(Debug, Drop)]
+#[derive(Debug)]
 pub struct Planned {
     pub inputs: Items<Input>,
     pub first: Branch,
@@ -64,7 +64,7 @@ pub struct Planned {
 
 /// What is computed for a query: 1 or 2 blocks over its inputs. It is made by `resolve` alone, and
 /// contracts see what it says.
-#[derive(Debug, Drop)]
+#[derive(Debug)]
 pub struct Plan {
     planned: Planned,
 }
@@ -83,6 +83,23 @@ impl Model for Plan {
     ghost view = { λ p. p.planned };
 
     ghost invariant = { λ p. IsPlan p.planned };
+}
+
+impl Drop for Window {
+    fn drop(self) {
+        match self {
+            Window::Range {
+                length: _,
+                slide: _,
+            } => {}
+            Window::Rows { count: _, slide: _ } => {}
+            Window::All => {}
+            Window::Parts {
+                columns: _,
+                count: _,
+            } => {}
+        }
+    }
 }
 
 impl Window {
@@ -121,6 +138,16 @@ pub(crate) fn clone_name_if_any(name: &Option<Name>) -> Result<Option<Name>, All
     }
 }
 
+impl Drop for Input {
+    fn drop(self) {
+        let Input {
+            owner: _,
+            stream: _,
+            window: _,
+        } = self;
+    }
+}
+
 impl Input {
     /// A copy that equals it.
     pub fn try_clone(&self, alloc: Global) -> Result<Input, AllocError>
@@ -143,6 +170,16 @@ fn clone_node_if_any(alloc: Global, node: &Option<Node>) -> Result<Option<Node>,
     match node {
         None => Ok(None),
         Some(node) => Ok(Some(node.try_clone(alloc)?)),
+    }
+}
+
+impl Drop for Branch {
+    fn drop(self) {
+        let Branch {
+            join: _,
+            shape: _,
+            distinct: _,
+        } = self;
     }
 }
 
@@ -181,6 +218,18 @@ fn clone_inputs(alloc: Global, inputs: &[Input]) -> Result<Items<Input>, AllocEr
     Ok(copies)
 }
 
+impl Drop for Planned {
+    fn drop(self) {
+        let Planned {
+            inputs: _,
+            first: _,
+            second: _,
+            set_op: _,
+            output: _,
+        } = self;
+    }
+}
+
 impl Planned {
     // A copy that equals it.
     fn try_clone(&self, alloc: Global) -> Result<Planned, AllocError>
@@ -197,6 +246,12 @@ impl Planned {
             set_op,
             output: self.output,
         })
+    }
+}
+
+impl Drop for Plan {
+    fn drop(self) {
+        let Plan { planned: _ } = self;
     }
 }
 

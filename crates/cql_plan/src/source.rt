@@ -14,11 +14,21 @@ use cql_value::{Column, ColumnType, Items, Name};
 use std::alloc::{AllocError, Global};
 
 /// An input of a block: what the plan keeps of it, its alias and its columns.
-#[derive(Debug, Drop)]
+#[derive(Debug)]
 pub(crate) struct Source {
     pub(crate) input: Input,
     pub(crate) alias: Name,
     pub(crate) fields: Items<Field>,
+}
+
+impl Drop for Source {
+    fn drop(self) {
+        let Source {
+            input: _,
+            alias: _,
+            fields: _,
+        } = self;
+    }
 }
 
 // A column by which an input is parted: its place in the stream's own row.

@@ -161,14 +161,14 @@ fn condition_of(
         }
         syntax::Condition::Bracket(inner) => condition_of(alloc, fields, inner.get()),
         syntax::Condition::And(left, right) => {
-            let left = condition_of(alloc, fields, left.get())?;
-            let right = condition_of(alloc, fields, right.get())?;
-            Ok(Condition::And(Boxed::new(alloc, left)?, Boxed::new(alloc, right)?))
+            let left = Boxed::new(alloc, condition_of(alloc, fields, left.get())?)?;
+            let right = Boxed::new(alloc, condition_of(alloc, fields, right.get())?)?;
+            Ok(Condition::And(left, right))
         }
         syntax::Condition::Or(left, right) => {
-            let left = condition_of(alloc, fields, left.get())?;
-            let right = condition_of(alloc, fields, right.get())?;
-            Ok(Condition::Or(Boxed::new(alloc, left)?, Boxed::new(alloc, right)?))
+            let left = Boxed::new(alloc, condition_of(alloc, fields, left.get())?)?;
+            let right = Boxed::new(alloc, condition_of(alloc, fields, right.get())?)?;
+            Ok(Condition::Or(left, right))
         }
     }
 }

@@ -18,17 +18,35 @@ pub enum SetOperator {
 
 /// A name, perhaps with another before it and a dot between: a column with the alias of its
 /// input, or a stream with its owner.
-#[derive(Debug, Drop)]
+#[derive(Debug)]
 pub struct QualifiedName {
     pub qualifier: Option<Name>,
     pub name: Name,
 }
 
+impl Drop for QualifiedName {
+    fn drop(self) {
+        let QualifiedName {
+            qualifier: _,
+            name: _,
+        } = self;
+    }
+}
+
 /// A number of 64 bits with a sign, or a text.
-#[derive(Debug, Drop)]
+#[derive(Debug)]
 pub enum Constant {
     Number(i64),
     Text(Text),
+}
+
+impl Drop for Constant {
+    fn drop(self) {
+        match self {
+            Constant::Number(_a) => {}
+            Constant::Text(_a) => {}
+        }
+    }
 }
 
 /// What an expression does with two numbers.
@@ -57,38 +75,80 @@ pub enum Function {
 }
 
 /// `COUNT(*)`, or a function of a column.
-#[derive(Debug, Drop)]
+#[derive(Debug)]
 pub enum Aggregate {
     Count,
     Over(Function, QualifiedName),
 }
 
+impl Drop for Aggregate {
+    fn drop(self) {
+        match self {
+            Aggregate::Count => {}
+            Aggregate::Over(_a, _b) => {}
+        }
+    }
+}
+
 /// What an item shows.
-#[derive(Debug, Drop)]
+#[derive(Debug)]
 pub enum Shown {
     Expression(Expression),
     Aggregate(Aggregate),
 }
 
+impl Drop for Shown {
+    fn drop(self) {
+        match self {
+            Shown::Expression(_a) => {}
+            Shown::Aggregate(_a) => {}
+        }
+    }
+}
+
 /// An item of a block, and the name that it is given.
-#[derive(Debug, Drop)]
+#[derive(Debug)]
 pub struct Item {
     pub shown: Shown,
     pub alias: Option<Name>,
 }
 
+impl Drop for Item {
+    fn drop(self) {
+        let Item { shown: _, alias: _ } = self;
+    }
+}
+
 /// What a block shows: `*`, or one item and more.
-#[derive(Debug, Drop)]
+#[derive(Debug)]
 pub enum Selection {
     All,
     List(Items<Item>),
 }
 
+impl Drop for Selection {
+    fn drop(self) {
+        match self {
+            Selection::All => {}
+            Selection::List(_a) => {}
+        }
+    }
+}
+
 /// A side of a comparison.
-#[derive(Debug, Drop)]
+#[derive(Debug)]
 pub enum Operand {
     Constant(Constant),
     Column(QualifiedName),
+}
+
+impl Drop for Operand {
+    fn drop(self) {
+        match self {
+            Operand::Constant(_a) => {}
+            Operand::Column(_a) => {}
+        }
+    }
 }
 
 /// How two operands are compared.
@@ -113,7 +173,7 @@ pub enum Condition {
 }
 
 /// Which rows of an input count. A slide of 1 is no slide.
-#[derive(Debug, Drop)]
+#[derive(Debug)]
 pub enum Window {
     /// The last ticks, moved on each so many ticks: 0 to 2^62 - 1, and 1 to 2^62 - 1.
     Range(u64, u64),
@@ -125,16 +185,37 @@ pub enum Window {
     Partition(Items<Name>, u64),
 }
 
+impl Drop for Window {
+    fn drop(self) {
+        match self {
+            Window::Range(_a, _b) => {}
+            Window::Rows(_a, _b) => {}
+            Window::Unbounded => {}
+            Window::Partition(_a, _b) => {}
+        }
+    }
+}
+
 /// A stream that a block reads, its window, and the name that it is given.
-#[derive(Debug, Drop)]
+#[derive(Debug)]
 pub struct Input {
     pub stream: QualifiedName,
     pub window: Window,
     pub alias: Option<Name>,
 }
 
+impl Drop for Input {
+    fn drop(self) {
+        let Input {
+            stream: _,
+            window: _,
+            alias: _,
+        } = self;
+    }
+}
+
 /// One SELECT. It has 1 to 3 inputs, and no column to group by where GROUP BY is missing.
-#[derive(Debug, Drop)]
+#[derive(Debug)]
 pub struct Block {
     pub distinct: bool,
     pub selection: Selection,
@@ -143,17 +224,48 @@ pub struct Block {
     pub groups: Items<QualifiedName>,
 }
 
+impl Drop for Block {
+    fn drop(self) {
+        let Block {
+            distinct: _,
+            selection: _,
+            inputs: _,
+            condition: _,
+            groups: _,
+        } = self;
+    }
+}
+
 /// A second block and what stands before it.
-#[derive(Debug, Drop)]
+#[derive(Debug)]
 pub struct Second {
     pub operator: SetOperator,
     pub block: Block,
 }
 
+impl Drop for Second {
+    fn drop(self) {
+        let Second {
+            operator: _,
+            block: _,
+        } = self;
+    }
+}
+
 /// A whole query.
-#[derive(Debug, Drop)]
+#[derive(Debug)]
 pub struct Query {
     pub output: Option<StreamOperator>,
     pub first: Block,
     pub second: Option<Second>,
+}
+
+impl Drop for Query {
+    fn drop(self) {
+        let Query {
+            output: _,
+            first: _,
+            second: _,
+        } = self;
+    }
 }

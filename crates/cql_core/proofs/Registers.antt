@@ -8,7 +8,7 @@ use Rattle.cql_core.specs.declared.plan.Plan.{Plan}
 use Rattle.cql_core.specs.declared.refusal.Refusal.{Refusal}
 use Rattle.cql_core.specs.declared.refusal.Refusal.TheVariants.{UnknownStream}
 use Rattle.cql_core.specs.declared.state.StreamState.{StreamState}
-use Rattle.cql_text.specs.declared.syntax.Query.{Query}
+use Rattle.cql_syntax.specs.declared.syntax.Query.{Query}
 use Rattle.cql_text.specs.Read.{read_of}
 use Rattle.cql_core.specs.Planned.{planned}
 use Rattle.cql_core.specs.Prepared.{query_checked, or_bad_query}

@@ -17,7 +17,7 @@ use Rattle.cql_plan.specs.declared.error.PlanError.TheVariants as fault
 use Rattle.cql_plan.specs.declared.plan.Planned.{Planned}
 use Rattle.cql_plan.specs.Sources.{Readable}
 use Rattle.cql_plan.specs.Typing.{typing}
-use Rattle.cql_text.specs.declared.syntax.Query.{Query as Written}
+use Rattle.cql_syntax.specs.declared.syntax.Query.{Query as Written}
 use Rattle.cql_text.specs.Read.{read_of}
 use Rattle.cql_core.specs.Planned.{refusal_of, served_plan, or_not_yet, or_refusal, typed_as, planned, planned_from, plan_of}
 use Rattle.cql_core.specs.Checks.{schema_of, Clocked, time_told, put_told, beat_told, stream_told, base_told, plan_told, query_told}

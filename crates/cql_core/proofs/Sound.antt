@@ -16,8 +16,8 @@ use Rattle.cql_plan.specs.Sources.{Readable}
 use Rattle.cql_plan.specs.Typing.{typing}
 use Rattle.cql_core.specs.declared.refusal.Refusal.{Refusal}
 use Rattle.cql_plan.specs.declared.plan.Planned.{Planned}
-use Rattle.cql_text.specs.declared.syntax.Input.{Input}
-use Rattle.cql_text.specs.declared.syntax.Query.{Query as Written}
+use Rattle.cql_syntax.specs.declared.syntax.Input.{Input}
+use Rattle.cql_syntax.specs.declared.syntax.Query.{Query as Written}
 use Rattle.cql_text.specs.Read.{read_of}
 use Rattle.cql_core.specs.Planned.{plain_range, served_input, plan_with, served_plan, or_refusal, typed_as, planned, or_not_yet, planned_from, plan_in, plan_of}
 use Rattle.cql_core.specs.Relation.{IsPin}

@@ -1,17 +1,17 @@
 -- The plan of a query text to a tenant that reads these streams.
 use Rattle.std.specs.Prelude.{ℕ, Bool, ◌&&◌, ◌==◌, true, false, not, List, [], ◌∷◌, is_some, Option, Some, None, option_map, option_and_then, Result, Ok, Err, if◌then◌else◌}
 use Rattle.cql_value.specs.declared.schema.Column.{Column}
-use Rattle.cql_text.specs.declared.syntax.StreamOperator.{StreamOperator}
-use Rattle.cql_text.specs.declared.syntax.StreamOperator.TheVariants as stream
-use Rattle.cql_text.specs.declared.syntax.Window.{Window as WrittenWindow}
-use Rattle.cql_text.specs.declared.syntax.Window.TheVariants as written
-use Rattle.cql_text.specs.declared.syntax.Input.{Input}
-use Rattle.cql_text.specs.declared.syntax.Selection.{Selection}
-use Rattle.cql_text.specs.declared.syntax.Selection.TheVariants as selection
-use Rattle.cql_text.specs.declared.syntax.Block.{Block}
-use Rattle.cql_text.specs.declared.syntax.Query.{Query}
+use Rattle.cql_syntax.specs.declared.syntax.StreamOperator.{StreamOperator}
+use Rattle.cql_syntax.specs.declared.syntax.StreamOperator.TheVariants as stream
+use Rattle.cql_syntax.specs.declared.syntax.WrittenWindow.{WrittenWindow}
+use Rattle.cql_syntax.specs.declared.syntax.WrittenWindow.TheVariants as written
+use Rattle.cql_syntax.specs.declared.syntax.Input.{Input}
+use Rattle.cql_syntax.specs.declared.syntax.Selection.{Selection}
+use Rattle.cql_syntax.specs.declared.syntax.Selection.TheVariants as selection
+use Rattle.cql_syntax.specs.declared.syntax.SelectBlock.{SelectBlock}
+use Rattle.cql_syntax.specs.declared.syntax.Query.{Query}
 use Rattle.cql_text.specs.Read.{read_of}
-use Rattle.cql_text.specs.Spelling.{canonical}
+use Rattle.cql_syntax.specs.Spelling.{canonical}
 use Rattle.cql_plan.specs.declared.error.PlanError.{PlanError}
 use Rattle.cql_plan.specs.declared.error.PlanError.TheVariants as fault
 use Rattle.cql_plan.specs.declared.plan.Planned.{Planned}
@@ -62,7 +62,7 @@ sole (x ∷ []) = Some x
 sole (x ∷ y ∷ xs) = None
 
 -- the one input of a block that shows all columns of all its rows
-abbrev pub plain_input : Block → Option Input
+abbrev pub plain_input : SelectBlock → Option Input
 plain_input block =
     if not block.distinct && (is_all block.selection && (not (is_some block.condition) && is_none_of block.groups)) then sole block.inputs else None
 

@@ -2,7 +2,7 @@
 use Rattle.std.specs.Prelude.{◌≡◌, ℕ, List, Option, Some, None, Result, Ok, Err, if◌then◌else◌}
 use Rattle.cql_value.specs.declared.schema.Column.{Column}
 use Rattle.cql_value.specs.Name.{is_name}
-use Rattle.cql_text.specs.declared.syntax.Query.{Query}
+use Rattle.cql_syntax.specs.declared.syntax.Query.{Query}
 use Rattle.cql_text.specs.Read.{read_of}
 use Rattle.cql_core.specs.declared.command.ColumnText.{ColumnText}
 use Rattle.cql_core.specs.declared.command.Command.{Command}

@@ -12,9 +12,11 @@ use crate::state::Home;
 use cql_plan::error::PlanError;
 use cql_plan::lookup::Lookup;
 use cql_plan::plan::Plan as Typed;
-use cql_plan::resolve::resolve;
-use cql_text::read::Syntax;
-use cql_text::syntax::{Block, Input, Query, Selection, StreamOperator, Window as Written};
+use cql_plan::resolve;
+use cql_text::Syntax;
+use cql_syntax::syntax::{
+    Input, Query, SelectBlock, Selection, StreamOperator, WrittenWindow,
+};
 use cql_value::{Schema, Text};
 use cql_window::Window;
 use std::alloc::{AllocError, Global};
@@ -63,17 +65,17 @@ impl Lookup for Reader<'_> {
 }
 
 // The ticks of a range without a slide.
-fn plain_range(window: &Written) -> Option<u64>
+fn plain_range(window: &WrittenWindow) -> Option<u64>
     ensures { result ≡ plain_range window.now }
 {
     match window {
-        Written::Range(ticks, 1) => Some(*ticks),
+        WrittenWindow::Range(ticks, 1) => Some(*ticks),
         _ => None,
     }
 }
 
 // The one input of a block that shows all columns of all its rows.
-fn plain_input(block: &Block) -> Option<&Input>
+fn plain_input(block: &SelectBlock) -> Option<&Input>
     ensures { option_copied result ≡ plain_input block.now }
 {
     let shows_all = matches!(block.selection, Selection::All) && !block.distinct;

@@ -6,7 +6,7 @@ ghost use Rattle.cql_core.specs.Prepared.{schema_checked, query_checked, IsReady
 
 use crate::command::{ColumnText, Command};
 use crate::refusal::Refusal;
-use cql_text::read::{ReadError, Syntax, read};
+use cql_text::{ReadError, Syntax, read};
 use cql_value::name::is_name;
 use cql_value::{Column, ColumnType, Items, Name, NameError, Schema, Text, Timed};
 use std::alloc::{AllocError, Global};

@@ -20,7 +20,7 @@ use crate::reply::{Reply, Step};
 use crate::shared::Shared;
 use crate::shelf::Shelf;
 use crate::state::{Home, QueryState, StreamState};
-use cql_text::read::Syntax;
+use cql_text::Syntax;
 use cql_value::{Items, Schema, Text, Timed};
 use std::alloc::{AllocError, Global};
 

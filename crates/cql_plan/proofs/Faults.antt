@@ -3,29 +3,29 @@ use Rattle.std.proofs.Common.{Bool, true, false, ◌&&◌, ◌||◌, not, ℕ, L
 use Rattle.std.specs.Prelude.{◌≢◌, Option, Some, None, Ok, Err}
 use Rattle.cql_value.specs.declared.schema.Column.{Column}
 use Rattle.cql_value.specs.declared.schema.ColumnType.TheVariants.{Number}
-use Rattle.cql_text.specs.declared.syntax.Operation.{Operation}
-use Rattle.cql_text.specs.declared.syntax.Expression.{Expression, map-Expression, roll-Expression}
-use Rattle.cql_text.specs.declared.syntax.Expression.TheOpen.{Expression-F}
-use Rattle.cql_text.specs.declared.syntax.Expression.TheFolds.{fold-roll-Expression, ind-Expression}
-use Rattle.cql_text.specs.declared.syntax.Function.{Function}
-use Rattle.cql_text.specs.declared.syntax.Function.TheVariants.{Sum, Min, Max}
-use Rattle.cql_text.specs.declared.syntax.Aggregate.TheVariants as aggregate
-use Rattle.cql_text.specs.declared.syntax.Shown.{Shown}
-use Rattle.cql_text.specs.declared.syntax.Shown.TheVariants as shown
-use Rattle.cql_text.specs.declared.syntax.Selection.{Selection}
-use Rattle.cql_text.specs.declared.syntax.Selection.TheVariants as selection
-use Rattle.cql_text.specs.declared.syntax.Operand.{Operand}
-use Rattle.cql_text.specs.declared.syntax.Operand.TheVariants as operand
-use Rattle.cql_text.specs.declared.syntax.Comparison.{Comparison}
-use Rattle.cql_text.specs.declared.syntax.Condition.{Condition as WrittenCondition, map-Condition, roll-Condition}
-use Rattle.cql_text.specs.declared.syntax.Condition.TheOpen.{Condition-F}
-use Rattle.cql_text.specs.declared.syntax.Condition.TheFolds.{fold-roll-Condition, ind-Condition}
-use Rattle.cql_text.specs.declared.syntax.Window.{Window}
-use Rattle.cql_text.specs.declared.syntax.Window.TheVariants as written
-use Rattle.cql_text.specs.declared.syntax.Input.{Input}
-use Rattle.cql_text.specs.declared.syntax.Block.{Block}
-use Rattle.cql_text.specs.declared.syntax.Second.{Second}
-use Rattle.cql_text.specs.declared.syntax.Query.{Query}
+use Rattle.cql_syntax.specs.declared.syntax.Operation.{Operation}
+use Rattle.cql_syntax.specs.declared.syntax.Expression.{Expression, map-Expression, roll-Expression}
+use Rattle.cql_syntax.specs.declared.syntax.Expression.TheOpen.{Expression-F}
+use Rattle.cql_syntax.specs.declared.syntax.Expression.TheFolds.{fold-roll-Expression, ind-Expression}
+use Rattle.cql_syntax.specs.declared.syntax.Function.{Function}
+use Rattle.cql_syntax.specs.declared.syntax.Function.TheVariants.{Sum, Min, Max}
+use Rattle.cql_syntax.specs.declared.syntax.Aggregate.TheVariants as aggregate
+use Rattle.cql_syntax.specs.declared.syntax.Shown.{Shown}
+use Rattle.cql_syntax.specs.declared.syntax.Shown.TheVariants as shown
+use Rattle.cql_syntax.specs.declared.syntax.Selection.{Selection}
+use Rattle.cql_syntax.specs.declared.syntax.Selection.TheVariants as selection
+use Rattle.cql_syntax.specs.declared.syntax.Operand.{Operand}
+use Rattle.cql_syntax.specs.declared.syntax.Operand.TheVariants as operand
+use Rattle.cql_syntax.specs.declared.syntax.Comparison.{Comparison}
+use Rattle.cql_syntax.specs.declared.syntax.Condition.{Condition as WrittenCondition, map-Condition, roll-Condition}
+use Rattle.cql_syntax.specs.declared.syntax.Condition.TheOpen.{Condition-F}
+use Rattle.cql_syntax.specs.declared.syntax.Condition.TheFolds.{fold-roll-Condition, ind-Condition}
+use Rattle.cql_syntax.specs.declared.syntax.WrittenWindow.{WrittenWindow}
+use Rattle.cql_syntax.specs.declared.syntax.WrittenWindow.TheVariants as written
+use Rattle.cql_syntax.specs.declared.syntax.Input.{Input}
+use Rattle.cql_syntax.specs.declared.syntax.SelectBlock.{SelectBlock}
+use Rattle.cql_syntax.specs.declared.syntax.Second.{Second}
+use Rattle.cql_syntax.specs.declared.syntax.Query.{Query}
 use Rattle.cql_plan.specs.declared.error.PlanError.{PlanError}
 use Rattle.cql_plan.specs.declared.error.PlanError.TheVariants.{AmbiguousColumn, TypeMismatch, NoMemory}
 use Rattle.cql_plan.specs.declared.condition.Condition.{Condition}
@@ -76,7 +76,7 @@ column_tells qualifier name fields = the_one_tells (meant qualifier name 0 field
 
 -- ---- inputs
 
-window_tells : (fields : List Field) (window : Window) → Tells (window_of fields window)
+window_tells : (fields : List Field) (window : WrittenWindow) → Tells (window_of fields window)
 unfolding window_of
 window_tells fields (written.Range length slide) = tt
 window_tells fields (written.Rows count slide) = tt
@@ -177,14 +177,14 @@ items_tell fields grouped groups (selection.List items) = each_tells (item_of fi
 
 -- ---- blocks
 
-body_tells : (sources : List Source) (block : Block) → Tells (body_of sources block)
+body_tells : (sources : List Source) (block : SelectBlock) → Tells (body_of sources block)
 unfolding body_of
 body_tells sources block =
     bind (where_of (joined_row sources) block.condition) _ (where_tells (joined_row sources) block.condition) (λ condition.
     bind (each (group_of (joined_row sources)) block.groups) _ (each_tells (group_of (joined_row sources)) block.groups (λ column. bind (column_of (joined_row sources) column) _ (column_tells column.qualifier column.name (joined_row sources)) (λ found. tt))) (λ groups.
     bind (items_of (joined_row sources) (is_grouped block) groups block.selection) _ (items_tell (joined_row sources) (is_grouped block) groups block.selection) (λ items. tt)))
 
-block_tells : (readable : Readable) (block : Block) → Tells (block_of readable block)
+block_tells : (readable : Readable) (block : SelectBlock) → Tells (block_of readable block)
 unfolding block_of
 block_tells readable block =
     bind (each (source_of readable) block.inputs) _ (each_tells (source_of readable) block.inputs (source_tells readable)) (λ sources.

@@ -2,12 +2,12 @@
 use Rattle.std.proofs.Common.{◌≡◌, ◌≤◌, suc, ◌+◌, List, [], ◌∷◌, ◌++◌, length, refl, ap, ◌∙◌, subst, arith, inl, inr}
 use Rattle.std.specs.Prelude.{Option, Some, None, IfSome, Ok, Err, Bool}
 use Rattle.std.proofs.lemmas.List.{length-append, length-map}
-use Rattle.cql_text.specs.declared.syntax.Input.{Input}
-use Rattle.cql_text.specs.declared.syntax.Block.{Block}
-use Rattle.cql_text.specs.declared.syntax.Second.{Second}
-use Rattle.cql_text.specs.declared.syntax.Selection.{Selection}
-use Rattle.cql_text.specs.declared.syntax.Query.{Query}
-use Rattle.cql_text.specs.Tokens.{Tokens}
+use Rattle.cql_syntax.specs.declared.syntax.Input.{Input}
+use Rattle.cql_syntax.specs.declared.syntax.SelectBlock.{SelectBlock}
+use Rattle.cql_syntax.specs.declared.syntax.Second.{Second}
+use Rattle.cql_syntax.specs.declared.syntax.Selection.{Selection}
+use Rattle.cql_syntax.specs.declared.syntax.Query.{Query}
+use Rattle.cql_syntax.specs.Tokens.{Tokens}
 use Rattle.cql_text.specs.Rules.{optional}
 use Rattle.cql_text.specs.Grammar.{IsInputs, IsRest, IsSelected, IsBlock, IsSecond, IsOuter, IsInner, IsWhole, IsQuery}
 use Rattle.cql_text.specs.Read.{IsSyntax}
@@ -39,14 +39,14 @@ inputs_few ts inputs rest (first, us, is, (Some further, vs, (second, ws, comma,
     let rest_two : 2 ≡ length further = ap length two in
     (omega arith, omega arith)
 
-rest_few : (distinct : Bool) (selection : Selection) (ts : Tokens) (block : Block) (rest : Tokens) → IsRest distinct selection ts block rest → Few block.inputs
+rest_few : (distinct : Bool) (selection : Selection) (ts : Tokens) (block : SelectBlock) (rest : Tokens) → IsRest distinct selection ts block rest → Few block.inputs
 rest_few distinct selection ts block rest (x, us, from, (inputs, vs, are, (condition, ws, cond, (groups, xs, group, (same, end))))) =
-    let P : Block → Type 0 = λ b. Few b.inputs in subst P same (inputs_few us inputs vs are)
+    let P : SelectBlock → Type 0 = λ b. Few b.inputs in subst P same (inputs_few us inputs vs are)
 
-selected_few : (ts : Tokens) (block : Block) (rest : Tokens) → IsSelected ts block rest → Few block.inputs
+selected_few : (ts : Tokens) (block : SelectBlock) (rest : Tokens) → IsSelected ts block rest → Few block.inputs
 selected_few ts block rest (distinct, us, d, (selection, vs, s, r)) = rest_few distinct selection vs block rest r
 
-block_few : (ts : Tokens) (block : Block) (rest : Tokens) → IsBlock ts block rest → Few block.inputs
+block_few : (ts : Tokens) (block : SelectBlock) (rest : Tokens) → IsBlock ts block rest → Few block.inputs
 block_few ts block rest (x, us, select, s) = selected_few us block rest s
 
 abbrev pub SecondFew : Option Second → Type 0
@@ -97,7 +97,7 @@ each_length {A} {B} check (x ∷ xs) ys so =
     let same : ys ≡ one.0 ∷ two.0 = cc (two.2) in
     ap length same ∙ ap (λ n. suc n) (each_length check xs two.0 two.1)
 
-body_length : (sources : List Source) (block : Block) (checked : Checked) → body_of sources block ≡ Ok checked → length checked.inputs ≡ length sources
+body_length : (sources : List Source) (block : SelectBlock) (checked : Checked) → body_of sources block ≡ Ok checked → length checked.inputs ≡ length sources
 unfolding body_of
 body_length sources block checked so =
     let one = passes (where_of (joined_row sources) block.condition) _ checked so in
@@ -106,7 +106,7 @@ body_length sources block checked so =
     let same : checked ≡ checked_of block.distinct sources one.0 two.0 three.0 = cc (three.2) in
     ap (λ (c : Checked). length c.inputs) same ∙ length-map sources _
 
-block_length : (readable : Readable) (block : Block) (checked : Checked) → block_of readable block ≡ Ok checked → length checked.inputs ≡ length block.inputs
+block_length : (readable : Readable) (block : SelectBlock) (checked : Checked) → block_of readable block ≡ Ok checked → length checked.inputs ≡ length block.inputs
 unfolding block_of
 block_length readable block checked so =
     let one = passes (each (source_of readable) block.inputs) _ checked so in

@@ -4,13 +4,13 @@ use Rattle.std.specs.List.{AllZip, Contains, list_any, slice_index_or}
 use Rattle.std.proofs.lemmas.Bool.Decides.{nat_tests}
 use Rattle.cql_value.specs.declared.schema.ColumnType.{ColumnType}
 use Rattle.cql_value.specs.declared.schema.ColumnType.TheVariants.{Number, Text}
-use Rattle.cql_text.specs.declared.syntax.QualifiedName.{QualifiedName}
-use Rattle.cql_text.specs.declared.syntax.Constant.{Constant as WrittenConstant}
-use Rattle.cql_text.specs.declared.syntax.Constant.TheVariants as constant
-use Rattle.cql_text.specs.declared.syntax.Operation.{Operation}
-use Rattle.cql_text.specs.declared.syntax.Expression.{Expression, map-Expression, roll-Expression}
-use Rattle.cql_text.specs.declared.syntax.Expression.TheOpen.{Expression-F}
-use Rattle.cql_text.specs.declared.syntax.Expression.TheFolds.{fold-roll-Expression, ind-Expression}
+use Rattle.cql_syntax.specs.declared.syntax.QualifiedName.{QualifiedName}
+use Rattle.cql_syntax.specs.declared.syntax.Constant.{Constant as WrittenConstant}
+use Rattle.cql_syntax.specs.declared.syntax.Constant.TheVariants as constant
+use Rattle.cql_syntax.specs.declared.syntax.Operation.{Operation}
+use Rattle.cql_syntax.specs.declared.syntax.Expression.{Expression, map-Expression, roll-Expression}
+use Rattle.cql_syntax.specs.declared.syntax.Expression.TheOpen.{Expression-F}
+use Rattle.cql_syntax.specs.declared.syntax.Expression.TheFolds.{fold-roll-Expression, ind-Expression}
 use Rattle.cql_plan.specs.declared.error.PlanError.{PlanError}
 use Rattle.cql_plan.specs.declared.expr.Expr.{Expr, roll-Expr}
 use Rattle.cql_plan.specs.declared.expr.Expr.TheOpen.{Expr-F}

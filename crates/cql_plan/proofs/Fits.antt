@@ -4,17 +4,17 @@ use Rattle.std.specs.Prelude.{IfSome}
 use Rattle.std.specs.List.{AllByRecursion, AllZip, list_any}
 use Rattle.std.proofs.lemmas.List.{map-append}
 use Rattle.cql_value.specs.declared.schema.ColumnType.TheVariants.{Number}
-use Rattle.cql_text.specs.declared.syntax.QualifiedName.{QualifiedName}
-use Rattle.cql_text.specs.declared.syntax.Function.{Function}
-use Rattle.cql_text.specs.declared.syntax.Function.TheVariants.{Sum, Min, Max}
-use Rattle.cql_text.specs.declared.syntax.Aggregate.TheVariants as aggregate
-use Rattle.cql_text.specs.declared.syntax.Shown.{Shown}
-use Rattle.cql_text.specs.declared.syntax.Shown.TheVariants as shown
-use Rattle.cql_text.specs.declared.syntax.Item.{Item as WrittenItem}
-use Rattle.cql_text.specs.declared.syntax.Selection.{Selection}
-use Rattle.cql_text.specs.declared.syntax.Selection.TheVariants as selection
-use Rattle.cql_text.specs.declared.syntax.Block.{Block}
-use Rattle.cql_text.specs.declared.syntax.Second.{Second}
+use Rattle.cql_syntax.specs.declared.syntax.QualifiedName.{QualifiedName}
+use Rattle.cql_syntax.specs.declared.syntax.Function.{Function}
+use Rattle.cql_syntax.specs.declared.syntax.Function.TheVariants.{Sum, Min, Max}
+use Rattle.cql_syntax.specs.declared.syntax.Aggregate.TheVariants as aggregate
+use Rattle.cql_syntax.specs.declared.syntax.Shown.{Shown}
+use Rattle.cql_syntax.specs.declared.syntax.Shown.TheVariants as shown
+use Rattle.cql_syntax.specs.declared.syntax.Item.{Item as WrittenItem}
+use Rattle.cql_syntax.specs.declared.syntax.Selection.{Selection}
+use Rattle.cql_syntax.specs.declared.syntax.Selection.TheVariants as selection
+use Rattle.cql_syntax.specs.declared.syntax.SelectBlock.{SelectBlock}
+use Rattle.cql_syntax.specs.declared.syntax.Second.{Second}
 use Rattle.cql_plan.specs.declared.expr.Expr.TheVariants as e
 use Rattle.cql_plan.specs.declared.node.Item.{Item}
 use Rattle.cql_plan.specs.declared.node.Item.TheVariants as i
@@ -165,7 +165,7 @@ plain_selection selection.All h = refl
 plain_selection (selection.List items) h = plain_all items h
 
 -- a shape has groups or aggregates only where its block has
-same_grouped : (block : Block) (b : Bool) (groups : List ℕ) (items : List Item) → is_written_grouped block ≡ b → (is_named block.groups ≡ false → groups ≡ []) → (is_plain_selection block.selection ≡ true → some_are is_aggregate items ≡ false) → (not (is_empty groups) || some_are is_aggregate items) ≡ true → b ≡ true
+same_grouped : (block : SelectBlock) (b : Bool) (groups : List ℕ) (items : List Item) → is_written_grouped block ≡ b → (is_named block.groups ≡ false → groups ≡ []) → (is_plain_selection block.selection ≡ true → some_are is_aggregate items ≡ false) → (not (is_empty groups) || some_are is_aggregate items) ≡ true → b ≡ true
 unfolding is_written_grouped
 same_grouped block true groups items is none plain h = refl
 same_grouped block false groups items is none plain h =
@@ -185,7 +185,7 @@ columns_of_row (s ∷ sources) = map-append (λ field. field.kind) s.fields (joi
 abbrev IsTypedChecked : Checked → Type 0
 IsTypedChecked c = IsTypedBlock c.branch
 
-body_typed : (sources : List Source) (block : Block) (c : Checked) → body_of sources block ≡ Ok c → IsTypedChecked c
+body_typed : (sources : List Source) (block : SelectBlock) (c : Checked) → body_of sources block ≡ Ok c → IsTypedChecked c
 unfolding body_of
 body_typed sources block c h =
     let fields = joined_row sources in
@@ -209,7 +209,7 @@ body_typed sources block c h =
       };
     })
 
-block_typed : (readable : Readable) (block : Block) (c : Checked) → block_of readable block ≡ Ok c → IsTypedChecked c
+block_typed : (readable : Readable) (block : SelectBlock) (c : Checked) → block_of readable block ≡ Ok c → IsTypedChecked c
 unfolding block_of
 block_typed readable block c h =
     let s = bound (each (source_of readable) block.inputs) (λ sources. unless (are_apart sources) _ >> body_of sources block) c h in

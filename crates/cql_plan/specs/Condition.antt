@@ -4,8 +4,8 @@ use Rattle.std.specs.declared.cmp.Ordering.{Ordering}
 use Rattle.std.specs.Ordering.{is_eq, is_lt, is_gt}
 use Rattle.cql_value.specs.Order.{value_cmp}
 use Rattle.cql_value.specs.declared.value.Value.{Value}
-use Rattle.cql_text.specs.declared.syntax.Comparison.{Comparison}
-use Rattle.cql_text.specs.declared.syntax.Comparison.TheVariants.{Equal, Unequal, Less, LessOrEqual, Greater, GreaterOrEqual}
+use Rattle.cql_syntax.specs.declared.syntax.Comparison.{Comparison}
+use Rattle.cql_syntax.specs.declared.syntax.Comparison.TheVariants.{Equal, Unequal, Less, LessOrEqual, Greater, GreaterOrEqual}
 use Rattle.cql_plan.specs.declared.condition.Operand.{Operand}
 use Rattle.cql_plan.specs.declared.condition.Operand.TheVariants.{Column, Constant}
 use Rattle.cql_plan.specs.declared.condition.Condition.{Condition, fold-Condition}

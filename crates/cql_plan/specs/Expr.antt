@@ -2,8 +2,8 @@
 use Rattle.std.specs.Prelude.{◌^◌, ℤ, pos, negsuc, ◌+ℤ◌, ◌-ℤ◌, ◌*ℤ◌, List, Option, Some, None, Bool, nat_lt, if◌then◌else◌, slice_get}
 use Rattle.cql_value.specs.declared.value.Value.{Value}
 use Rattle.cql_value.specs.declared.value.Value.TheVariants.{Number, Text}
-use Rattle.cql_text.specs.declared.syntax.Operation.{Operation}
-use Rattle.cql_text.specs.declared.syntax.Operation.TheVariants.{Add, Subtract, Multiply}
+use Rattle.cql_syntax.specs.declared.syntax.Operation.{Operation}
+use Rattle.cql_syntax.specs.declared.syntax.Operation.TheVariants.{Add, Subtract, Multiply}
 use Rattle.cql_plan.specs.declared.expr.Expr.{Expr, fold-Expr}
 use Rattle.cql_plan.specs.declared.expr.Expr.TheOpen.{Expr-F}
 

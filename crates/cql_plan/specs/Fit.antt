@@ -5,7 +5,7 @@ use Rattle.cql_value.specs.declared.value.Value.{Value}
 use Rattle.cql_value.specs.declared.value.Value.TheVariants as value
 use Rattle.cql_value.specs.declared.schema.ColumnType.{ColumnType}
 use Rattle.cql_value.specs.declared.schema.ColumnType.TheVariants.{Number, Text}
-use Rattle.cql_text.specs.declared.syntax.Query.{Query}
+use Rattle.cql_syntax.specs.declared.syntax.Query.{Query}
 use Rattle.cql_plan.specs.declared.expr.Expr.{Expr, fold-Expr}
 use Rattle.cql_plan.specs.declared.expr.Expr.TheOpen.{Expr-F}
 use Rattle.cql_plan.specs.declared.expr.Expr.TheVariants as expr

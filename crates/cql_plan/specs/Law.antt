@@ -2,10 +2,10 @@
 use Rattle.std.specs.Prelude.{◌≡◌, ◌≢◌, ◌<◌, ℕ, Bool, true, List, length, slice_get, Option, Some, Ok, Err, ◌⊎◌}
 use Rattle.cql_value.specs.declared.schema.Column.{Column}
 use Rattle.cql_value.specs.Schema.{are_distinct}
-use Rattle.cql_text.specs.declared.syntax.Input.{Input}
-use Rattle.cql_text.specs.declared.syntax.Item.{Item}
-use Rattle.cql_text.specs.declared.syntax.QualifiedName.{QualifiedName}
-use Rattle.cql_text.specs.declared.syntax.Query.{Query}
+use Rattle.cql_syntax.specs.declared.syntax.Input.{Input}
+use Rattle.cql_syntax.specs.declared.syntax.Item.{Item}
+use Rattle.cql_syntax.specs.declared.syntax.QualifiedName.{QualifiedName}
+use Rattle.cql_syntax.specs.declared.syntax.Query.{Query}
 use Rattle.cql_plan.specs.declared.error.PlanError.{PlanError}
 use Rattle.cql_plan.specs.declared.error.PlanError.TheVariants.{UnknownColumn, AmbiguousColumn, NoMemory}
 use Rattle.cql_plan.specs.declared.row.Field.{Field}

@@ -4,9 +4,9 @@ use Rattle.std.specs.List.{list_any}
 use Rattle.std.specs.Str.{bytes_eq}
 use Rattle.cql_value.specs.declared.schema.Column.{Column}
 use Rattle.cql_value.specs.declared.schema.ColumnType.{ColumnType}
-use Rattle.cql_text.specs.declared.syntax.Window.{Window as WrittenWindow}
-use Rattle.cql_text.specs.declared.syntax.Window.TheVariants as written
-use Rattle.cql_text.specs.declared.syntax.Input.{Input as WrittenInput}
+use Rattle.cql_syntax.specs.declared.syntax.WrittenWindow.{WrittenWindow}
+use Rattle.cql_syntax.specs.declared.syntax.WrittenWindow.TheVariants as written
+use Rattle.cql_syntax.specs.declared.syntax.Input.{Input as WrittenInput}
 use Rattle.cql_plan.specs.declared.error.PlanError.TheVariants.{UnknownStream}
 use Rattle.cql_plan.specs.declared.plan.Window.{Window}
 use Rattle.cql_plan.specs.declared.plan.Window.TheVariants.{Range, Rows, All, Parts}

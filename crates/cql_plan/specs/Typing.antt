@@ -5,32 +5,32 @@ use Rattle.cql_value.specs.declared.schema.ColumnType.{ColumnType}
 use Rattle.cql_value.specs.declared.schema.ColumnType.TheVariants.{Number, Text}
 use Rattle.cql_value.specs.declared.value.Value.{Value}
 use Rattle.cql_value.specs.declared.value.Value.TheVariants as value
-use Rattle.cql_text.specs.declared.syntax.QualifiedName.{QualifiedName}
-use Rattle.cql_text.specs.declared.syntax.Constant.{Constant as WrittenConstant}
-use Rattle.cql_text.specs.declared.syntax.Constant.TheVariants as constant
-use Rattle.cql_text.specs.declared.syntax.Operation.{Operation}
-use Rattle.cql_text.specs.declared.syntax.Expression.{Expression, fold-Expression}
-use Rattle.cql_text.specs.declared.syntax.Expression.TheOpen.{Expression-F}
-use Rattle.cql_text.specs.declared.syntax.Function.{Function}
-use Rattle.cql_text.specs.declared.syntax.Function.TheVariants.{Sum, Min, Max}
-use Rattle.cql_text.specs.declared.syntax.Aggregate.{Aggregate as WrittenAggregate}
-use Rattle.cql_text.specs.declared.syntax.Aggregate.TheVariants as aggregate
-use Rattle.cql_text.specs.declared.syntax.Shown.{Shown}
-use Rattle.cql_text.specs.declared.syntax.Shown.TheVariants as shown
-use Rattle.cql_text.specs.declared.syntax.Item.{Item as WrittenItem}
-use Rattle.cql_text.specs.declared.syntax.Selection.{Selection}
-use Rattle.cql_text.specs.declared.syntax.Selection.TheVariants as selection
-use Rattle.cql_text.specs.declared.syntax.Operand.{Operand as WrittenOperand}
-use Rattle.cql_text.specs.declared.syntax.Operand.TheVariants as operand
-use Rattle.cql_text.specs.declared.syntax.Comparison.{Comparison}
-use Rattle.cql_text.specs.declared.syntax.Condition.{Condition as WrittenCondition, fold-Condition}
-use Rattle.cql_text.specs.declared.syntax.Condition.TheOpen.{Condition-F}
-use Rattle.cql_text.specs.declared.syntax.StreamOperator.{StreamOperator}
-use Rattle.cql_text.specs.declared.syntax.StreamOperator.TheVariants as stream
-use Rattle.cql_text.specs.declared.syntax.SetOperator.{SetOperator}
-use Rattle.cql_text.specs.declared.syntax.Block.{Block}
-use Rattle.cql_text.specs.declared.syntax.Second.{Second}
-use Rattle.cql_text.specs.declared.syntax.Query.{Query}
+use Rattle.cql_syntax.specs.declared.syntax.QualifiedName.{QualifiedName}
+use Rattle.cql_syntax.specs.declared.syntax.Constant.{Constant as WrittenConstant}
+use Rattle.cql_syntax.specs.declared.syntax.Constant.TheVariants as constant
+use Rattle.cql_syntax.specs.declared.syntax.Operation.{Operation}
+use Rattle.cql_syntax.specs.declared.syntax.Expression.{Expression, fold-Expression}
+use Rattle.cql_syntax.specs.declared.syntax.Expression.TheOpen.{Expression-F}
+use Rattle.cql_syntax.specs.declared.syntax.Function.{Function}
+use Rattle.cql_syntax.specs.declared.syntax.Function.TheVariants.{Sum, Min, Max}
+use Rattle.cql_syntax.specs.declared.syntax.Aggregate.{Aggregate as WrittenAggregate}
+use Rattle.cql_syntax.specs.declared.syntax.Aggregate.TheVariants as aggregate
+use Rattle.cql_syntax.specs.declared.syntax.Shown.{Shown}
+use Rattle.cql_syntax.specs.declared.syntax.Shown.TheVariants as shown
+use Rattle.cql_syntax.specs.declared.syntax.Item.{Item as WrittenItem}
+use Rattle.cql_syntax.specs.declared.syntax.Selection.{Selection}
+use Rattle.cql_syntax.specs.declared.syntax.Selection.TheVariants as selection
+use Rattle.cql_syntax.specs.declared.syntax.Operand.{Operand as WrittenOperand}
+use Rattle.cql_syntax.specs.declared.syntax.Operand.TheVariants as operand
+use Rattle.cql_syntax.specs.declared.syntax.Comparison.{Comparison}
+use Rattle.cql_syntax.specs.declared.syntax.Condition.{Condition as WrittenCondition, fold-Condition}
+use Rattle.cql_syntax.specs.declared.syntax.Condition.TheOpen.{Condition-F}
+use Rattle.cql_syntax.specs.declared.syntax.StreamOperator.{StreamOperator}
+use Rattle.cql_syntax.specs.declared.syntax.StreamOperator.TheVariants as stream
+use Rattle.cql_syntax.specs.declared.syntax.SetOperator.{SetOperator}
+use Rattle.cql_syntax.specs.declared.syntax.SelectBlock.{SelectBlock}
+use Rattle.cql_syntax.specs.declared.syntax.Second.{Second}
+use Rattle.cql_syntax.specs.declared.syntax.Query.{Query}
 use Rattle.cql_plan.specs.declared.error.PlanError.TheVariants.{AmbiguousColumn, TypeMismatch}
 use Rattle.cql_plan.specs.declared.expr.Expr.{Expr, fold-Expr}
 use Rattle.cql_plan.specs.declared.expr.Expr.TheOpen.{Expr-F}
@@ -199,7 +199,7 @@ is_named [] = false
 is_named (column ∷ columns) = true
 
 -- a block is grouped if it has GROUP BY or an aggregate
-unfoldable pub is_grouped : Block → Bool
+unfoldable pub is_grouped : SelectBlock → Bool
 is_grouped block = is_named block.groups || has_aggregate block.selection
 
 -- ---- blocks
@@ -232,7 +232,7 @@ checked_of distinct sources condition groups items = record {
 }
 
 -- WHERE, then GROUP BY, then the items, each from the left, over the columns of the inputs
-unfoldable pub body_of : List Source → Block → Outcome Checked
+unfoldable pub body_of : List Source → SelectBlock → Outcome Checked
 body_of sources block = do
   condition ← where_of (joined_row sources) block.condition
   groups ← each (group_of (joined_row sources)) block.groups
@@ -240,7 +240,7 @@ body_of sources block = do
   Ok (checked_of block.distinct sources condition groups items)
 
 -- a block: its inputs from the left, then their aliases, then the rest
-unfoldable pub block_of : Readable → Block → Outcome Checked
+unfoldable pub block_of : Readable → SelectBlock → Outcome Checked
 block_of readable block = do
   sources ← each (source_of readable) block.inputs
   unless (are_apart sources) AmbiguousColumn

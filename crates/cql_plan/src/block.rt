@@ -13,7 +13,7 @@ use crate::plan::{Branch, Input};
 use crate::row::kinds_of;
 use crate::source::{Source, are_apart, inputs_of, joined_row, ports_of, sources};
 use crate::typed::where_of;
-use cql_text::syntax::Block;
+use cql_syntax::syntax::SelectBlock;
 use cql_value::{ColumnType, Items};
 use std::alloc::{AllocError, Global};
 
@@ -116,7 +116,7 @@ fn checked_of(
 
 // WHERE, then GROUP BY, then the items, each from the left, over the columns of the inputs.
 #[tactic(auto, unfolding(crate::specs::Typing::body_of))]
-fn body_of(alloc: Global, sources: &[Source], block: &Block) -> Result<Checked, PlanError>
+fn body_of(alloc: Global, sources: &[Source], block: &SelectBlock) -> Result<Checked, PlanError>
     ensures value { Answers (spec.body_of sources.now block.now) result }
     ensures kinds { IfOk result (λ c. HasKinds c.branch) }
 {
@@ -145,7 +145,7 @@ fn body_of(alloc: Global, sources: &[Source], block: &Block) -> Result<Checked, 
 pub(crate) fn block_of<L: Lookup>(
     alloc: Global,
     lookup: &L,
-    block: &Block,
+    block: &SelectBlock,
 ) -> Result<Checked, PlanError>
     ensures value { Answers (spec.block_of (L.readable lookup.now) block.now) result }
     ensures kinds { IfOk result (λ c. HasKinds c.branch) }

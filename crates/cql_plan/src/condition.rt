@@ -3,7 +3,7 @@ ghost use Rattle.std.specs.Prelude.{◌≡◌, ◌↔◌, IfOk, IsTrue};
 ghost use Rattle.std.specs.Option.{option_copied};
 ghost use Rattle.cql_plan.specs.Condition.{compares, operand_value, holds};
 
-use cql_text::syntax::Comparison;
+use cql_syntax::syntax::Comparison;
 use cql_value::{Boxed, Value};
 use sqlite_items::at;
 use std::alloc::{AllocError, Global};

@@ -2,7 +2,7 @@
 ghost use Rattle.std.specs.Prelude.{◌≡◌, IfOk};
 ghost use Rattle.cql_plan.specs.Expr.{arithmetic, expr_value};
 
-use cql_text::syntax::Operation;
+use cql_syntax::syntax::Operation;
 use cql_value::{Boxed, Value};
 use sqlite_items::at;
 use std::alloc::{AllocError, Global};

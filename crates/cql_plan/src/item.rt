@@ -9,8 +9,8 @@ use crate::expr::Expr;
 use crate::node::Item;
 use crate::row::{Field, Found, column_of};
 use crate::typed::{expression_of, same_kind};
-use cql_text::syntax::{
-    self, Aggregate, Block, Expression, Function, QualifiedName, Selection, Shown,
+use cql_syntax::syntax::{
+    self, Aggregate, Expression, Function, QualifiedName, SelectBlock, Selection, Shown,
 };
 use cql_value::{ColumnType, Items};
 use std::alloc::{AllocError, Global};
@@ -229,7 +229,7 @@ fn has_aggregate(written: &Selection) -> bool
 
 /// Whether a block has GROUP BY or an aggregate.
 #[tactic(auto, unfolding(crate::specs::Typing::is_grouped))]
-pub(crate) fn is_grouped(block: &Block) -> bool
+pub(crate) fn is_grouped(block: &SelectBlock) -> bool
     ensures { result ≡ spec.is_grouped block.now }
 {
     !block.groups.is_empty() || has_aggregate(&block.selection)

@@ -11,9 +11,11 @@ pub mod law;
 pub mod lookup;
 pub mod node;
 pub mod plan;
-pub mod resolve;
+mod resolution;
 mod row;
 mod source;
 #[cfg(test)]
 mod tests;
 mod typed;
+
+pub use resolution::resolve;

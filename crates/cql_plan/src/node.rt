@@ -4,7 +4,7 @@ ghost use Rattle.cql_plan.specs.Node.{kind_of_node};
 
 use crate::condition::Condition;
 use crate::expr::Expr;
-use cql_text::syntax::SetOperator;
+use cql_syntax::syntax::SetOperator;
 use cql_value::{ColumnType, Items};
 use std::alloc::{AllocError, Global};
 

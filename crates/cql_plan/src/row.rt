@@ -3,7 +3,7 @@ ghost use Rattle.std.specs.Prelude.{◌≡◌, IfOk};
 ghost use Rattle.cql_plan.specs.Columns as spec;
 
 use crate::error::PlanError;
-use cql_text::syntax::QualifiedName;
+use cql_syntax::syntax::QualifiedName;
 use cql_value::{Column, ColumnType, Items, Name};
 use std::alloc::{AllocError, Global};
 

@@ -9,7 +9,7 @@ use crate::error::PlanError;
 use crate::lookup::Lookup;
 use crate::plan::{Input, Window, clone_name_if_any};
 use crate::row::{Field, clone_fields, column_named, fields_of, kinds_of};
-use cql_text::syntax;
+use cql_syntax::syntax;
 use cql_value::{Column, ColumnType, Items, Name};
 use std::alloc::{AllocError, Global};
 
@@ -53,20 +53,24 @@ fn part_columns(alloc: Global, fields: &[Field], names: &[Name]) -> Result<Items
 }
 
 #[tactic(auto, unfolding(crate::specs::Sources::window_of))]
-fn window_of(alloc: Global, fields: &[Field], window: &syntax::Window) -> Result<Window, PlanError>
+fn window_of(
+    alloc: Global,
+    fields: &[Field],
+    window: &syntax::WrittenWindow,
+) -> Result<Window, PlanError>
     ensures { Answers (spec.window_of fields.now window.now) result }
 {
     match window {
-        syntax::Window::Range(length, slide) => Ok(Window::Range {
+        syntax::WrittenWindow::Range(length, slide) => Ok(Window::Range {
             length: *length,
             slide: *slide,
         }),
-        syntax::Window::Rows(count, slide) => Ok(Window::Rows {
+        syntax::WrittenWindow::Rows(count, slide) => Ok(Window::Rows {
             count: *count,
             slide: *slide,
         }),
-        syntax::Window::Unbounded => Ok(Window::All),
-        syntax::Window::Partition(names, count) => {
+        syntax::WrittenWindow::Unbounded => Ok(Window::All),
+        syntax::WrittenWindow::Partition(names, count) => {
             let columns = part_columns(alloc, fields, names.as_slice())?;
             Ok(Window::Parts {
                 columns,

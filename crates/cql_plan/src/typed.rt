@@ -7,7 +7,7 @@ use crate::condition::{Condition, Operand};
 use crate::error::PlanError;
 use crate::expr::Expr;
 use crate::row::{Field, column_of};
-use cql_text::syntax::{self, Comparison, Constant, Expression, Operation};
+use cql_syntax::syntax::{self, Comparison, Constant, Expression, Operation};
 use cql_value::{Boxed, ColumnType, Value};
 use std::alloc::{AllocError, Global};
 

@@ -2,35 +2,35 @@
 use Rattle.std.proofs.Common.{◌≡◌, ◌≤◌, ◌<◌, ◌^◌, ◌*◌, ℕ, zero, suc, pos, nat_lt, Bool, true, false, ◌&&◌, ◌||◌, ◌==◌, if◌then◌else◌, List, [], ◌∷◌, ◌++◌, Option, Some, None, refl, sym, ap, ◌∙◌, subst, append_assoc, append-nil, ◌⊎◌, inl, inr, arith, codes, mul-suc}
 use Rattle.std.proofs.lemmas.Bool.Decides.{nat_tests}
 use Rattle.cql_value.specs.Name.{is_name}
-use Rattle.cql_text.specs.declared.token.Fixed.{Fixed}
-use Rattle.cql_text.specs.declared.token.Fixed.TheVariants as k
-use Rattle.cql_text.specs.declared.token.Token.{Token}
-use Rattle.cql_text.specs.declared.token.Token.TheVariants as t
-use Rattle.cql_text.specs.declared.syntax.QualifiedName.{QualifiedName}
-use Rattle.cql_text.specs.declared.syntax.Function.{Function}
-use Rattle.cql_text.specs.declared.syntax.Aggregate.{Aggregate}
-use Rattle.cql_text.specs.declared.syntax.Aggregate.TheVariants as a
-use Rattle.cql_text.specs.declared.syntax.Shown.{Shown}
-use Rattle.cql_text.specs.declared.syntax.Shown.TheVariants as s
-use Rattle.cql_text.specs.declared.syntax.Item.{Item}
-use Rattle.cql_text.specs.declared.syntax.Selection.{Selection}
-use Rattle.cql_text.specs.declared.syntax.Selection.TheVariants as e
-use Rattle.cql_text.specs.declared.syntax.Window.{Window}
-use Rattle.cql_text.specs.declared.syntax.Window.TheVariants as w
-use Rattle.cql_text.specs.declared.syntax.Input.{Input}
-use Rattle.cql_text.specs.declared.syntax.Condition.{Condition}
-use Rattle.cql_text.specs.declared.syntax.Block.{Block}
-use Rattle.cql_text.specs.declared.syntax.SetOperator.{SetOperator}
-use Rattle.cql_text.specs.declared.syntax.Second.{Second}
-use Rattle.cql_text.specs.declared.syntax.StreamOperator.{StreamOperator}
-use Rattle.cql_text.specs.declared.syntax.Query.{Query}
-use Rattle.cql_text.specs.Tokens.{Tokens}
+use Rattle.cql_syntax.specs.declared.token.Fixed.{Fixed}
+use Rattle.cql_syntax.specs.declared.token.Fixed.TheVariants as k
+use Rattle.cql_syntax.specs.declared.token.Token.{Token}
+use Rattle.cql_syntax.specs.declared.token.Token.TheVariants as t
+use Rattle.cql_syntax.specs.declared.syntax.QualifiedName.{QualifiedName}
+use Rattle.cql_syntax.specs.declared.syntax.Function.{Function}
+use Rattle.cql_syntax.specs.declared.syntax.Aggregate.{Aggregate}
+use Rattle.cql_syntax.specs.declared.syntax.Aggregate.TheVariants as a
+use Rattle.cql_syntax.specs.declared.syntax.Shown.{Shown}
+use Rattle.cql_syntax.specs.declared.syntax.Shown.TheVariants as s
+use Rattle.cql_syntax.specs.declared.syntax.Item.{Item}
+use Rattle.cql_syntax.specs.declared.syntax.Selection.{Selection}
+use Rattle.cql_syntax.specs.declared.syntax.Selection.TheVariants as e
+use Rattle.cql_syntax.specs.declared.syntax.WrittenWindow.{WrittenWindow}
+use Rattle.cql_syntax.specs.declared.syntax.WrittenWindow.TheVariants as w
+use Rattle.cql_syntax.specs.declared.syntax.Input.{Input}
+use Rattle.cql_syntax.specs.declared.syntax.Condition.{Condition}
+use Rattle.cql_syntax.specs.declared.syntax.SelectBlock.{SelectBlock}
+use Rattle.cql_syntax.specs.declared.syntax.SetOperator.{SetOperator}
+use Rattle.cql_syntax.specs.declared.syntax.Second.{Second}
+use Rattle.cql_syntax.specs.declared.syntax.StreamOperator.{StreamOperator}
+use Rattle.cql_syntax.specs.declared.syntax.Query.{Query}
+use Rattle.cql_syntax.specs.Tokens.{Tokens}
 use Rattle.cql_text.specs.Meaning.{function_of, number_from, unit_named, unit_of, times, ticks_of, or_else, or_unbounded, or_empty, to_list, is_either, set_operator_of, stream_operator_of}
 use Rattle.cql_text.specs.Rules.{Rule}
 use Rattle.cql_text.specs.Rules as rule
 use Rattle.cql_text.specs.Grammar as grammar
 use Rattle.cql_text.specs.Grammar.{IsName, IsColumn, IsExpression, IsCondition, most_levels, IsCount, IsOver, IsShown, IsItem, IsSelection, IsLength, IsRange, IsRows, IsPartition, IsWindow, IsInput, IsInputs, IsRest, IsSelected, IsBlock, IsSecond, IsOuter, IsInner, IsWhole, IsQuery, Spells, query_of}
-use Rattle.cql_text.specs.Spelling.{Piece, symbol, call, name, number, text, Pieces, pieces_tokens, spell_name, function_word, spell_aggregate, spell_shown, spell_alias, spell_item, spell_expression, spell_selection, spell_slide, spell_range, spell_plain, spell_partition, spell_window, spell_input, separated, following, spell_condition, spell_where, spell_groups, spell_distinct, spell_block, set_word, spell_second, stream_word, spell_output, spell_blocks, spell_query}
+use Rattle.cql_syntax.specs.Spelling.{Piece, symbol, call, name, number, text, Pieces, pieces_tokens, spell_name, function_word, spell_aggregate, spell_shown, spell_alias, spell_item, spell_expression, spell_selection, spell_slide, spell_range, spell_plain, spell_partition, spell_window, spell_input, separated, following, spell_condition, spell_where, spell_groups, spell_distinct, spell_block, set_word, spell_second, stream_word, spell_output, spell_blocks, spell_query}
 use Rattle.cql_text.proofs.ItemLaws.{function_is}
 use Rattle.cql_text.proofs.WindowLaws.{number_facts, number_known}
 use Rattle.cql_text.proofs.BlockLaws.{set_is, stream_is}
@@ -182,7 +182,7 @@ row_slide n h after = at (n == 1) refl
     at false g = (Some n, (tt, t.Number n ∷ after, refl, number_here 1 n h after), refl)
 
 -- what a window's numbers keep to
-abbrev Fits : Window → Type 0
+abbrev Fits : WrittenWindow → Type 0
 Fits (w.Range length slide) = InRange 0 length × InRange 1 slide
 Fits (w.Rows count slide) = InRange 1 count × InRange 1 slide
 Fits w.Unbounded = Unit {0}
@@ -230,7 +230,7 @@ rows_again count slide f g after =
       inr (count, onto (spell_slide slide) after, number_here 1 count f (onto (spell_slide slide) after), (q.0, after, q.1, (ap (λ n. w.Rows count n) q.2, refl))),
     ))))
 
-partition_again : (ts rest : Tokens) (x : Window) → IsPartition ts x rest → (after : Tokens) → IsWindow (onto (spell_window x) after) x after
+partition_again : (ts rest : Tokens) (x : WrittenWindow) → IsPartition ts x rest → (after : Tokens) → IsWindow (onto (spell_window x) after) x after
 unfolding spell_window
 partition_again ts rest x h after =
     let columns = h.3.3.0 in
@@ -259,7 +259,7 @@ partition_again ts rest x h after =
     names_again : Again IsName spell_plain
     names_again = name_again
 
-window_fits : (ts rest : Tokens) (x : Window) → IsWindow ts x rest → (after : Tokens) → IsWindow (onto (spell_window x) after) x after
+window_fits : (ts rest : Tokens) (x : WrittenWindow) → IsWindow ts x rest → (after : Tokens) → IsWindow (onto (spell_window x) after) x after
 window_fits ts rest x (inl h) after = subst (λ y. IsWindow (onto (spell_window y) after) y after) h.3.0 (range_again 0 1 (omega arith, omega arith) one_fits after)
 window_fits ts rest x (inr (inl h)) after = subst (λ y. IsWindow (onto (spell_window y) after) y after) h.3.0 (unbounded_again after)
 window_fits ts rest x (inr (inr (inl h))) after = at h.3
@@ -281,7 +281,7 @@ window_again = window_fits
 
 -- ---- inputs
 
-abbrev InSquares : Rule Window
+abbrev InSquares : Rule WrittenWindow
 InSquares = rule.◌>>◌ (rule.word k.OpenSquare) (rule.◌>>=◌ IsWindow (λ v. rule.◌>>◌ (rule.word k.CloseSquare) (rule.pure v)))
 
 abbrev Alias : Rule (List ℕ)
@@ -292,7 +292,7 @@ input_alias_again ts rest None h after = refl
 input_alias_again ts rest (Some s) h after = (true, t.Word s ∷ after, refl, name_again h.1 rest s h.3 after)
 
 -- a window that is so, or the unbounded one
-or_window_again : (ts rest : Tokens) (x : Option Window) → rule.optional InSquares ts x rest → (after : Tokens) → IsWindow (onto (spell_window (or_unbounded x)) after) (or_unbounded x) after
+or_window_again : (ts rest : Tokens) (x : Option WrittenWindow) → rule.optional InSquares ts x rest → (after : Tokens) → IsWindow (onto (spell_window (or_unbounded x)) after) (or_unbounded x) after
 or_window_again ts rest None h after = unbounded_again after
 or_window_again ts rest (Some v) h after = subst (λ y. IsWindow (onto (spell_window y) after) y after) h.3.3.3.0 (window_again h.1 h.3.1 h.3.0 h.3.2 after)
 
@@ -388,11 +388,11 @@ groups_again ts rest (Some qs) h after =
       refl,
     )
 
-abbrev spell_rest : Block → Pieces
+abbrev spell_rest : SelectBlock → Pieces
 spell_rest b = symbol k.From ∷ (separated spell_input b.inputs ++ (spell_where b.condition ++ spell_groups b.groups))
 
 module _ (distinct : Bool) (selection : Selection) where
-  rest_again : (ts rest : Tokens) (x : Block) → IsRest distinct selection ts x rest → (after : Tokens) → IsRest distinct selection (onto (spell_rest x) after) x after
+  rest_again : (ts rest : Tokens) (x : SelectBlock) → IsRest distinct selection ts x rest → (after : Tokens) → IsRest distinct selection (onto (spell_rest x) after) x after
   rest_again ts rest x h after =
       let inputs = h.3.0 in
       let condition = h.3.3.0 in
@@ -415,21 +415,21 @@ module _ (distinct : Bool) (selection : Selection) where
         ),
       ))
     where
-      block_of : List Input → Option Condition → List QualifiedName → Block
+      block_of : List Input → Option Condition → List QualifiedName → SelectBlock
       block_of inputs condition groups = record { distinct = distinct; selection = selection; inputs = inputs; condition = condition; groups = groups }
 
-  rest_keeps : (ts rest : Tokens) (x : Block) → IsRest distinct selection ts x rest → (distinct ≡ x.distinct) × (selection ≡ x.selection)
+  rest_keeps : (ts rest : Tokens) (x : SelectBlock) → IsRest distinct selection ts x rest → (distinct ≡ x.distinct) × (selection ≡ x.selection)
   rest_keeps ts rest x h = (ap (λ b. b.distinct) h.3.3.3.3.0, ap (λ b. b.selection) h.3.3.3.3.0)
 
 distinct_again : (b : Bool) (after : Tokens) → rule.may k.Distinct (onto (spell_distinct b) after) b after
 distinct_again true after = refl
 distinct_again false after = refl
 
-abbrev spell_selected : Block → Pieces
+abbrev spell_selected : SelectBlock → Pieces
 spell_selected b = spell_distinct b.distinct ++ (spell_selection b.selection ++ spell_rest b)
 
 -- a block of parts that stand somewhere
-parts_again : (distinct : Bool) (selection : Selection) (us vs rest : Tokens) (ws : Tokens) (x : Block) → IsSelection us selection vs → IsRest distinct selection ws x rest → (after : Tokens) → IsSelected (onto (spell_selected x) after) x after
+parts_again : (distinct : Bool) (selection : Selection) (us vs rest : Tokens) (ws : Tokens) (x : SelectBlock) → IsSelection us selection vs → IsRest distinct selection ws x rest → (after : Tokens) → IsSelected (onto (spell_selected x) after) x after
 parts_again distinct selection us vs rest ws x p h after =
     let kept = rest_keeps distinct selection ws rest x h in
     let end = onto (spell_rest x) after in
@@ -448,14 +448,14 @@ parts_again distinct selection us vs rest ws x p h after =
       ),
     )
 
-selected_again : (ts rest : Tokens) (x : Block) → IsSelected ts x rest → (after : Tokens) → IsSelected (onto (spell_selected x) after) x after
+selected_again : (ts rest : Tokens) (x : SelectBlock) → IsSelected ts x rest → (after : Tokens) → IsSelected (onto (spell_selected x) after) x after
 selected_again ts rest x h after = parts_again h.0 h.3.0 h.1 h.3.1 rest h.3.1 x h.3.2 h.3.3 after
 
-block_pieces : (x : Block) → spell_block x ≡ symbol k.Select ∷ spell_selected x
+block_pieces : (x : SelectBlock) → spell_block x ≡ symbol k.Select ∷ spell_selected x
 unfolding spell_block
 block_pieces x = refl
 
-selected_block : (x : Block) (after : Tokens) → IsSelected (onto (spell_selected x) after) x after → IsBlock (onto (spell_block x) after) x after
+selected_block : (x : SelectBlock) (after : Tokens) → IsSelected (onto (spell_selected x) after) x after → IsBlock (onto (spell_block x) after) x after
 selected_block x after h = subst (λ ps. IsBlock (onto ps after) x after) (sym (block_pieces x)) (tt, onto (spell_selected x) after, refl, h)
 
 block_again : Again IsBlock spell_block
@@ -473,7 +473,7 @@ second_again ts rest (Some s) h after =
 -- ---- queries
 
 -- the outer form of a stream operator, a block that stands somewhere and a second one
-outer_here : (output : StreamOperator) (b : Block) (second : Option Second) (us vs xs ys : Tokens) → rule.one stream_operator_of us output vs →
+outer_here : (output : StreamOperator) (b : SelectBlock) (second : Option Second) (us vs xs ys : Tokens) → rule.one stream_operator_of us output vs →
     ((after : Tokens) → IsBlock (onto (spell_block b) after) b after) → ((after : Tokens) → rule.optional IsSecond (onto (spell_second second) after) second after) → (after : Tokens) →
     IsOuter (onto (spell_query (query_of (Some output) b second)) after) (query_of (Some output) b second) after
 outer_here output b second us vs xs ys o f g after =

@@ -1,22 +1,22 @@
 -- The readers of blocks and queries decide their rules.
 use Rattle.std.proofs.Common.{◌≡◌, ℕ, Bool, true, false, ◌||◌, List, [], ◌∷◌, ◌++◌, Ok, Err, Option, Some, None, refl, sym, ap, ◌∙◌, subst, ◌⊎◌, inl, inr, if◌then◌else◌, is_some}
-use Rattle.cql_text.specs.declared.token.Fixed.{Fixed}
-use Rattle.cql_text.specs.declared.token.Fixed.TheVariants as k
-use Rattle.cql_text.specs.declared.token.Token.{Token}
-use Rattle.cql_text.specs.declared.token.Token.TheVariants as t
-use Rattle.cql_text.specs.declared.syntax.QualifiedName.{QualifiedName}
-use Rattle.cql_text.specs.declared.syntax.Selection.{Selection}
-use Rattle.cql_text.specs.declared.syntax.Condition.{Condition}
-use Rattle.cql_text.specs.declared.syntax.Window.{Window}
-use Rattle.cql_text.specs.declared.syntax.Input.{Input}
-use Rattle.cql_text.specs.declared.syntax.Block.{Block}
-use Rattle.cql_text.specs.declared.syntax.SetOperator.{SetOperator}
-use Rattle.cql_text.specs.declared.syntax.SetOperator.TheVariants as o
-use Rattle.cql_text.specs.declared.syntax.StreamOperator.{StreamOperator}
-use Rattle.cql_text.specs.declared.syntax.StreamOperator.TheVariants as s
-use Rattle.cql_text.specs.declared.syntax.Second.{Second}
-use Rattle.cql_text.specs.declared.syntax.Query.{Query}
-use Rattle.cql_text.specs.Tokens.{Tokens, is, same, knows, sign}
+use Rattle.cql_syntax.specs.declared.token.Fixed.{Fixed}
+use Rattle.cql_syntax.specs.declared.token.Fixed.TheVariants as k
+use Rattle.cql_syntax.specs.declared.token.Token.{Token}
+use Rattle.cql_syntax.specs.declared.token.Token.TheVariants as t
+use Rattle.cql_syntax.specs.declared.syntax.QualifiedName.{QualifiedName}
+use Rattle.cql_syntax.specs.declared.syntax.Selection.{Selection}
+use Rattle.cql_syntax.specs.declared.syntax.Condition.{Condition}
+use Rattle.cql_syntax.specs.declared.syntax.WrittenWindow.{WrittenWindow}
+use Rattle.cql_syntax.specs.declared.syntax.Input.{Input}
+use Rattle.cql_syntax.specs.declared.syntax.SelectBlock.{SelectBlock}
+use Rattle.cql_syntax.specs.declared.syntax.SetOperator.{SetOperator}
+use Rattle.cql_syntax.specs.declared.syntax.SetOperator.TheVariants as o
+use Rattle.cql_syntax.specs.declared.syntax.StreamOperator.{StreamOperator}
+use Rattle.cql_syntax.specs.declared.syntax.StreamOperator.TheVariants as s
+use Rattle.cql_syntax.specs.declared.syntax.Second.{Second}
+use Rattle.cql_syntax.specs.declared.syntax.Query.{Query}
+use Rattle.cql_syntax.specs.Tokens.{Tokens, is, same, knows, sign}
 use Rattle.cql_text.specs.Meaning.{starts_alias, is_word, or_unbounded, or_empty, to_list, set_operator_of, stream_operator_of, unit_of}
 use Rattle.cql_text.specs.Reading.{Parser, expect, eat, token_by, next_is, and_then}
 use Rattle.cql_text.specs.Rules.{Rule}
@@ -24,7 +24,7 @@ use Rattle.cql_text.specs.Rules as rule
 use Rattle.cql_text.specs.Grammar as grammar
 use Rattle.cql_text.specs.Grammar.{IsName, IsColumn, IsWindow, IsInput, IsInputs, IsCondition, IsRest, IsSelection, IsSelected, IsBlock, IsSecond, IsOuter, IsInner, IsWhole, IsQuery, query_of, most_levels}
 use Rattle.cql_text.specs.Readers as read
-use Rattle.cql_text.specs.Spelling.{set_word, stream_word}
+use Rattle.cql_syntax.specs.Spelling.{set_word, stream_word}
 use Rattle.cql_text.proofs.Laws as law
 use Rattle.cql_text.proofs.Readers.{Reader, Always, pure_reader, word_reader, one_reader, may_reader, optional_reader}
 use Rattle.cql_text.proofs.Parts.{Stops, Narrow, Before, Begins, first, both, both_always, made, pure_at, weaken, anywhere, optional_part, optional_always, list_part, begins_word, begins_then, begins_one, begins_either, before_then, before_optional, before_may, before_begins, before_pure, left_test, right_test, same_test, or_left, or_right}
@@ -37,7 +37,7 @@ use Rattle.cql_text.proofs.WindowLaws.{window_reader}
 
 -- ---- inputs
 
-abbrev InSquares : Rule Window
+abbrev InSquares : Rule WrittenWindow
 InSquares = rule.◌>>◌ (rule.word k.OpenSquare) (rule.◌>>=◌ IsWindow (λ w. rule.◌>>◌ (rule.word k.CloseSquare) (rule.pure w)))
 
 in_squares_reader : Reader read.in_squares InSquares Always
@@ -65,7 +65,7 @@ alias_reader =
     (both_always (eat k.As) (rule.may k.As) _ _ (is k.As) (may_reader k.As) (λ _. name_reader) (λ _. begins_name (is k.As) false (λ s. refl)))
     (begins_alias starts_alias true refl (λ s. refl))
 
-abbrev input_of : QualifiedName → Option Window → Option (List ℕ) → Input
+abbrev input_of : QualifiedName → Option WrittenWindow → Option (List ℕ) → Input
 input_of stream w alias = record { stream = stream; window = or_unbounded w; alias = alias }
 
 input_reader : Reader read.input IsInput (Stops after_input)
@@ -83,7 +83,7 @@ input_reader =
     to_name : Narrow after_input after_name
     to_name x h = or_right (is k.OpenSquare x) (after_name x) (or_right (starts_alias x) (after_stream x) h)
 
-    tail : (stream : QualifiedName) (w : Option Window) (test : Test) → test (t.Fixed k.As) ≡ false → ((s : List ℕ) → test (t.Word s) ≡ false) → Narrow after_input test →
+    tail : (stream : QualifiedName) (w : Option WrittenWindow) (test : Test) → test (t.Fixed k.As) ≡ false → ((s : List ℕ) → test (t.Word s) ≡ false) → Narrow after_input test →
         Before (rule.◌>>=◌ (rule.optional Alias) (λ alias. rule.pure (input_of stream w alias))) test after_input
     tail stream w test f g n = before_then (rule.optional Alias) (λ alias. rule.pure (input_of stream w alias)) test after_input after_input
         (before_optional Alias test after_input (begins_alias test false f g) n) (λ alias. before_pure (input_of stream w alias) after_input after_input (same_test after_input))
@@ -179,17 +179,17 @@ groups_reader =
     (begins_groups (is k.Group) true refl) block_to_columns (left_test (is k.Group) (λ x. after_columns x || after_where x))
 
 module _ (distinct : Bool) (selection : Selection) where
-  abbrev block_of : List Input → Option Condition → Option (List QualifiedName) → Block
+  abbrev block_of : List Input → Option Condition → Option (List QualifiedName) → SelectBlock
   block_of inputs condition groups = record { distinct = distinct; selection = selection; inputs = inputs; condition = condition; groups = or_empty groups }
 
-  abbrev GroupsEnd : List Input → Option Condition → Rule Block
+  abbrev GroupsEnd : List Input → Option Condition → Rule SelectBlock
   GroupsEnd inputs condition = rule.◌>>=◌ (rule.optional Groups) (λ groups. rule.pure (block_of inputs condition groups))
 
   before_groups : (inputs : List Input) (condition : Option Condition) (test : Test) → test (t.Fixed k.Group) ≡ false → Narrow after_block test → Before (GroupsEnd inputs condition) test after_block
   before_groups inputs condition test f n = before_then (rule.optional Groups) (λ groups. rule.pure (block_of inputs condition groups)) test after_block after_block
       (before_optional Groups test after_block (begins_groups test false f) n) (λ groups. before_pure (block_of inputs condition groups) after_block after_block (same_test after_block))
 
-  abbrev WhereEnd : List Input → Rule Block
+  abbrev WhereEnd : List Input → Rule SelectBlock
   WhereEnd inputs = rule.◌>>=◌ (rule.optional Where) (λ condition. GroupsEnd inputs condition)
 
   before_where : (inputs : List Input) → Before (WhereEnd inputs) after_inputs after_block
@@ -211,7 +211,7 @@ module _ (distinct : Bool) (selection : Selection) where
 begins_rest : (distinct : Bool) (selection : Selection) (test : Test) (b : Bool) → test (t.Fixed k.From) ≡ b → Begins (IsRest distinct selection) test b
 begins_rest distinct selection test b h = begins_then (rule.word k.From) _ test b (begins_word k.From test b h)
 
-abbrev Selected : Bool → Rule Block
+abbrev Selected : Bool → Rule SelectBlock
 Selected distinct = rule.◌>>=◌ IsSelection (IsRest distinct)
 
 selected_reader : Reader read.selected IsSelected (Stops after_block)
@@ -268,7 +268,7 @@ second_reader =
     first (expect k.All) (rule.word k.All) _ _ (Stops after_block) (word_reader k.All) (λ _.
     made read.block IsBlock (λ b. second_of op b) (Stops after_block) block_reader))
   where
-    second_of : SetOperator → Block → Second
+    second_of : SetOperator → SelectBlock → Second
     second_of op b = record { operator = op; block = b }
 
 to_block : Narrow after_whole after_block
@@ -303,7 +303,7 @@ stream_reader = one_reader stream_operator_of (t.Fixed k.Istream) s.Istream refl
 begins_stream : Begins (rule.one stream_operator_of) (knows stream_operator_of) true
 begins_stream = begins_one stream_operator_of (knows stream_operator_of) true (known stream_operator_of)
 
-abbrev SecondEnd : StreamOperator → Block → Rule Query
+abbrev SecondEnd : StreamOperator → SelectBlock → Rule Query
 SecondEnd output b = rule.◌>>=◌ (rule.optional IsSecond) (λ second. rule.◌>>◌ (rule.word k.Close) (rule.pure (query_of (Some output) b second)))
 
 outer_reader : Reader read.outer IsOuter Always
@@ -317,7 +317,7 @@ outer_reader =
     (λ second. begins_then (rule.word k.Close) _ after_whole false (begins_word k.Close after_whole false refl)))
     (λ b. second_end output b)))
   where
-    second_end : (output : StreamOperator) (b : Block) → Begins (SecondEnd output b) after_block false
+    second_end : (output : StreamOperator) (b : SelectBlock) → Begins (SecondEnd output b) after_block false
     second_end output b ts rest q h = at h.0 h.2 h.3
       where
         at : (x : Option Second) → rule.optional IsSecond ts x h.1 → rule.◌>>◌ (rule.word k.Close) (rule.pure (query_of (Some output) b x)) h.1 q rest → next_is after_block ts ≡ false

@@ -1,7 +1,7 @@
 -- item { operator item } as a reader, whatever the item is. A chain may be the item of another chain.
 use Rattle.std.proofs.Common.{◌≡◌, ◌≤◌, ℕ, List, [], ◌∷◌, ◌++◌, length, Result, Ok, Err, Option, Some, None, refl, sym, ap, ◌∙◌, append_assoc, length-append, arith, ◌⊎◌, inl, inr}
-use Rattle.cql_text.specs.declared.token.Token.{Token}
-use Rattle.cql_text.specs.Tokens.{Tokens}
+use Rattle.cql_syntax.specs.declared.token.Token.{Token}
+use Rattle.cql_syntax.specs.Tokens.{Tokens}
 use Rattle.cql_text.specs.Reading.{Outcome, Parser, at_head, and_then, chain, chain_of}
 use Rattle.cql_text.specs.Rules.{Rule, ends}
 use Rattle.cql_text.specs.Rules as rule

@@ -9,17 +9,17 @@ use Rattle.std.specs.List.{prefix_len, list_all, list_any}
 use Rattle.std.specs.Str.{str_eq_ignore_ascii_case}
 use Rattle.cql_value.specs.Name.{is_word_start, is_word_byte, is_word, is_reserved, is_name}
 use Rattle.cql_value.specs.Name as value_name
-use Rattle.cql_text.specs.declared.token.Fixed.{Fixed}
-use Rattle.cql_text.specs.declared.token.Fixed.TheVariants as k
-use Rattle.cql_text.specs.declared.token.Token.{Token}
-use Rattle.cql_text.specs.declared.token.Token.TheVariants as t
-use Rattle.cql_text.specs.declared.token.Lexeme.{Lexeme}
-use Rattle.cql_text.specs.declared.lex.Scanned.{Scanned}
-use Rattle.cql_text.specs.Tokens.{Tokens, tokens_of}
-use Rattle.cql_text.specs.Lex.{Bytes, Table, scan, lexed, token, is_blank, quoted, lookup, reserved, reserved_words, word, word_or_reserved, number, value, text_of, sign, sign_of, after_lexeme}
-use Rattle.cql_text.specs.Spelling.{Piece, symbol, call, name, number as number_piece, text, Pieces, number_tokens, piece_tokens, pieces_tokens, doubled, symbol_text, piece_text, is_tight, is_opening, takes_space, leaves_space, space, spelled}
+use Rattle.cql_syntax.specs.declared.token.Fixed.{Fixed}
+use Rattle.cql_syntax.specs.declared.token.Fixed.TheVariants as k
+use Rattle.cql_syntax.specs.declared.token.Token.{Token}
+use Rattle.cql_syntax.specs.declared.token.Token.TheVariants as t
+use Rattle.cql_syntax.specs.declared.token.Lexeme.{Lexeme}
+use Rattle.cql_syntax.specs.declared.lex.Scanned.{Scanned}
+use Rattle.cql_syntax.specs.Tokens.{Tokens, tokens_of}
+use Rattle.cql_syntax.specs.Lex.{Bytes, Table, scan, lexed, token, is_blank, quoted, lookup, reserved, reserved_words, word, word_or_reserved, number, value, text_of, sign, sign_of, after_lexeme}
+use Rattle.cql_syntax.specs.Spelling.{Piece, symbol, call, name, number as number_piece, text, Pieces, number_tokens, piece_tokens, pieces_tokens, doubled, symbol_text, piece_text, is_tight, is_opening, takes_space, leaves_space, space, spelled}
 use Rattle.cql_text.proofs.Laws.{IsPlain, ArePlain}
-use Rattle.cql_text.proofs.LexLemmas.{scan_end, scan_blank, scan_token, word_starts}
+use Rattle.cql_syntax.proofs.LexLemmas.{scan_end, scan_blank, scan_token, word_starts}
 
 is_39 : (b : ℕ) → (b == 39) ≡ true → b ≡ 39
 is_39 b h = grind (arith, nat_tests)

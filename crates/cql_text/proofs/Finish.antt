@@ -1,9 +1,9 @@
 -- What is left of the tokens at the end.
 use Rattle.std.proofs.Common.{◌≡◌, ℕ, Bool, true, false, ◌&&◌, ◌==◌, List, [], ◌∷◌, length, Option, Some, None, is_none, Result, Ok, Err, refl, arith}
 use Rattle.std.proofs.lemmas.Bool.Decides.{nat_tests}
-use Rattle.cql_text.specs.declared.syntax.Query.{Query}
-use Rattle.cql_text.specs.declared.token.Token.{Token}
-use Rattle.cql_text.specs.Tokens.{Tokens}
+use Rattle.cql_syntax.specs.declared.syntax.Query.{Query}
+use Rattle.cql_syntax.specs.declared.token.Token.{Token}
+use Rattle.cql_syntax.specs.Tokens.{Tokens}
 use Rattle.cql_text.specs.Read.{ended}
 
 pub ended_more : (f : Option ℕ) (q : Query) (rest : Tokens) → (length rest == 0 && is_none f) ≡ false → ended f q rest ≡ Err (length rest)

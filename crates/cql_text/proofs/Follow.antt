@@ -1,8 +1,8 @@
 -- The tests of tokens that go on with what was read.
 use Rattle.std.proofs.Common.{Bool, ◌||◌}
-use Rattle.cql_text.specs.declared.token.Fixed.TheVariants as k
-use Rattle.cql_text.specs.declared.token.Token.{Token}
-use Rattle.cql_text.specs.Tokens.{is, knows, sign}
+use Rattle.cql_syntax.specs.declared.token.Fixed.TheVariants as k
+use Rattle.cql_syntax.specs.declared.token.Token.{Token}
+use Rattle.cql_syntax.specs.Tokens.{is, knows, sign}
 use Rattle.cql_text.specs.Meaning.{starts_alias, sum_sign, product_sign, unit_of, set_operator_of}
 
 abbrev pub Test : Type 0

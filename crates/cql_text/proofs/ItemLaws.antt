@@ -1,19 +1,19 @@
 -- The readers of items decide their rules.
 use Rattle.std.proofs.Common.{◌≡◌, ℕ, zero, suc, Bool, true, false, List, [], ◌∷◌, ◌++◌, Ok, Option, Some, None, refl, sym, ap, ◌∙◌, subst, ◌⊎◌, inl, inr, if◌then◌else◌}
-use Rattle.cql_text.specs.declared.token.Fixed.{Fixed}
-use Rattle.cql_text.specs.declared.token.Fixed.TheVariants as k
-use Rattle.cql_text.specs.declared.token.Token.{Token}
-use Rattle.cql_text.specs.declared.token.Token.TheVariants as t
-use Rattle.cql_text.specs.declared.syntax.Function.{Function}
-use Rattle.cql_text.specs.declared.syntax.Function.TheVariants as f
-use Rattle.cql_text.specs.declared.syntax.Aggregate.{Aggregate}
-use Rattle.cql_text.specs.declared.syntax.Aggregate.TheVariants as a
-use Rattle.cql_text.specs.declared.syntax.Shown.{Shown}
-use Rattle.cql_text.specs.declared.syntax.Shown.TheVariants as s
-use Rattle.cql_text.specs.declared.syntax.Item.{Item}
-use Rattle.cql_text.specs.declared.syntax.Selection.{Selection}
-use Rattle.cql_text.specs.declared.syntax.Selection.TheVariants as e
-use Rattle.cql_text.specs.Tokens.{Tokens, is, same, knows, sign, joined}
+use Rattle.cql_syntax.specs.declared.token.Fixed.{Fixed}
+use Rattle.cql_syntax.specs.declared.token.Fixed.TheVariants as k
+use Rattle.cql_syntax.specs.declared.token.Token.{Token}
+use Rattle.cql_syntax.specs.declared.token.Token.TheVariants as t
+use Rattle.cql_syntax.specs.declared.syntax.Function.{Function}
+use Rattle.cql_syntax.specs.declared.syntax.Function.TheVariants as f
+use Rattle.cql_syntax.specs.declared.syntax.Aggregate.{Aggregate}
+use Rattle.cql_syntax.specs.declared.syntax.Aggregate.TheVariants as a
+use Rattle.cql_syntax.specs.declared.syntax.Shown.{Shown}
+use Rattle.cql_syntax.specs.declared.syntax.Shown.TheVariants as s
+use Rattle.cql_syntax.specs.declared.syntax.Item.{Item}
+use Rattle.cql_syntax.specs.declared.syntax.Selection.{Selection}
+use Rattle.cql_syntax.specs.declared.syntax.Selection.TheVariants as e
+use Rattle.cql_syntax.specs.Tokens.{Tokens, is, same, knows, sign, joined}
 use Rattle.cql_text.specs.Meaning.{function_of, starts_aggregate}
 use Rattle.cql_text.specs.Reading.{Parser, expect, token_by}
 use Rattle.cql_text.specs.Rules.{Rule}
@@ -21,7 +21,7 @@ use Rattle.cql_text.specs.Rules as rule
 use Rattle.cql_text.specs.Grammar as grammar
 use Rattle.cql_text.specs.Grammar.{IsName, IsColumn, IsExpression, IsCount, IsOver, IsShown, IsItem, IsSelection, most_levels}
 use Rattle.cql_text.specs.Readers as read
-use Rattle.cql_text.specs.Spelling.{function_word}
+use Rattle.cql_syntax.specs.Spelling.{function_word}
 use Rattle.cql_text.proofs.Laws as law
 use Rattle.cql_text.proofs.Readers.{Reader, Always, pure_reader, word_reader, one_reader}
 use Rattle.cql_text.proofs.Parts.{Stops, Before, Begins, first, both, both_always, made, pure_at, weaken, anywhere, optional_part, list_part, begins_word, begins_then, begins_one, begins_chain, begins_either, before_then, before_optional, before_pure, left_test, right_test, same_test, Narrow}

@@ -1,9 +1,9 @@
 -- What ties a reader of tokens to the rule that it decides.
 use Rattle.std.proofs.Common.{◌≡◌, ◌≤◌, ◌<◌, ◌^◌, ℕ, true, List, [], ◌∷◌, ◌++◌, length, Result, Ok, Err, Option, Some, None}
 use Rattle.cql_value.specs.Name.{is_name}
-use Rattle.cql_text.specs.declared.token.Token.{Token}
-use Rattle.cql_text.specs.declared.token.Token.TheVariants as t
-use Rattle.cql_text.specs.Tokens.{Tokens}
+use Rattle.cql_syntax.specs.declared.token.Token.{Token}
+use Rattle.cql_syntax.specs.declared.token.Token.TheVariants as t
+use Rattle.cql_syntax.specs.Tokens.{Tokens}
 use Rattle.cql_text.specs.Rules.{Rule}
 use Rattle.cql_text.specs.Reading.{Outcome, Parser}
 

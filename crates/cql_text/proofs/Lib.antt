@@ -1,4 +1,3 @@
-pub mod LexLemmas
 pub mod Laws
 pub mod ChainLaws
 pub mod Readers
@@ -15,9 +14,6 @@ pub mod Steps
 pub mod ReadLaws
 pub mod Finish
 pub mod Places
-pub mod Quotes
-pub mod Splits
-pub mod Pieces
 pub mod Again
 pub mod AgainQuery
 pub mod Cuts

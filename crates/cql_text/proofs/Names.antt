@@ -2,18 +2,18 @@
 use Rattle.std.proofs.Common.{◌≡◌, ◌≤◌, ◌<◌, ◌^◌, ◌*◌, nat_lt, nat_le, ℕ, zero, suc, pos, Bool, true, false, ◌&&◌, List, [], ◌∷◌, ◌++◌, Ok, Err, Option, Some, None, refl, sym, ap, ◌∙◌, subst, ◌⊎◌, inl, inr, if◌then◌else◌, arith, codes}
 use Rattle.std.proofs.lemmas.Bool.Decides.{nat_tests}
 use Rattle.cql_value.specs.Name.{is_name, is_reserved}
-use Rattle.cql_text.specs.declared.token.Fixed.{Fixed}
-use Rattle.cql_text.specs.declared.token.Fixed.TheVariants as k
-use Rattle.cql_text.specs.declared.token.Token.{Token}
-use Rattle.cql_text.specs.declared.token.Token.TheVariants as t
-use Rattle.cql_text.specs.declared.syntax.QualifiedName.{QualifiedName}
-use Rattle.cql_text.specs.declared.syntax.Constant.{Constant}
-use Rattle.cql_text.specs.declared.syntax.Constant.TheVariants as c
-use Rattle.cql_text.specs.declared.syntax.Expression.{Expression}
-use Rattle.cql_text.specs.declared.syntax.Expression.TheVariants as e
-use Rattle.cql_text.specs.declared.syntax.Operation.{Operation}
-use Rattle.cql_text.specs.declared.syntax.Operation.TheVariants as o
-use Rattle.cql_text.specs.Tokens.{Tokens, is, same, knows, sign}
+use Rattle.cql_syntax.specs.declared.token.Fixed.{Fixed}
+use Rattle.cql_syntax.specs.declared.token.Fixed.TheVariants as k
+use Rattle.cql_syntax.specs.declared.token.Token.{Token}
+use Rattle.cql_syntax.specs.declared.token.Token.TheVariants as t
+use Rattle.cql_syntax.specs.declared.syntax.QualifiedName.{QualifiedName}
+use Rattle.cql_syntax.specs.declared.syntax.Constant.{Constant}
+use Rattle.cql_syntax.specs.declared.syntax.Constant.TheVariants as c
+use Rattle.cql_syntax.specs.declared.syntax.Expression.{Expression}
+use Rattle.cql_syntax.specs.declared.syntax.Expression.TheVariants as e
+use Rattle.cql_syntax.specs.declared.syntax.Operation.{Operation}
+use Rattle.cql_syntax.specs.declared.syntax.Operation.TheVariants as o
+use Rattle.cql_syntax.specs.Tokens.{Tokens, is, same, knows, sign}
 use Rattle.cql_text.specs.Meaning.{name_of, is_word, qualified, constant_of, negative_of, minus, sum_sign, product_sign}
 use Rattle.cql_text.specs.Reading.{Parser, next_is, expect, token_by, optional, and_then}
 use Rattle.cql_text.specs.Rules.{Rule}

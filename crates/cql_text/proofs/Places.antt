@@ -1,15 +1,15 @@
 -- The reader's byte is the least of the places at which a text is refused.
 use Rattle.std.proofs.Common.{◌≡◌, ◌≢◌, ◌≤◌, ◌<◌, ℕ, zero, suc, ◌+◌, ◌-◌, min, nat_lt, Bool, true, false, ◌&&◌, if◌then◌else◌, List, [], ◌∷◌, ◌++◌, take, length, slice_get, slice_set, Option, Some, None, Result, Ok, Err, IfOk, refl, sym, ap, ◌∙◌, subst, append_assoc, append-nil, length-append, arith, ◌⊎◌, inl, inr}
 use Rattle.std.proofs.lemmas.Bool.Decides.{nat_tests}
-use Rattle.cql_text.specs.declared.token.Token.{Token}
-use Rattle.cql_text.specs.declared.token.Token.TheVariants as t
-use Rattle.cql_text.specs.declared.token.Lexeme.{Lexeme}
-use Rattle.cql_text.specs.declared.lex.Scanned.{Scanned}
-use Rattle.cql_text.specs.declared.syntax.Query.{Query}
-use Rattle.cql_text.specs.declared.read.ReadError.{ReadError}
-use Rattle.cql_text.specs.declared.read.ReadError.TheVariants.{BadQuery, NoMemory}
-use Rattle.cql_text.specs.Tokens.{Tokens, tokens_of}
-use Rattle.cql_text.specs.Lex.{Bytes, lexed, scan}
+use Rattle.cql_syntax.specs.declared.token.Token.{Token}
+use Rattle.cql_syntax.specs.declared.token.Token.TheVariants as t
+use Rattle.cql_syntax.specs.declared.token.Lexeme.{Lexeme}
+use Rattle.cql_syntax.specs.declared.lex.Scanned.{Scanned}
+use Rattle.cql_syntax.specs.declared.syntax.Query.{Query}
+use Rattle.cql_text.specs.declared.reader.ReadError.{ReadError}
+use Rattle.cql_text.specs.declared.reader.ReadError.TheVariants.{BadQuery, NoMemory}
+use Rattle.cql_syntax.specs.Tokens.{Tokens, tokens_of}
+use Rattle.cql_syntax.specs.Lex.{Bytes, lexed, scan}
 use Rattle.cql_text.specs.Grammar.{Spells, CanBegin}
 use Rattle.cql_text.specs.Reading.{Outcome}
 use Rattle.cql_text.specs.Readers.{query}

@@ -2,14 +2,14 @@
 use Rattle.std.proofs.Common.{◌≡◌, ◌≢◌, ◌≤◌, ◌<◌, ℕ, zero, suc, ◌+◌, ◌-◌, min, nat_lt, Bool, true, false, ◌&&◌, if◌then◌else◌, List, [], ◌∷◌, ◌++◌, map, take, length, slice_get, slice_set, Option, Some, None, Result, Ok, Err, refl, sym, ap, ◌∙◌, subst, append_assoc, append-nil, length-append, arith, ◌⊎◌, inl, inr}
 use Rattle.std.proofs.lemmas.Bool.Decides.{nat_tests}
 use Rattle.std.proofs.lemmas.List.{append_cancel_right}
-use Rattle.cql_text.specs.declared.token.Token.{Token}
-use Rattle.cql_text.specs.declared.token.Token.TheVariants as t
-use Rattle.cql_text.specs.declared.token.Lexeme.{Lexeme}
-use Rattle.cql_text.specs.declared.lex.Scanned.{Scanned}
-use Rattle.cql_text.specs.declared.syntax.Query.{Query}
-use Rattle.cql_text.specs.Tokens.{Tokens, tokens_of, same, sign}
+use Rattle.cql_syntax.specs.declared.token.Token.{Token}
+use Rattle.cql_syntax.specs.declared.token.Token.TheVariants as t
+use Rattle.cql_syntax.specs.declared.token.Lexeme.{Lexeme}
+use Rattle.cql_syntax.specs.declared.lex.Scanned.{Scanned}
+use Rattle.cql_syntax.specs.declared.syntax.Query.{Query}
+use Rattle.cql_syntax.specs.Tokens.{Tokens, tokens_of, same, sign}
 use Rattle.cql_text.specs.Meaning.{unit_of}
-use Rattle.cql_text.specs.Lex.{Bytes, lexed, scan, token, is_blank, after_lexeme, step, Found}
+use Rattle.cql_syntax.specs.Lex.{Bytes, lexed, scan, token, is_blank, after_lexeme, step, Found}
 use Rattle.cql_text.specs.Grammar.{Spells, CanBegin, IsQuery}
 use Rattle.cql_text.specs.Reading.{Outcome}
 use Rattle.cql_text.specs.Readers.{query}

@@ -1,10 +1,10 @@
 -- A canonical spelling is read as what it spells.
 use Rattle.std.proofs.Common.{◌≡◌, ◌≤◌, List, [], ◌∷◌, ◌++◌, length, None, refl, sym, ap, ◌∙◌, subst, append-nil}
-use Rattle.cql_text.specs.declared.syntax.Query.{Query}
-use Rattle.cql_text.specs.Tokens.{Tokens, tokens_of}
-use Rattle.cql_text.specs.Lex.{Bytes, lexed}
+use Rattle.cql_syntax.specs.declared.syntax.Query.{Query}
+use Rattle.cql_syntax.specs.Tokens.{Tokens, tokens_of}
+use Rattle.cql_syntax.specs.Lex.{Bytes, lexed}
 use Rattle.cql_text.specs.Grammar.{Spells}
-use Rattle.cql_text.specs.Spelling.{pieces_tokens, spell_query, canonical}
+use Rattle.cql_syntax.specs.Spelling.{pieces_tokens, spell_query, canonical}
 use Rattle.cql_text.specs.Read.{most_bytes, Is, IsSyntax}
 use Rattle.cql_text.proofs.Laws.{ArePlain}
 use Rattle.cql_text.proofs.BlockLaws.{query_reader}

@@ -2,13 +2,13 @@
 use Rattle.std.proofs.Common.{◌≡◌, ◌≤◌, ◌<◌, ◌^◌, ◌*◌, nat_lt, nat_le, ℕ, zero, suc, Bool, true, false, ◌&&◌, ◌||◌, List, [], ◌∷◌, ◌++◌, Ok, Err, Option, Some, None, refl, sym, ap, ◌∙◌, subst, ◌⊎◌, inl, inr, if◌then◌else◌, is_some, arith}
 use Rattle.std.proofs.lemmas.Bool.Decides.{nat_tests}
 use Rattle.cql_value.specs.Name.{is_name}
-use Rattle.cql_text.specs.declared.token.Fixed.{Fixed}
-use Rattle.cql_text.specs.declared.token.Fixed.TheVariants as k
-use Rattle.cql_text.specs.declared.token.Token.{Token}
-use Rattle.cql_text.specs.declared.token.Token.TheVariants as t
-use Rattle.cql_text.specs.declared.syntax.Window.{Window}
-use Rattle.cql_text.specs.declared.syntax.Window.TheVariants as w
-use Rattle.cql_text.specs.Tokens.{Tokens, is, same, knows, sign, joined}
+use Rattle.cql_syntax.specs.declared.token.Fixed.{Fixed}
+use Rattle.cql_syntax.specs.declared.token.Fixed.TheVariants as k
+use Rattle.cql_syntax.specs.declared.token.Token.{Token}
+use Rattle.cql_syntax.specs.declared.token.Token.TheVariants as t
+use Rattle.cql_syntax.specs.declared.syntax.WrittenWindow.{WrittenWindow}
+use Rattle.cql_syntax.specs.declared.syntax.WrittenWindow.TheVariants as w
+use Rattle.cql_syntax.specs.Tokens.{Tokens, is, same, knows, sign, joined}
 use Rattle.cql_text.specs.Meaning.{number_from, unit_of, unit_named, times, ticks_of, or_else}
 use Rattle.cql_text.specs.Reading.{Outcome, Parser, expect, token_by, optional, next_is, and_then}
 use Rattle.cql_text.specs.Rules.{Rule}
@@ -131,7 +131,7 @@ length_reader least h =
 
 -- ---- windows
 
-abbrev Unbounded : Rule Window
+abbrev Unbounded : Rule WrittenWindow
 Unbounded = rule.◌>>◌ (rule.word k.Unbounded) (rule.pure w.Unbounded)
 
 unbounded_reader : Reader read.unbounded Unbounded Always
@@ -165,10 +165,10 @@ row_slide_reader =
     (first (expect k.Slide) (rule.word k.Slide) _ _ Always (word_reader k.Slide) (λ _. number_reader 1 (omega arith)))
     (begins_then (rule.word k.Slide) _ (is k.Slide) true (begins_word k.Slide (is k.Slide) true refl)))
 
-abbrev Bounded : Rule Window
+abbrev Bounded : Rule WrittenWindow
 Bounded = rule.◌>>=◌ (IsLength 0) (λ n. rule.◌>>=◌ (rule.optional TimeSlide) (λ slide. rule.pure (w.Range n (or_else 1 slide))))
 
-abbrev BoundedRows : Rule Window
+abbrev BoundedRows : Rule WrittenWindow
 BoundedRows = rule.◌>>=◌ (rule.one (number_from 1)) (λ n. rule.◌>>=◌ (rule.optional RowSlide) (λ slide. rule.pure (w.Rows n (or_else 1 slide))))
 
 no_unit : after_length (t.Fixed k.Slide) ≡ false
@@ -225,7 +225,7 @@ partition_reader =
     made (token_by (number_from 1)) (rule.one (number_from 1)) (w.Partition columns) Always (number_reader 1 (omega arith))))
     (λ columns. begins_then (rule.word k.Rows) _ (is k.Comma) false (begins_word k.Rows (is k.Comma) false refl))))
 
-abbrev Now : Rule Window
+abbrev Now : Rule WrittenWindow
 Now = rule.◌>>◌ (rule.word k.Now) (rule.pure (w.Range 0 1))
 
 now_reader : Reader read.now Now Always
@@ -254,13 +254,13 @@ window_reader =
     (begins_then (rule.word k.Now) _ (is k.Now) true (begins_word k.Now (is k.Now) true refl))
     (begins_either Unbounded Two (is k.Now) false (begins_unbounded (is k.Now) false refl) (two (is k.Now) refl refl refl))
   where
-    Three : Rule Window
+    Three : Rule WrittenWindow
     Three = rule.either IsRows IsPartition
 
-    Two : Rule Window
+    Two : Rule WrittenWindow
     Two = rule.either IsRange Three
 
-    One : Rule Window
+    One : Rule WrittenWindow
     One = rule.either Unbounded Two
 
     three : (test : Test) → test (t.Fixed k.Rows) ≡ false → test (t.Fixed k.Partition) ≡ false → Begins Three test false

@@ -1,30 +1,30 @@
 -- The grammar: each rule is a production, factored from the left.
 use Rattle.std.specs.Prelude.{◌≡◌, ℕ, zero, suc, ◌^◌, Bool, true, false, List, [], ◌∷◌, ◌++◌, Option, Some, None}
-use Rattle.cql_text.specs.declared.token.Fixed.TheVariants as k
-use Rattle.cql_text.specs.declared.syntax.QualifiedName.{QualifiedName}
-use Rattle.cql_text.specs.declared.syntax.Constant.{Constant}
-use Rattle.cql_text.specs.declared.syntax.Expression.{Expression}
-use Rattle.cql_text.specs.declared.syntax.Expression.TheVariants as expression
-use Rattle.cql_text.specs.declared.syntax.Aggregate.{Aggregate}
-use Rattle.cql_text.specs.declared.syntax.Aggregate.TheVariants as aggregate
-use Rattle.cql_text.specs.declared.syntax.Shown.{Shown}
-use Rattle.cql_text.specs.declared.syntax.Shown.TheVariants as shown
-use Rattle.cql_text.specs.declared.syntax.Item.{Item}
-use Rattle.cql_text.specs.declared.syntax.Selection.{Selection}
-use Rattle.cql_text.specs.declared.syntax.Selection.TheVariants as selection
-use Rattle.cql_text.specs.declared.syntax.Operand.{Operand}
-use Rattle.cql_text.specs.declared.syntax.Operand.TheVariants as operand
-use Rattle.cql_text.specs.declared.syntax.Condition.{Condition}
-use Rattle.cql_text.specs.declared.syntax.Condition.TheVariants as condition
-use Rattle.cql_text.specs.declared.syntax.Window.{Window}
-use Rattle.cql_text.specs.declared.syntax.Window.TheVariants as window
-use Rattle.cql_text.specs.declared.syntax.Input.{Input}
-use Rattle.cql_text.specs.declared.syntax.Block.{Block}
-use Rattle.cql_text.specs.declared.syntax.SetOperator.{SetOperator}
-use Rattle.cql_text.specs.declared.syntax.Second.{Second}
-use Rattle.cql_text.specs.declared.syntax.StreamOperator.{StreamOperator}
-use Rattle.cql_text.specs.declared.syntax.Query.{Query}
-use Rattle.cql_text.specs.Tokens.{Tokens, sign, joined}
+use Rattle.cql_syntax.specs.declared.token.Fixed.TheVariants as k
+use Rattle.cql_syntax.specs.declared.syntax.QualifiedName.{QualifiedName}
+use Rattle.cql_syntax.specs.declared.syntax.Constant.{Constant}
+use Rattle.cql_syntax.specs.declared.syntax.Expression.{Expression}
+use Rattle.cql_syntax.specs.declared.syntax.Expression.TheVariants as expression
+use Rattle.cql_syntax.specs.declared.syntax.Aggregate.{Aggregate}
+use Rattle.cql_syntax.specs.declared.syntax.Aggregate.TheVariants as aggregate
+use Rattle.cql_syntax.specs.declared.syntax.Shown.{Shown}
+use Rattle.cql_syntax.specs.declared.syntax.Shown.TheVariants as shown
+use Rattle.cql_syntax.specs.declared.syntax.Item.{Item}
+use Rattle.cql_syntax.specs.declared.syntax.Selection.{Selection}
+use Rattle.cql_syntax.specs.declared.syntax.Selection.TheVariants as selection
+use Rattle.cql_syntax.specs.declared.syntax.Operand.{Operand}
+use Rattle.cql_syntax.specs.declared.syntax.Operand.TheVariants as operand
+use Rattle.cql_syntax.specs.declared.syntax.Condition.{Condition}
+use Rattle.cql_syntax.specs.declared.syntax.Condition.TheVariants as condition
+use Rattle.cql_syntax.specs.declared.syntax.WrittenWindow.{WrittenWindow}
+use Rattle.cql_syntax.specs.declared.syntax.WrittenWindow.TheVariants as window
+use Rattle.cql_syntax.specs.declared.syntax.Input.{Input}
+use Rattle.cql_syntax.specs.declared.syntax.SelectBlock.{SelectBlock}
+use Rattle.cql_syntax.specs.declared.syntax.SetOperator.{SetOperator}
+use Rattle.cql_syntax.specs.declared.syntax.Second.{Second}
+use Rattle.cql_syntax.specs.declared.syntax.StreamOperator.{StreamOperator}
+use Rattle.cql_syntax.specs.declared.syntax.Query.{Query}
+use Rattle.cql_syntax.specs.Tokens.{Tokens, sign, joined}
 use Rattle.cql_text.specs.Meaning.{name_of, qualified, constant_of, negative_of, sum_sign, product_sign, function_of, comparison_of, stream_operator_of, set_operator_of, number_from, ticks_of, or_else, or_unbounded, or_empty, to_list}
 use Rattle.cql_text.specs.Rules.{Rule, ◌>>=◌, ◌>>◌, pure, word, one, optional, may, either, chain}
 
@@ -158,21 +158,21 @@ IsLength least = do
   pure (or_else n ticks)
 
 -- RANGE ( UNBOUNDED | length [ SLIDE length ] )
-abbrev pub IsRange : Rule Window
+abbrev pub IsRange : Rule WrittenWindow
 IsRange = word k.Range >> either (word k.Unbounded >> pure window.Unbounded) (do
   length ← IsLength 0
   slide ← optional (word k.Slide >> IsLength 1)
   pure (window.Range length (or_else 1 slide)))
 
 -- ROWS ( UNBOUNDED | number [ SLIDE number ] )
-abbrev pub IsRows : Rule Window
+abbrev pub IsRows : Rule WrittenWindow
 IsRows = word k.Rows >> either (word k.Unbounded >> pure window.Unbounded) (do
   count ← one (number_from 1)
   slide ← optional (word k.Slide >> one (number_from 1))
   pure (window.Rows count (or_else 1 slide)))
 
 -- PARTITION BY name { "," name } ROWS number
-abbrev pub IsPartition : Rule Window
+abbrev pub IsPartition : Rule WrittenWindow
 IsPartition = do
   word k.Partition
   word k.By
@@ -181,7 +181,7 @@ IsPartition = do
   count ← one (number_from 1)
   pure (window.Partition columns count)
 
-abbrev pub IsWindow : Rule Window
+abbrev pub IsWindow : Rule WrittenWindow
 IsWindow =
     either (word k.Now >> pure (window.Range 0 1))
     (either (word k.Unbounded >> pure window.Unbounded)
@@ -213,7 +213,7 @@ IsInputs = do
   pure (first ∷ or_empty further)
 
 -- FROM inputs [ WHERE condition ] [ GROUP BY column { "," column } ], of a block that shows this
-abbrev pub IsRest : Bool → Selection → Rule Block
+abbrev pub IsRest : Bool → Selection → Rule SelectBlock
 IsRest distinct selection = do
   word k.From
   inputs ← IsInputs
@@ -222,14 +222,14 @@ IsRest distinct selection = do
   pure (record { distinct = distinct; selection = selection; inputs = inputs; condition = condition; groups = or_empty groups })
 
 -- what follows SELECT in a block: [ DISTINCT ] items rest
-abbrev pub IsSelected : Rule Block
+abbrev pub IsSelected : Rule SelectBlock
 IsSelected = do
   distinct ← may k.Distinct
   selection ← IsSelection
   IsRest distinct selection
 
 -- SELECT [ DISTINCT ] items rest
-abbrev pub IsBlock : Rule Block
+abbrev pub IsBlock : Rule SelectBlock
 IsBlock = word k.Select >> IsSelected
 
 -- ( UNION | EXCEPT ) ALL block
@@ -242,7 +242,7 @@ IsSecond = do
 
 -- ---- queries
 
-abbrev pub query_of : Option StreamOperator → Block → Option Second → Query
+abbrev pub query_of : Option StreamOperator → SelectBlock → Option Second → Query
 query_of output first second = record { output = output; first = first; second = second }
 
 -- streamop "(" block [ setop block ] ")"

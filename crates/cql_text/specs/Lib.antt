@@ -1,9 +1,6 @@
-pub mod Tokens
-pub mod Lex
 pub mod Rules
 pub mod Meaning
 pub mod Grammar
 pub mod Reading
 pub mod Readers
 pub mod Read
-pub mod Spelling

@@ -2,32 +2,32 @@
 use Rattle.std.specs.Prelude.{◌≡◌, ℕ, zero, suc, ◌+◌, ◌*◌, ◌^◌, ◌-◌, nat_lt, nat_le, ℤ, pos, negsuc, Bool, true, false, ◌||◌, ◌&&◌, if◌then◌else◌, List, [], ◌∷◌, ◌++◌, Option, Some, None, codes}
 use Rattle.std.specs.Str.{str_eq_ignore_ascii_case}
 use Rattle.cql_value.specs.Name.{is_name}
-use Rattle.cql_text.specs.declared.token.Fixed.{Fixed}
-use Rattle.cql_text.specs.declared.token.Fixed.TheVariants as k
-use Rattle.cql_text.specs.declared.token.Token.{Token}
-use Rattle.cql_text.specs.declared.token.Token.TheVariants as t
-use Rattle.cql_text.specs.declared.syntax.StreamOperator.{StreamOperator}
-use Rattle.cql_text.specs.declared.syntax.StreamOperator.TheVariants.{Istream, Dstream, Rstream}
-use Rattle.cql_text.specs.declared.syntax.SetOperator.{SetOperator}
-use Rattle.cql_text.specs.declared.syntax.SetOperator.TheVariants.{UnionAll, ExceptAll}
-use Rattle.cql_text.specs.declared.syntax.QualifiedName.{QualifiedName}
-use Rattle.cql_text.specs.declared.syntax.Constant.{Constant}
-use Rattle.cql_text.specs.declared.syntax.Constant.TheVariants as constant
-use Rattle.cql_text.specs.declared.syntax.Operation.{Operation}
-use Rattle.cql_text.specs.declared.syntax.Operation.TheVariants.{Add, Subtract, Multiply}
-use Rattle.cql_text.specs.declared.syntax.Function.{Function}
-use Rattle.cql_text.specs.declared.syntax.Function.TheVariants.{Sum, Min, Max}
-use Rattle.cql_text.specs.declared.syntax.Comparison.{Comparison}
-use Rattle.cql_text.specs.declared.syntax.Comparison.TheVariants as comparison
-use Rattle.cql_text.specs.declared.syntax.Window.{Window}
-use Rattle.cql_text.specs.declared.syntax.Window.TheVariants as window
-use Rattle.cql_text.specs.declared.syntax.Input.{Input}
-use Rattle.cql_text.specs.declared.syntax.Selection.{Selection}
-use Rattle.cql_text.specs.declared.syntax.Condition.{Condition}
-use Rattle.cql_text.specs.declared.syntax.Block.{Block}
-use Rattle.cql_text.specs.declared.syntax.Second.{Second}
-use Rattle.cql_text.specs.declared.syntax.Query.{Query}
-use Rattle.cql_text.specs.Tokens.{is, knows}
+use Rattle.cql_syntax.specs.declared.token.Fixed.{Fixed}
+use Rattle.cql_syntax.specs.declared.token.Fixed.TheVariants as k
+use Rattle.cql_syntax.specs.declared.token.Token.{Token}
+use Rattle.cql_syntax.specs.declared.token.Token.TheVariants as t
+use Rattle.cql_syntax.specs.declared.syntax.StreamOperator.{StreamOperator}
+use Rattle.cql_syntax.specs.declared.syntax.StreamOperator.TheVariants.{Istream, Dstream, Rstream}
+use Rattle.cql_syntax.specs.declared.syntax.SetOperator.{SetOperator}
+use Rattle.cql_syntax.specs.declared.syntax.SetOperator.TheVariants.{UnionAll, ExceptAll}
+use Rattle.cql_syntax.specs.declared.syntax.QualifiedName.{QualifiedName}
+use Rattle.cql_syntax.specs.declared.syntax.Constant.{Constant}
+use Rattle.cql_syntax.specs.declared.syntax.Constant.TheVariants as constant
+use Rattle.cql_syntax.specs.declared.syntax.Operation.{Operation}
+use Rattle.cql_syntax.specs.declared.syntax.Operation.TheVariants.{Add, Subtract, Multiply}
+use Rattle.cql_syntax.specs.declared.syntax.Function.{Function}
+use Rattle.cql_syntax.specs.declared.syntax.Function.TheVariants.{Sum, Min, Max}
+use Rattle.cql_syntax.specs.declared.syntax.Comparison.{Comparison}
+use Rattle.cql_syntax.specs.declared.syntax.Comparison.TheVariants as comparison
+use Rattle.cql_syntax.specs.declared.syntax.WrittenWindow.{WrittenWindow}
+use Rattle.cql_syntax.specs.declared.syntax.WrittenWindow.TheVariants as window
+use Rattle.cql_syntax.specs.declared.syntax.Input.{Input}
+use Rattle.cql_syntax.specs.declared.syntax.Selection.{Selection}
+use Rattle.cql_syntax.specs.declared.syntax.Condition.{Condition}
+use Rattle.cql_syntax.specs.declared.syntax.SelectBlock.{SelectBlock}
+use Rattle.cql_syntax.specs.declared.syntax.Second.{Second}
+use Rattle.cql_syntax.specs.declared.syntax.Query.{Query}
+use Rattle.cql_syntax.specs.Tokens.{is, knows}
 
 -- ---- names
 
@@ -138,7 +138,7 @@ or_else n None = n
 or_else n (Some m) = m
 
 -- no window is the unbounded one
-abbrev pub or_unbounded : Option Window → Window
+abbrev pub or_unbounded : Option WrittenWindow → WrittenWindow
 or_unbounded None = window.Unbounded
 or_unbounded (Some w) = w
 

@@ -1,14 +1,14 @@
 -- A text as a query, or the byte at which it is refused.
 use Rattle.std.specs.Prelude.{◌≡◌, ◌≢◌, ◌≤◌, ◌<◌, ℕ, ◌+◌, ◌-◌, min, nat_lt, nat_le, Bool, true, false, ◌&&◌, if◌then◌else◌, List, [], ◌∷◌, ◌++◌, take, length, slice_get, slice_set, Option, Some, None, Result, Ok, Err, ◌⊎◌}
-use Rattle.cql_text.specs.declared.token.Token.{Token}
-use Rattle.cql_text.specs.declared.token.Token.TheVariants as t
-use Rattle.cql_text.specs.declared.token.Lexeme.{Lexeme}
-use Rattle.cql_text.specs.declared.lex.Scanned.{Scanned}
-use Rattle.cql_text.specs.declared.syntax.Query.{Query}
-use Rattle.cql_text.specs.declared.read.ReadError.{ReadError}
-use Rattle.cql_text.specs.declared.read.ReadError.TheVariants.{BadQuery, NoMemory}
-use Rattle.cql_text.specs.Tokens.{Tokens, tokens_of}
-use Rattle.cql_text.specs.Lex.{Bytes, lexed}
+use Rattle.cql_syntax.specs.declared.token.Token.{Token}
+use Rattle.cql_syntax.specs.declared.token.Token.TheVariants as t
+use Rattle.cql_syntax.specs.declared.token.Lexeme.{Lexeme}
+use Rattle.cql_syntax.specs.declared.lex.Scanned.{Scanned}
+use Rattle.cql_syntax.specs.declared.syntax.Query.{Query}
+use Rattle.cql_text.specs.declared.reader.ReadError.{ReadError}
+use Rattle.cql_text.specs.declared.reader.ReadError.TheVariants.{BadQuery, NoMemory}
+use Rattle.cql_syntax.specs.Tokens.{Tokens, tokens_of}
+use Rattle.cql_syntax.specs.Lex.{Bytes, lexed}
 use Rattle.cql_text.specs.Grammar.{Spells, CanBegin}
 use Rattle.cql_text.specs.Reading.{Outcome}
 use Rattle.cql_text.specs.Readers.{query}

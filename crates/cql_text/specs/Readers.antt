@@ -1,29 +1,29 @@
 -- The readers of the rules in `Grammar.antt`: each decides by the next token.
 use Rattle.std.specs.Prelude.{◌≡◌, ℕ, zero, suc, ◌^◌, Bool, true, false, List, [], ◌∷◌, ◌++◌, Option, Some, None, Ok}
-use Rattle.cql_text.specs.declared.token.Fixed.TheVariants as k
-use Rattle.cql_text.specs.declared.syntax.QualifiedName.{QualifiedName}
-use Rattle.cql_text.specs.declared.syntax.Constant.{Constant}
-use Rattle.cql_text.specs.declared.syntax.Expression.{Expression}
-use Rattle.cql_text.specs.declared.syntax.Expression.TheVariants as expression_kind
-use Rattle.cql_text.specs.declared.syntax.Aggregate.{Aggregate}
-use Rattle.cql_text.specs.declared.syntax.Aggregate.TheVariants as aggregate_kind
-use Rattle.cql_text.specs.declared.syntax.Shown.{Shown}
-use Rattle.cql_text.specs.declared.syntax.Shown.TheVariants as shown_kind
-use Rattle.cql_text.specs.declared.syntax.Item.{Item}
-use Rattle.cql_text.specs.declared.syntax.Selection.{Selection}
-use Rattle.cql_text.specs.declared.syntax.Selection.TheVariants as selection_kind
-use Rattle.cql_text.specs.declared.syntax.Operand.{Operand}
-use Rattle.cql_text.specs.declared.syntax.Operand.TheVariants as operand_kind
-use Rattle.cql_text.specs.declared.syntax.Condition.{Condition}
-use Rattle.cql_text.specs.declared.syntax.Condition.TheVariants as condition_kind
-use Rattle.cql_text.specs.declared.syntax.Window.{Window}
-use Rattle.cql_text.specs.declared.syntax.Window.TheVariants as window_kind
-use Rattle.cql_text.specs.declared.syntax.Input.{Input}
-use Rattle.cql_text.specs.declared.syntax.Block.{Block}
-use Rattle.cql_text.specs.declared.syntax.SetOperator.{SetOperator}
-use Rattle.cql_text.specs.declared.syntax.Second.{Second}
-use Rattle.cql_text.specs.declared.syntax.Query.{Query}
-use Rattle.cql_text.specs.Tokens.{Tokens, is, knows, sign}
+use Rattle.cql_syntax.specs.declared.token.Fixed.TheVariants as k
+use Rattle.cql_syntax.specs.declared.syntax.QualifiedName.{QualifiedName}
+use Rattle.cql_syntax.specs.declared.syntax.Constant.{Constant}
+use Rattle.cql_syntax.specs.declared.syntax.Expression.{Expression}
+use Rattle.cql_syntax.specs.declared.syntax.Expression.TheVariants as expression_kind
+use Rattle.cql_syntax.specs.declared.syntax.Aggregate.{Aggregate}
+use Rattle.cql_syntax.specs.declared.syntax.Aggregate.TheVariants as aggregate_kind
+use Rattle.cql_syntax.specs.declared.syntax.Shown.{Shown}
+use Rattle.cql_syntax.specs.declared.syntax.Shown.TheVariants as shown_kind
+use Rattle.cql_syntax.specs.declared.syntax.Item.{Item}
+use Rattle.cql_syntax.specs.declared.syntax.Selection.{Selection}
+use Rattle.cql_syntax.specs.declared.syntax.Selection.TheVariants as selection_kind
+use Rattle.cql_syntax.specs.declared.syntax.Operand.{Operand}
+use Rattle.cql_syntax.specs.declared.syntax.Operand.TheVariants as operand_kind
+use Rattle.cql_syntax.specs.declared.syntax.Condition.{Condition}
+use Rattle.cql_syntax.specs.declared.syntax.Condition.TheVariants as condition_kind
+use Rattle.cql_syntax.specs.declared.syntax.WrittenWindow.{WrittenWindow}
+use Rattle.cql_syntax.specs.declared.syntax.WrittenWindow.TheVariants as window_kind
+use Rattle.cql_syntax.specs.declared.syntax.Input.{Input}
+use Rattle.cql_syntax.specs.declared.syntax.SelectBlock.{SelectBlock}
+use Rattle.cql_syntax.specs.declared.syntax.SetOperator.{SetOperator}
+use Rattle.cql_syntax.specs.declared.syntax.Second.{Second}
+use Rattle.cql_syntax.specs.declared.syntax.Query.{Query}
+use Rattle.cql_syntax.specs.Tokens.{Tokens, is, knows, sign}
 use Rattle.cql_text.specs.Meaning.{name_of, is_word, starts_alias, qualified, constant_of, negative_of, sum_sign, product_sign, function_of, starts_aggregate, comparison_of, stream_operator_of, set_operator_of, number_from, unit_of, ticks_of, or_else, or_unbounded, or_empty, to_list}
 use Rattle.cql_text.specs.Grammar.{most_levels, query_of}
 use Rattle.cql_text.specs.Reading.{Parser, next_is, ◌>>=◌, ◌>>◌, pure, expect, eat, token_by, optional, choice, chain_of, list_of}
@@ -154,37 +154,37 @@ length least = do
   ticks ← optional (knows unit_of) (token_by (ticks_of n))
   pure (or_else n ticks)
 
-unfoldable pub unbounded : Parser Window
+unfoldable pub unbounded : Parser WrittenWindow
 unbounded = expect k.Unbounded >> pure window_kind.Unbounded
 
 unfoldable pub time_slide : Parser (Option ℕ)
 time_slide = optional (is k.Slide) (expect k.Slide >> length 1)
 
-unfoldable pub bounded_range : Parser Window
+unfoldable pub bounded_range : Parser WrittenWindow
 bounded_range = do
   n ← length 0
   slide ← time_slide
   pure (window_kind.Range n (or_else 1 slide))
 
-unfoldable pub range : Parser Window
+unfoldable pub range : Parser WrittenWindow
 range = expect k.Range >> choice (is k.Unbounded) unbounded bounded_range
 
 unfoldable pub row_slide : Parser (Option ℕ)
 row_slide = optional (is k.Slide) (expect k.Slide >> token_by (number_from 1))
 
-unfoldable pub bounded_rows : Parser Window
+unfoldable pub bounded_rows : Parser WrittenWindow
 bounded_rows = do
   n ← token_by (number_from 1)
   slide ← row_slide
   pure (window_kind.Rows n (or_else 1 slide))
 
-unfoldable pub rows : Parser Window
+unfoldable pub rows : Parser WrittenWindow
 rows = expect k.Rows >> choice (is k.Unbounded) unbounded bounded_rows
 
 unfoldable pub names : Parser (List (List ℕ))
 names = list_of name
 
-unfoldable pub partition : Parser Window
+unfoldable pub partition : Parser WrittenWindow
 partition = do
   expect k.Partition
   expect k.By
@@ -193,13 +193,13 @@ partition = do
   n ← token_by (number_from 1)
   pure (window_kind.Partition columns n)
 
-unfoldable pub now : Parser Window
+unfoldable pub now : Parser WrittenWindow
 now = expect k.Now >> pure (window_kind.Range 0 1)
 
-unfoldable pub window : Parser Window
+unfoldable pub window : Parser WrittenWindow
 window = choice (is k.Now) now (choice (is k.Unbounded) unbounded (choice (is k.Range) range (choice (is k.Rows) rows partition)))
 
-unfoldable pub in_squares : Parser Window
+unfoldable pub in_squares : Parser WrittenWindow
 in_squares = do
   expect k.OpenSquare
   w ← window
@@ -208,7 +208,7 @@ in_squares = do
 
 -- ---- blocks
 
-abbrev pub window_if_any : Parser (Option Window)
+abbrev pub window_if_any : Parser (Option WrittenWindow)
 window_if_any = optional (is k.OpenSquare) in_squares
 
 unfoldable pub sees_alias : Tokens → Bool
@@ -254,7 +254,7 @@ columns = list_of column
 unfoldable pub group_clause : Parser (Option (List QualifiedName))
 group_clause = optional (is k.Group) (expect k.Group >> (expect k.By >> columns))
 
-unfoldable pub rest : Bool → Selection → Parser Block
+unfoldable pub rest : Bool → Selection → Parser SelectBlock
 rest distinct selection = do
   expect k.From
   from ← inputs
@@ -262,13 +262,13 @@ rest distinct selection = do
   groups ← group_clause
   pure (record { distinct = distinct; selection = selection; inputs = from; condition = c; groups = or_empty groups })
 
-unfoldable pub selected : Parser Block
+unfoldable pub selected : Parser SelectBlock
 selected = do
   distinct ← eat k.Distinct
   s ← selection
   rest distinct s
 
-unfoldable pub block : Parser Block
+unfoldable pub block : Parser SelectBlock
 block = expect k.Select >> selected
 
 unfoldable pub second : Parser Second

@@ -1,11 +1,11 @@
 -- What the reader of tokens is made of.
 use Rattle.std.specs.Prelude.{◌≡◌, ◌≢◌, length, ℕ, zero, suc, Bool, true, false, if◌then◌else◌, List, [], ◌∷◌, ◌++◌, drop, Result, Ok, Err, Option, Some, None}
-use Rattle.cql_text.specs.declared.token.Fixed.{Fixed}
-use Rattle.cql_text.specs.declared.token.Fixed.TheVariants as k
-use Rattle.cql_text.specs.declared.token.Token.{Token}
+use Rattle.cql_syntax.specs.declared.token.Fixed.{Fixed}
+use Rattle.cql_syntax.specs.declared.token.Fixed.TheVariants as k
+use Rattle.cql_syntax.specs.declared.token.Token.{Token}
 use Rattle.cql_text.specs.declared.cursor.Stop.{Stop}
 use Rattle.cql_text.specs.declared.cursor.Stop.TheVariants.{Memory}
-use Rattle.cql_text.specs.Tokens.{Tokens, is, sign, joined}
+use Rattle.cql_syntax.specs.Tokens.{Tokens, is, sign, joined}
 
 -- whether the next token passes the test
 abbrev pub next_is : (Token → Bool) → Tokens → Bool

@@ -7,14 +7,14 @@ use crate::condition::condition;
 use crate::constant::{column, name};
 use crate::cursor::{Cursor, Stop};
 use crate::item::{MOST_LEVELS, selection};
-use crate::syntax::{Block, Condition, Input, QualifiedName, Selection, Window};
-use crate::token::Fixed;
 use crate::window::in_squares;
+use cql_syntax::syntax::{Condition, Input, QualifiedName, SelectBlock, Selection, WrittenWindow};
+use cql_syntax::token::Fixed;
 use cql_value::{Items, Name};
 use std::alloc::Global;
 
 #[tactic(auto, unfolding(crate::specs::Reading::optional))]
-fn window_if_any(alloc: Global, cursor: &mut Cursor<'_>) -> Result<Option<Window>, Stop>
+fn window_if_any(alloc: Global, cursor: &mut Cursor<'_>) -> Result<Option<WrittenWindow>, Stop>
     ensures { Reads (spec.window_if_any cursor.old) result cursor.new }
 {
     if cursor.sees(Fixed::OpenSquare) {
@@ -52,7 +52,7 @@ fn input(alloc: Global, cursor: &mut Cursor<'_>) -> Result<Input, Stop>
     let alias = alias(alloc, cursor)?;
     Ok(Input {
         stream,
-        window: window.unwrap_or(Window::Unbounded),
+        window: window.unwrap_or(WrittenWindow::Unbounded),
         alias,
     })
 }
@@ -164,14 +164,14 @@ pub(crate) fn rest(
     cursor: &mut Cursor<'_>,
     distinct: bool,
     selection: Selection,
-) -> Result<Block, Stop>
+) -> Result<SelectBlock, Stop>
     ensures { Reads (spec.rest distinct selection cursor.old) result cursor.new }
 {
     cursor.expect(Fixed::From)?;
     let inputs = inputs(alloc, cursor)?;
     let condition = where_clause(alloc, cursor)?;
     let groups = group_clause(alloc, cursor)?;
-    Ok(Block {
+    Ok(SelectBlock {
         distinct,
         selection,
         inputs,
@@ -182,7 +182,7 @@ pub(crate) fn rest(
 
 /// What follows SELECT in a block.
 #[tactic(auto, unfolding(crate::specs::Readers::selected))]
-pub(crate) fn selected(alloc: Global, cursor: &mut Cursor<'_>) -> Result<Block, Stop>
+pub(crate) fn selected(alloc: Global, cursor: &mut Cursor<'_>) -> Result<SelectBlock, Stop>
     ensures { Reads (spec.selected cursor.old) result cursor.new }
 {
     let distinct = cursor.eat(Fixed::Distinct);
@@ -192,7 +192,7 @@ pub(crate) fn selected(alloc: Global, cursor: &mut Cursor<'_>) -> Result<Block, 
 
 /// A block.
 #[tactic(auto, unfolding(crate::specs::Readers::block))]
-pub(crate) fn block(alloc: Global, cursor: &mut Cursor<'_>) -> Result<Block, Stop>
+pub(crate) fn block(alloc: Global, cursor: &mut Cursor<'_>) -> Result<SelectBlock, Stop>
     ensures { Reads (spec.block cursor.old) result cursor.new }
 {
     cursor.expect(Fixed::Select)?;

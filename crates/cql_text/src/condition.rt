@@ -1,15 +1,15 @@
 // Reads conditions.
 ghost use Rattle.std.specs.Prelude.{◌≡◌, ◌≤◌, length, IfOk};
-ghost use Rattle.cql_text.specs.Tokens.{sign};
+ghost use Rattle.cql_syntax.specs.Tokens.{sign};
 ghost use Rattle.cql_text.specs.Meaning as meaning;
 ghost use Rattle.cql_text.specs.Reading.{Reads, chain, token_by};
 ghost use Rattle.cql_text.specs.Readers as spec;
-ghost use Rattle.cql_text.specs.declared.token.Fixed.TheVariants as k;
+ghost use Rattle.cql_syntax.specs.declared.token.Fixed.TheVariants as k;
 
 use crate::constant::{column, constant};
 use crate::cursor::{Cursor, Stop};
-use crate::syntax::{Comparison, Condition, Operand};
-use crate::token::Fixed;
+use cql_syntax::syntax::{Comparison, Condition, Operand};
+use cql_syntax::token::Fixed;
 use cql_value::Boxed;
 use std::alloc::{AllocError, Global};
 

@@ -5,8 +5,8 @@ ghost use Rattle.cql_text.specs.Reading.{Reads, token_by};
 ghost use Rattle.cql_text.specs.Readers as spec;
 
 use crate::cursor::{Cursor, Stop};
-use crate::syntax::{Constant, QualifiedName};
-use crate::token::{Fixed, Token};
+use cql_syntax::syntax::{Constant, QualifiedName};
+use cql_syntax::token::{Fixed, Token};
 use cql_value::{Name, NameError, Text};
 use std::alloc::Global;
 

@@ -1,13 +1,14 @@
 // A cursor over tokens.
 ghost use Rattle.std.specs.Prelude.{◌≡◌, ◌≢◌, ◌<◌, ◌≤◌, length, slice_get, map};
 ghost use Rattle.std.specs.Option.{option_copied};
-ghost use Rattle.cql_text.specs.Tokens as tokens;
+ghost use Rattle.cql_syntax.specs.Tokens as tokens;
 ghost use Rattle.cql_text.specs.Meaning as meaning;
 ghost use Rattle.cql_text.specs.Reading as spec;
 ghost use Rattle.cql_text.specs.Reading.{Reads};
 
-use crate::syntax::{Comparison, Function, Operation, SetOperator, StreamOperator};
-use crate::token::{Fixed, Lexeme, Token, is_same};
+use cql_syntax::is_same;
+use cql_syntax::syntax::{Comparison, Function, Operation, SetOperator, StreamOperator};
+use cql_syntax::token::{Fixed, Lexeme, Token};
 use std::alloc::AllocError;
 use std::marker::Model;
 
@@ -38,8 +39,8 @@ pub struct Cursor<'a> {
 
 impl<'a> Model for Cursor<'a> {
     ghost use Rattle.std.specs.Prelude.{List};
-    ghost use Rattle.cql_text.specs.Tokens.{tokens_of};
-    ghost use Rattle.cql_text.specs.declared.token.Token.{Token};
+    ghost use Rattle.cql_syntax.specs.Tokens.{tokens_of};
+    ghost use Rattle.cql_syntax.specs.declared.token.Token.{Token};
 
     ghost Value = { List Token };
 
@@ -114,7 +115,7 @@ impl<'a> Cursor<'a> {
     }
 
     /// Passes the word or sign, which has to come next.
-    #[tactic(auto, unfolding(crate::specs::Reading::token_by, crate::specs::Tokens::sign))]
+    #[tactic(auto, unfolding(crate::specs::Reading::token_by, cql_syntax::specs::Tokens::sign))]
     pub(crate) fn expect(&mut self, fixed: Fixed) -> Result<(), Stop>
         ensures { Reads (spec.expect fixed self.old) result self.new }
     {

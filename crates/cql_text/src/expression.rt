@@ -6,8 +6,8 @@ ghost use Rattle.cql_text.specs.Readers as spec;
 
 use crate::constant::{column, constant};
 use crate::cursor::{Cursor, Stop};
-use crate::syntax::{Expression, Operation};
-use crate::token::Fixed;
+use cql_syntax::syntax::{Expression, Operation};
+use cql_syntax::token::Fixed;
 use cql_value::Boxed;
 use std::alloc::{AllocError, Global};
 

@@ -7,8 +7,8 @@ ghost use Rattle.cql_text.specs.Readers as spec;
 use crate::constant::{column, name_after};
 use crate::cursor::{Cursor, Stop};
 use crate::expression::sum;
-use crate::syntax::{Aggregate, Function, Item, Selection, Shown};
-use crate::token::Fixed;
+use cql_syntax::syntax::{Aggregate, Function, Item, Selection, Shown};
+use cql_syntax::token::Fixed;
 use cql_value::Items;
 use std::alloc::Global;
 

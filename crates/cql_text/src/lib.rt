@@ -1,20 +1,17 @@
-//! Reads queries of the continuous query language, and prints them.
+//! Reads queries of the continuous query language.
 #![tactic(auto)]
 
 mod block;
 mod condition;
 mod constant;
-mod copy;
 mod cursor;
 mod expression;
 mod item;
-mod lex;
-mod print;
-mod printer;
 mod query;
-pub mod read;
-pub mod syntax;
+mod reader;
 #[cfg(test)]
 mod tests;
-pub mod token;
 mod window;
+
+pub use cql_syntax::{syntax, token};
+pub use reader::{ReadError, Syntax, read, read_law};

@@ -7,8 +7,8 @@ ghost use Rattle.cql_text.specs.Readers as spec;
 use crate::block::{block, rest, selected};
 use crate::cursor::{Cursor, Stop};
 use crate::item::selection;
-use crate::syntax::{Query, Second, SetOperator, StreamOperator};
-use crate::token::Fixed;
+use cql_syntax::syntax::{Query, Second, SetOperator, StreamOperator};
+use cql_syntax::token::Fixed;
 use std::alloc::Global;
 
 #[tactic(auto, unfolding(crate::specs::Reading::token_by))]

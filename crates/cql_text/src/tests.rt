@@ -1,6 +1,6 @@
 mod tables;
 
-use crate::read::{ReadError, read};
+use crate::reader::{ReadError, read};
 use crate::tests::tables::{Shape, shapes, texts_read, texts_refused};
 use std::alloc::{AllocError, Global};
 use std::test::Fail;
@@ -69,19 +69,5 @@ fn nested_and_long(rt: HostRuntime) -> Result<(), Fail> {
         let text = text_of(a, shape)?;
         assert_eq!(rt; refused_at(a, text.as_str()), shape.at);
     }
-    Ok(())
-}
-
-// A copy has the parts of the query, and prints as it does.
-#[test]
-fn copies(rt: HostRuntime) -> Result<(), Fail> {
-    let a = rt.alloc();
-    let copy = read(a, "Select Istream(v) From a.s, p Group By v, k")?.try_clone(a)?;
-    assert_eq!(rt; copy.query().first.inputs.len(), 2);
-    let text = copy.to_text(a)?;
-    assert_eq!(rt;
-        text.as_str(),
-        "ISTREAM(SELECT v FROM a.s [RANGE UNBOUNDED], p [RANGE UNBOUNDED] GROUP BY v, k)"
-    );
     Ok(())
 }

@@ -2,13 +2,13 @@
 ghost use Rattle.std.specs.Prelude.{◌≡◌, ◌≢◌, ◌≤◌, IfSome};
 ghost use Rattle.cql_text.specs.Meaning as meaning;
 ghost use Rattle.cql_text.specs.Reading.{Reads, token_by, at_head, optional};
-ghost use Rattle.cql_text.specs.Tokens.{knows};
+ghost use Rattle.cql_syntax.specs.Tokens.{knows};
 ghost use Rattle.cql_text.specs.Readers as spec;
 
 use crate::constant::name;
 use crate::cursor::{Cursor, Stop};
-use crate::syntax::Window;
-use crate::token::{Fixed, Token};
+use cql_syntax::syntax::WrittenWindow;
+use cql_syntax::token::{Fixed, Token};
 use cql_value::name::is_name;
 use cql_value::{Items, Name};
 use std::alloc::Global;
@@ -96,11 +96,11 @@ fn length(cursor: &mut Cursor<'_>, least: u64) -> Result<u64, Stop>
 }
 
 #[tactic(auto, unfolding(crate::specs::Readers::unbounded))]
-fn unbounded(cursor: &mut Cursor<'_>) -> Result<Window, Stop>
+fn unbounded(cursor: &mut Cursor<'_>) -> Result<WrittenWindow, Stop>
     ensures { Reads (spec.unbounded cursor.old) result cursor.new }
 {
     cursor.expect(Fixed::Unbounded)?;
-    Ok(Window::Unbounded)
+    Ok(WrittenWindow::Unbounded)
 }
 
 // A slide in ticks, where one comes next.
@@ -117,16 +117,16 @@ fn time_slide(cursor: &mut Cursor<'_>) -> Result<Option<u64>, Stop>
 }
 
 #[tactic(auto, unfolding(crate::specs::Readers::bounded_range))]
-fn bounded_range(cursor: &mut Cursor<'_>) -> Result<Window, Stop>
+fn bounded_range(cursor: &mut Cursor<'_>) -> Result<WrittenWindow, Stop>
     ensures { Reads (spec.bounded_range cursor.old) result cursor.new }
 {
     let length = length(cursor, 0)?;
     let slide = time_slide(cursor)?;
-    Ok(Window::Range(length, slide.unwrap_or(1)))
+    Ok(WrittenWindow::Range(length, slide.unwrap_or(1)))
 }
 
 #[tactic(auto, unfolding(crate::specs::Reading::choice, crate::specs::Readers::range))]
-fn range(cursor: &mut Cursor<'_>) -> Result<Window, Stop>
+fn range(cursor: &mut Cursor<'_>) -> Result<WrittenWindow, Stop>
     ensures { Reads (spec.range cursor.old) result cursor.new }
 {
     cursor.expect(Fixed::Range)?;
@@ -151,16 +151,16 @@ fn row_slide(cursor: &mut Cursor<'_>) -> Result<Option<u64>, Stop>
 }
 
 #[tactic(auto, unfolding(crate::specs::Readers::bounded_rows))]
-fn bounded_rows(cursor: &mut Cursor<'_>) -> Result<Window, Stop>
+fn bounded_rows(cursor: &mut Cursor<'_>) -> Result<WrittenWindow, Stop>
     ensures { Reads (spec.bounded_rows cursor.old) result cursor.new }
 {
     let rows = number(cursor, 1)?;
     let slide = row_slide(cursor)?;
-    Ok(Window::Rows(rows, slide.unwrap_or(1)))
+    Ok(WrittenWindow::Rows(rows, slide.unwrap_or(1)))
 }
 
 #[tactic(auto, unfolding(crate::specs::Reading::choice, crate::specs::Readers::rows))]
-fn rows(cursor: &mut Cursor<'_>) -> Result<Window, Stop>
+fn rows(cursor: &mut Cursor<'_>) -> Result<WrittenWindow, Stop>
     ensures { Reads (spec.rows cursor.old) result cursor.new }
 {
     cursor.expect(Fixed::Rows)?;
@@ -188,7 +188,7 @@ fn names(alloc: Global, cursor: &mut Cursor<'_>) -> Result<Items<Name>, Stop>
 }
 
 #[tactic(auto, unfolding(crate::specs::Readers::partition))]
-fn partition(alloc: Global, cursor: &mut Cursor<'_>) -> Result<Window, Stop>
+fn partition(alloc: Global, cursor: &mut Cursor<'_>) -> Result<WrittenWindow, Stop>
     ensures { Reads (spec.partition cursor.old) result cursor.new }
 {
     cursor.expect(Fixed::Partition)?;
@@ -196,19 +196,19 @@ fn partition(alloc: Global, cursor: &mut Cursor<'_>) -> Result<Window, Stop>
     let columns = names(alloc, cursor)?;
     cursor.expect(Fixed::Rows)?;
     let count = number(cursor, 1)?;
-    Ok(Window::Partition(columns, count))
+    Ok(WrittenWindow::Partition(columns, count))
 }
 
 #[tactic(auto, unfolding(crate::specs::Readers::now))]
-fn now(cursor: &mut Cursor<'_>) -> Result<Window, Stop>
+fn now(cursor: &mut Cursor<'_>) -> Result<WrittenWindow, Stop>
     ensures { Reads (spec.now cursor.old) result cursor.new }
 {
     cursor.expect(Fixed::Now)?;
-    Ok(Window::Range(0, 1))
+    Ok(WrittenWindow::Range(0, 1))
 }
 
 #[tactic(auto, unfolding(crate::specs::Reading::choice, crate::specs::Readers::window))]
-fn window(alloc: Global, cursor: &mut Cursor<'_>) -> Result<Window, Stop>
+fn window(alloc: Global, cursor: &mut Cursor<'_>) -> Result<WrittenWindow, Stop>
     ensures { Reads (spec.window cursor.old) result cursor.new }
 {
     if cursor.sees(Fixed::Now) {
@@ -226,7 +226,7 @@ fn window(alloc: Global, cursor: &mut Cursor<'_>) -> Result<Window, Stop>
 
 /// A window in its square brackets.
 #[tactic(auto, unfolding(crate::specs::Readers::in_squares))]
-pub(crate) fn in_squares(alloc: Global, cursor: &mut Cursor<'_>) -> Result<Window, Stop>
+pub(crate) fn in_squares(alloc: Global, cursor: &mut Cursor<'_>) -> Result<WrittenWindow, Stop>
     ensures { Reads (spec.in_squares cursor.old) result cursor.new }
 {
     cursor.expect(Fixed::OpenSquare)?;

@@ -1,9 +1,9 @@
 use Rattle.std.proofs.Common.{◌≡◌, length, ◌+◌, ◌-◌, ◌*◌}
-use Rattle.cql_text.specs.Tokens.{sign}
+use Rattle.cql_syntax.specs.Tokens.{sign}
 use Rattle.cql_text.specs.Reading.{chain}
 use Rattle.cql_text.specs.Readers as spec
-use Rattle.cql_text.specs.declared.syntax.Condition.TheVariants.{And, Or}
-use Rattle.cql_text.specs.declared.token.Fixed.TheVariants as k
+use Rattle.cql_syntax.specs.declared.syntax.Condition.TheVariants.{And, Or}
+use Rattle.cql_syntax.specs.declared.token.Fixed.TheVariants as k
 use Rattle.cql_text.proofs.condition.+condition.Given as goal
 
 abbrev pub decreases-negation : goal.decreases-negation

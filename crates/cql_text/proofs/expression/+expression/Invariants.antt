@@ -2,7 +2,7 @@ use Rattle.std.proofs.Common.{◌≡◌, length, ◌+◌, ◌-◌, ◌*◌}
 use Rattle.cql_text.specs.Meaning.{sum_sign, product_sign}
 use Rattle.cql_text.specs.Reading.{chain}
 use Rattle.cql_text.specs.Readers as spec
-use Rattle.cql_text.specs.declared.syntax.Expression.TheVariants.{Binary}
+use Rattle.cql_syntax.specs.declared.syntax.Expression.TheVariants.{Binary}
 use Rattle.cql_text.proofs.expression.+expression.Given as goal
 
 abbrev pub decreases-bracket : goal.decreases-bracket

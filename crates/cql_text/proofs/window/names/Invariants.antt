@@ -1,6 +1,6 @@
 use Rattle.std.proofs.Common.{◌≡◌, ◌-◌}
-use Rattle.cql_text.specs.declared.token.Fixed.TheVariants as k
-use Rattle.cql_text.specs.Tokens.{sign, joined}
+use Rattle.cql_syntax.specs.declared.token.Fixed.TheVariants as k
+use Rattle.cql_syntax.specs.Tokens.{sign, joined}
 use Rattle.cql_text.specs.Reading.{chain, single}
 use Rattle.cql_text.specs.Readers as spec
 use Rattle.cql_text.proofs.window.names.Given as goal

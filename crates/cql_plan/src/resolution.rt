@@ -1,0 +1,134 @@
+// The plan of a query.
+ghost use Rattle.std.specs.Prelude.{◌≡◌, ◌≢◌, IfOk, IfErr, Ok, Err};
+ghost use Rattle.std.specs.List.{list_all, zip};
+ghost use Rattle.cql_plan.specs.Outcome.{Answers};
+ghost use Rattle.cql_plan.specs.Plan.{HasKinds, HasNodes};
+ghost use Rattle.cql_plan.specs.Typing as spec;
+ghost use Rattle.cql_plan.specs.Typing.{typing};
+
+use crate::block::{Checked, block_of};
+use crate::error::PlanError;
+use crate::lookup::Lookup;
+use crate::node::{Node, SetOp};
+use crate::plan::{OutputKind, Plan, Planned};
+use crate::typed::same_kind;
+use cql_syntax::syntax::{Query, Second, SetOperator, StreamOperator};
+use cql_text::Syntax;
+use cql_value::ColumnType;
+use std::alloc::{AllocError, Global};
+
+// Without a stream operator the changes are told with their signs.
+fn output_of(written: Option<StreamOperator>) -> OutputKind
+    ensures { result ≡ spec.output_of written }
+{
+    match written {
+        None => OutputKind::Signed,
+        Some(StreamOperator::Istream) => OutputKind::Istream,
+        Some(StreamOperator::Dstream) => OutputKind::Dstream,
+        Some(StreamOperator::Rstream) => OutputKind::Rstream,
+    }
+}
+
+// Whether each type is the one beside it.
+fn agree(left: &[ColumnType], right: &[ColumnType]) -> bool
+    ensures { result ≡ list_all (λ p. spec.same_kind p.0 p.1) (zip left.now right.now) }
+{
+    left.iter()
+        .zip(right)
+        .all(|(left, right)| same_kind(*left, *right))
+}
+
+// Whether there are as many types, and the same, place by place.
+fn same_kinds(left: &[ColumnType], right: &[ColumnType]) -> bool
+    ensures { result ≡ spec.same_kinds left.now right.now }
+{
+    left.len() == right.len() && agree(left, right)
+}
+
+// A query of one block.
+fn alone(output: OutputKind, first: Checked) -> Planned
+    requires { HasKinds first.branch }
+    ensures value { result ≡ spec.alone output first }
+    ensures kinds { HasNodes result }
+{
+    Planned {
+        inputs: first.inputs,
+        first: first.branch,
+        second: None,
+        set_op: None,
+        output,
+    }
+}
+
+// A query of two blocks.
+fn combined(
+    output: OutputKind,
+    operator: SetOperator,
+    first: Checked,
+    second: Checked,
+) -> Result<Planned, AllocError>
+    requires first { HasKinds first.branch }
+    requires second { HasKinds second.branch }
+    ensures value { IfOk result (λ p. p ≡ spec.combined output operator first second) }
+    ensures kinds { IfOk result (λ p. HasNodes p) }
+{
+    let mut inputs = first.inputs;
+    inputs.append(second.inputs)?;
+    Ok(Planned {
+        inputs,
+        first: first.branch,
+        second: Some(second.branch),
+        set_op: Some(Node::SetOp(SetOp {
+            kind: operator,
+            columns: first.kinds,
+        })),
+        output,
+    })
+}
+
+// Two blocks have the same number of columns with the same types.
+#[tactic(auto, unfolding(crate::specs::Typing::with_second))]
+fn with_second<L: Lookup>(
+    alloc: Global,
+    lookup: &L,
+    output: OutputKind,
+    first: Checked,
+    written: &Option<Second>,
+) -> Result<Planned, PlanError>
+    requires { HasKinds first.branch }
+    ensures value { Answers (spec.with_second (L.readable lookup.now) output first written.now) result }
+    ensures kinds { IfOk result (λ p. HasNodes p) }
+{
+    match written {
+        None => Ok(alone(output, first)),
+        Some(written) => {
+            let second = block_of(alloc, lookup, &written.block)?;
+            if !same_kinds(first.kinds.as_slice(), second.kinds.as_slice()) {
+                return Err(PlanError::TypeMismatch);
+            }
+            Ok(combined(output, written.operator, first, second)?)
+        }
+    }
+}
+
+#[tactic(auto, unfolding(crate::specs::Typing::typing))]
+fn planned<L: Lookup>(alloc: Global, query: &Query, lookup: &L) -> Result<Planned, PlanError>
+    ensures value { Answers (typing (L.readable lookup.now) query.now) result }
+    ensures kinds { IfOk result (λ p. HasNodes p) }
+{
+    let first = block_of(alloc, lookup, &query.first)?;
+    with_second(alloc, lookup, output_of(query.output), first, &query.second)
+}
+
+/// The plan of a query for a caller who may read the streams that `lookup` answers: the first
+/// fault where it has one, `UnknownStream` (30), `UnknownColumn` (52), `AmbiguousColumn` (53) or
+/// `TypeMismatch` (54).
+pub fn resolve<L: Lookup>(alloc: Global, syntax: &Syntax, lookup: &L) -> Result<Plan, PlanError>
+    // What is planned is the typing's.
+    ensures found { IfOk result (λ plan. typing (L.readable lookup.now) syntax.now ≡ Ok plan) }
+    // A refusal is the typing's, unless memory runs out.
+    ensures refused { IfErr result (λ error. error ≢ PlanError.NoMemory → typing (L.readable lookup.now) syntax.now ≡ Err error) }
+{
+    let planned = planned(alloc, syntax.query(), lookup)?;
+    Ok(Plan::new(planned))
+}

@@ -1,0 +1,4 @@
+pub mod LexLemmas
+pub mod Quotes
+pub mod Splits
+pub mod Pieces

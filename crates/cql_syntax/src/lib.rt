@@ -1,0 +1,13 @@
+//! The syntax of the continuous query language: tokens, what a query text says, and its canonical
+//! spelling.
+#![tactic(auto)]
+
+mod lex;
+mod print;
+mod printer;
+pub mod syntax;
+pub mod token;
+
+pub use lex::{Scanned, lexed};
+pub use print::text_of;
+pub use token::is_same;

@@ -1,9 +1,0 @@
-use Rattle.std.proofs.Common.{◌≡◌, ◌≤◌, ◌-◌, length, drop}
-use Rattle.cql_text.specs.Lex.{scan, lexed, with_front}
-use Rattle.cql_text.proofs.lex.lexed.Given as goal
-
-abbrev pub invariant-loop-at : goal.invariant-loop-at
-invariant-loop-at l = (with_front l.lexemes (scan 0 l.at (drop l.at l.text)) ≡ lexed l.text) × (l.at ≤ length l.text)
-
-abbrev pub decreases-loop-at : goal.decreases-loop-at
-decreases-loop-at l = length l.text - l.at

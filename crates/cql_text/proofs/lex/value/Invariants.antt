@@ -1,6 +1,0 @@
-use Rattle.std.proofs.Common.{◌≡◌, take}
-use Rattle.cql_text.specs.Lex.{value}
-use Rattle.cql_text.proofs.lex.value.Given as goal
-
-abbrev pub invariant-loop-b : goal.invariant-loop-b
-invariant-loop-b l = l.n ≡ value (take l.b-index l.digits)

@@ -6,6 +6,7 @@ ghost use Rattle.std.specs.Cmp.{partial_equiv_from_equiv};
 ghost use Rattle.std.specs.Cmp.Lexicographic.{nat_list_eq_equiv};
 ghost use Rattle.cql_value.specs.Name.{is_word_start, is_word_byte, is_word, is_reserved, is_name};
 
+use crate::try_clone::TryClone;
 use std::alloc::{AllocError, Global};
 use std::marker::Model;
 use thiserror::Error;
@@ -59,7 +60,7 @@ impl Model for Name {
 }
 
 /// Why a text gives no name.
-#[derive(Clone, Copy, Debug, PartialEq, Eq, Drop, Error)]
+#[derive(Debug, Drop, Error)]
 pub enum NameError {
     /// The text is no name (21).
     #[error("not a name")]
@@ -154,6 +155,12 @@ impl Name {
     {
         let text = self.text.clone()?;
         Ok(Name { text })
+    }
+}
+
+impl TryClone for Name {
+    fn try_clone(&self, _alloc: Global) -> Result<Name, AllocError> {
+        self.try_clone()
     }
 }
 

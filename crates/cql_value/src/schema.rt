@@ -6,6 +6,7 @@ ghost use Rattle.cql_value.specs.Schema.{is_row_of, is_schema, are_distinct, has
 
 use crate::name::Name;
 use crate::row::Row;
+use crate::try_clone::{TryClone, copies_of};
 use crate::value::Value;
 use std::alloc::{AllocError, Global};
 use std::marker::Model;
@@ -33,18 +34,21 @@ impl ColumnType {
     }
 }
 
+impl TryClone for ColumnType {
+    fn try_clone(&self, _alloc: Global) -> Result<ColumnType, AllocError> {
+        Ok(*self)
+    }
+}
+
 /// A column: its name and what it holds.
-#[derive(Debug, Drop)]
+#[derive(Drop)]
 pub struct Column {
     pub name: Name,
     pub kind: ColumnType,
 }
 
-impl Column {
-    /// A copy that equals it.
-    pub fn try_clone(&self) -> Result<Column, AllocError>
-        ensures { IfOk result (λ c. c ≡ self.now) }
-    {
+impl TryClone for Column {
+    fn try_clone(&self, _alloc: Global) -> Result<Column, AllocError> {
         let name = self.name.try_clone()?;
         Ok(Column {
             name,
@@ -54,7 +58,7 @@ impl Column {
 }
 
 /// 1 to 16 columns with distinct names. Contracts see the list of the columns.
-#[derive(Debug, Drop)]
+#[derive(Drop)]
 pub struct Schema {
     columns: Vec<Column>,
 }
@@ -75,12 +79,12 @@ impl Model for Schema {
 }
 
 /// No column, more than 16, or two of one name (22).
-#[derive(Clone, Copy, Debug, PartialEq, Eq, Drop, Error)]
+#[derive(Debug, Drop, Error)]
 #[error("bad columns")]
 pub struct BadColumns;
 
 /// Another number of values than of columns, or a value of another type than its column (40).
-#[derive(Clone, Copy, Debug, PartialEq, Eq, Drop, Error)]
+#[derive(Debug, Drop, Error)]
 #[error("wrong row")]
 pub struct WrongRow;
 
@@ -125,17 +129,6 @@ fn are_distinct(columns: &[Column]) -> bool
     true
 }
 
-// Copies of the columns.
-fn copied(alloc: Global, columns: &[Column]) -> Result<Vec<Column>, AllocError>
-    ensures { IfOk result (λ v. v.items ≡ columns.now) }
-{
-    let mut copies = Vec::new(alloc);
-    for column in columns {
-        copies.push(column.try_clone()?)?;
-    }
-    Ok(copies)
-}
-
 impl Schema {
     /// The schema of these columns: `BadColumns` (22) exactly where they aren't 1 to 16 with
     /// distinct names. Takes no memory.
@@ -171,7 +164,7 @@ impl Schema {
     pub fn try_clone(&self, alloc: Global) -> Result<Schema, AllocError>
         ensures { IfOk result (λ s. s ≡ self.now) }
     {
-        let columns = copied(alloc, &self.columns)?;
+        let columns = copies_of(alloc, &self.columns)?;
         Ok(Schema { columns })
     }
 }

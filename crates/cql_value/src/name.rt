@@ -11,6 +11,9 @@ use std::alloc::{AllocError, Global};
 use std::marker::Model;
 use thiserror::Error;
 
+/// How many bytes a name may have.
+const MOST_BYTES: usize = 32;
+
 /// The words of the language, which are no names in any case of their letters.
 const RESERVED: &[&str] = &[
     "all",
@@ -125,7 +128,7 @@ pub fn is_reserved(text: &str) -> bool
 pub fn is_name(text: &str) -> bool
     ensures { result ≡ is_name text.now }
 {
-    is_word(text) && text.len() <= 32 && !is_reserved(text)
+    is_word(text) && text.len() <= MOST_BYTES && !is_reserved(text)
 }
 
 impl Name {

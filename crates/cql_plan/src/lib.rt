@@ -5,6 +5,7 @@ mod block;
 pub mod condition;
 pub mod error;
 pub mod expr;
+mod fault;
 pub mod fit;
 mod item;
 pub mod law;
@@ -17,3 +18,5 @@ mod source;
 #[cfg(test)]
 mod tests;
 mod typed;
+
+pub use fault::Fault;

@@ -1,5 +1,5 @@
 // Changes of bags.
-ghost use Rattle.std.specs.Prelude.{◌≡◌, ◌++◌, replicate, IfOk, OnOk, OnErr};
+ghost use Rattle.std.specs.Prelude.{◌≡◌, ◌++◌, replicate, OnOk, OnErr};
 ghost use Rattle.cql_bag.specs.Changes.{changed, change_of, excess, Tells, Grows};
 
 use crate::Bag;
@@ -7,23 +7,10 @@ use cql_value::row::Row;
 use std::alloc::{AllocError, Global};
 
 /// A row that comes, or goes where it isn't `plus`.
-#[derive(Debug, Drop)]
+#[derive(Drop)]
 pub struct Change {
     pub plus: bool,
     pub row: Row,
-}
-
-impl Change {
-    /// A copy that equals it.
-    pub fn try_clone(&self, alloc: Global) -> Result<Change, AllocError>
-        ensures { IfOk result (λ c. c ≡ self.now) }
-    {
-        let row = self.row.try_clone(alloc)?;
-        Ok(Change {
-            plus: self.plus,
-            row,
-        })
-    }
 }
 
 impl Bag {

@@ -12,6 +12,7 @@ pub mod schema;
 mod tests;
 pub mod text;
 pub mod timed;
+pub mod try_clone;
 pub mod value;
 
 pub use name::{Name, NameError};
@@ -20,4 +21,5 @@ pub use schema::{BadColumns, Column, ColumnType, Schema, WrongRow};
 pub use sqlite_items::{Boxed, Items};
 pub use text::Text;
 pub use timed::Timed;
+pub use try_clone::{TryClone, copies_of};
 pub use value::Value;

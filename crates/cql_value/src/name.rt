@@ -6,9 +6,13 @@ ghost use Rattle.std.specs.Cmp.{partial_equiv_from_equiv};
 ghost use Rattle.std.specs.Cmp.Lexicographic.{nat_list_eq_equiv};
 ghost use Rattle.cql_value.specs.Name.{is_word_start, is_word_byte, is_word, is_reserved, is_name};
 
+use crate::try_clone::TryClone;
 use std::alloc::{AllocError, Global};
 use std::marker::Model;
 use thiserror::Error;
+
+/// How many bytes a name may have.
+const MOST_BYTES: usize = 32;
 
 /// The words of the language, which are no names in any case of their letters.
 const RESERVED: &[&str] = &[
@@ -59,7 +63,7 @@ impl Model for Name {
 }
 
 /// Why a text gives no name.
-#[derive(Clone, Copy, Debug, PartialEq, Eq, Drop, Error)]
+#[derive(Debug, Drop, Error)]
 pub enum NameError {
     /// The text is no name (21).
     #[error("not a name")]
@@ -124,7 +128,7 @@ pub fn is_reserved(text: &str) -> bool
 pub fn is_name(text: &str) -> bool
     ensures { result ≡ is_name text.now }
 {
-    is_word(text) && text.len() <= 32 && !is_reserved(text)
+    is_word(text) && text.len() <= MOST_BYTES && !is_reserved(text)
 }
 
 impl Name {
@@ -154,6 +158,12 @@ impl Name {
     {
         let text = self.text.clone()?;
         Ok(Name { text })
+    }
+}
+
+impl TryClone for Name {
+    fn try_clone(&self, _alloc: Global) -> Result<Name, AllocError> {
+        self.try_clone()
     }
 }
 

@@ -4,6 +4,7 @@ ghost use Rattle.std.specs.Ordering.{eq_by_cmp, as_partial_cmp};
 ghost use Rattle.std.specs.Cmp.{partial_equiv_from_equiv, eq_by_cmp_equiv, partial_order_from_total};
 ghost use Rattle.cql_value.specs.Order.{row_cmp, row_cmp_total};
 
+use crate::try_clone::copies_of;
 use crate::value::Value;
 use std::alloc::{AllocError, Global};
 use std::cmp::Ordering;
@@ -57,10 +58,7 @@ impl Row {
     pub fn try_clone(&self, alloc: Global) -> Result<Row, AllocError>
         ensures { IfOk result (λ r. r ≡ self.now) }
     {
-        let mut values = Vec::new(alloc);
-        for value in self.values.iter() {
-            values.push(value.try_clone(alloc)?)?;
-        }
+        let values = copies_of(alloc, &self.values)?;
         Ok(Row { values })
     }
 }

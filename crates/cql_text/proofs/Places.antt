@@ -383,8 +383,8 @@ ok_err q at o f g = cc
 not_before : (n m : ℕ) → nat_lt n m ≡ false → m ≤ n
 not_before n m h = grind (arith, nat_tests)
 
-before : (n m : ℕ) → nat_lt n m ≡ true → n < m
-before n m h = grind (arith, nat_tests)
+is_before : (n m : ℕ) → nat_lt n m ≡ true → n < m
+is_before n m h = grind (arith, nat_tests)
 
 not_long : (n : ℕ) → n ≤ most_bytes → nat_lt most_bytes n ≡ false
 not_long n h = grind (arith, nat_tests)
@@ -453,8 +453,8 @@ module _ (text : Bytes) where
       at true (Err a) e f k = cc
       at false o e f k =
           let s = not_before most_bytes size e in
-          let p = found_spells first size (order_until text) q (tokens_ok q (f ∙ k)) in
-          (s, subst (λ t. (t.fault ≡ None) × Spells (tokens_of t.lexemes) q) (until_all most_bytes text s) p)
+          let p = subst (λ t. (t.fault ≡ None) × Spells (tokens_of t.lexemes) q) (until_all most_bytes text s) (found_spells first size (order_until text) q (tokens_ok q (f ∙ k))) in
+          (s, p.0, p.1)
 
   pub read_only : (q : Query) → Is text q → read_of text ≡ Ok q
   unfolding read_of read_tokens
@@ -467,14 +467,14 @@ module _ (text : Bytes) where
       by : (b : Bool) (o : Result Query ℕ) → nat_lt most_bytes size ≡ b → read_tokens text ≡ o → capped b o ≡ Err at → IsRefusedAt text at
       by true (Ok q) e f k =
           let w : most_bytes ≡ at = cc in
-          (inl (before most_bytes size e, sym w), others)
+          (inl (is_before most_bytes size e, sym w), others)
         where
           others : (other : ℕ) → IsPlace text other → at ≤ other
           others other (inl p) = let w : most_bytes ≡ at = cc in omega (arith, w, p.1)
           others other (inr p) = pick (nat_lt other most_bytes) refl
             where
               pick : (b : Bool) → nat_lt other most_bytes ≡ b → at ≤ other
-              pick true g = absurd (no_place first size (order_until text) q other (tokens_ok q f) (among_first text (before most_bytes size e) other p (before other most_bytes g)))
+              pick true g = absurd (no_place first size (order_until text) q other (tokens_ok q f) (among_first text (is_before most_bytes size e) other p (is_before other most_bytes g)))
               pick false g = let w : most_bytes ≡ at = cc in let i = not_before other most_bytes g in omega (arith, w, i)
       by true (Err a) e f k =
           let w : min a most_bytes ≡ at = cc in
@@ -487,10 +487,10 @@ module _ (text : Bytes) where
               pick : (b : Bool) → nat_lt a most_bytes ≡ b → IsPlace text at
               pick true g =
                   let w : min a most_bytes ≡ at = cc in
-                  let i = before a most_bytes g in
+                  let i = is_before a most_bytes g in
                   let j : a ≡ at = omega (arith, w, i) in
-                  inr (subst (Place (lexed text) size) j (among_all text (before most_bytes size e) a p i))
-              pick false g = let w : min a most_bytes ≡ at = cc in let i = not_before a most_bytes g in inl (before most_bytes size e, omega (arith, w, i))
+                  inr (subst (Place (lexed text) size) j (among_all text (is_before most_bytes size e) a p i))
+              pick false g = let w : min a most_bytes ≡ at = cc in let i = not_before a most_bytes g in inl (is_before most_bytes size e, omega (arith, w, i))
 
           others : (other : ℕ) → IsPlace text other → at ≤ other
           others other (inl p) = let w : min a most_bytes ≡ at = cc in omega (arith, w, p.1)
@@ -499,7 +499,7 @@ module _ (text : Bytes) where
               pick : (b : Bool) → nat_lt other most_bytes ≡ b → at ≤ other
               pick true g =
                   let w : min a most_bytes ≡ at = cc in
-                  let i = (tokens_err a f).1 other (among_first text (before most_bytes size e) other p (before other most_bytes g)) in
+                  let i = (tokens_err a f).1 other (among_first text (is_before most_bytes size e) other p (is_before other most_bytes g)) in
                   omega (arith, w, i)
               pick false g = let w : min a most_bytes ≡ at = cc in let i = not_before other most_bytes g in omega (arith, w, i)
       by false (Ok q) e f k = cc

@@ -1,5 +1,5 @@
 -- Steps of the definitions in `specs/Lex.antt`.
-use Rattle.std.proofs.Common.{◌≡◌, ◌≢◌, ◌≤◌, ◌<◌, ◌+◌, ◌-◌, ℕ, zero, suc, Bool, true, false, ◌||◌, ◌&&◌, ◌==◌, nat_le, List, [], ◌∷◌, ◌++◌, length, drop, slice_index, get_or, Option, Some, None, refl, sym, ap, ◌∙◌, append_assoc, append-nil, length-append, arith, subst, add-one, drop-cons, if◌then◌else◌, nat_lt}
+use Rattle.std.proofs.Common.{◌≡◌, ◌≢◌, ◌≤◌, ◌<◌, ◌+◌, ◌-◌, ℕ, zero, suc, true, false, ◌==◌, List, [], ◌∷◌, ◌++◌, length, drop, slice_index, get_or, Option, Some, None, refl, sym, ap, ◌∙◌, append_assoc, append-nil, length-append, arith, subst, add-one, drop-cons, nat_lt}
 use Rattle.std.proofs.lemmas.Bool.Decides.{nat_tests}
 use Rattle.std.proofs.lemmas.Str.{lead_after_ascii}
 use Rattle.std.specs.Str.{IsUtf8}
@@ -9,7 +9,7 @@ use Rattle.std.proofs.Math.ListN.{drop_of_length-le}
 use Rattle.cql_syntax.specs.declared.token.Token.{Token}
 use Rattle.cql_syntax.specs.declared.token.Lexeme.{Lexeme}
 use Rattle.cql_syntax.specs.declared.lex.Scanned.{Scanned}
-use Rattle.cql_syntax.specs.Lex.{Bytes, Found, quoted, longer, behind, scan, lexed, token, is_blank, step, after_lexeme, with_front, until}
+use Rattle.cql_syntax.specs.Lex.{Bytes, quoted, longer, behind, scan, token, is_blank, after_lexeme, with_front, until}
 
 pub word_starts : (b : ℕ) → is_word_start b ≡ true → is_word_byte b ≡ true
 word_starts b h = grind (arith, nat_tests)

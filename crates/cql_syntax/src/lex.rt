@@ -40,7 +40,7 @@ const RESERVED: [(&str, Fixed); 26] = [
 ];
 
 /// The tokens of a text, and the byte where none begins, if there is one.
-#[derive(Debug, Drop)]
+#[derive(Drop)]
 pub struct Scanned {
     pub lexemes: Items<Lexeme>,
     pub fault: Option<usize>,

@@ -2,7 +2,7 @@
 use cql_value::{Boxed, Items, Name, Text};
 
 /// What a query tells of each change: what came, what went, or all that is there.
-#[derive(Clone, Copy, Debug, PartialEq, Eq)]
+#[derive(Clone, Copy, PartialEq, Eq)]
 pub enum StreamOperator {
     Istream,
     Dstream,
@@ -10,7 +10,7 @@ pub enum StreamOperator {
 }
 
 /// What stands between two blocks.
-#[derive(Clone, Copy, Debug, PartialEq, Eq)]
+#[derive(Clone, Copy)]
 pub enum SetOperator {
     UnionAll,
     ExceptAll,
@@ -18,7 +18,6 @@ pub enum SetOperator {
 
 /// A name, perhaps with another before it and a dot between: a column with the alias of its
 /// input, or a stream with its owner.
-#[derive(Debug)]
 pub struct QualifiedName {
     pub qualifier: Option<Name>,
     pub name: Name,
@@ -34,7 +33,6 @@ impl Drop for QualifiedName {
 }
 
 /// A number of 64 bits with a sign, or a text.
-#[derive(Debug)]
 pub enum Constant {
     Number(i64),
     Text(Text),
@@ -50,7 +48,7 @@ impl Drop for Constant {
 }
 
 /// What an expression does with two numbers.
-#[derive(Clone, Copy, Debug, PartialEq, Eq)]
+#[derive(Clone, Copy)]
 pub enum Operation {
     Add,
     Subtract,
@@ -58,7 +56,7 @@ pub enum Operation {
 }
 
 /// An expression, with its brackets as they are written.
-#[derive(Debug, Drop)]
+#[derive(Drop)]
 pub enum Expression {
     Constant(Constant),
     Column(QualifiedName),
@@ -67,7 +65,7 @@ pub enum Expression {
 }
 
 /// An aggregate of one column.
-#[derive(Clone, Copy, Debug, PartialEq, Eq)]
+#[derive(Clone, Copy)]
 pub enum Function {
     Sum,
     Min,
@@ -75,7 +73,6 @@ pub enum Function {
 }
 
 /// `COUNT(*)`, or a function of a column.
-#[derive(Debug)]
 pub enum Aggregate {
     Count,
     Over(Function, QualifiedName),
@@ -91,7 +88,6 @@ impl Drop for Aggregate {
 }
 
 /// What an item shows.
-#[derive(Debug)]
 pub enum Shown {
     Expression(Expression),
     Aggregate(Aggregate),
@@ -107,7 +103,6 @@ impl Drop for Shown {
 }
 
 /// An item of a block, and the name that it is given.
-#[derive(Debug)]
 pub struct Item {
     pub shown: Shown,
     pub alias: Option<Name>,
@@ -120,7 +115,6 @@ impl Drop for Item {
 }
 
 /// What a block shows: `*`, or one item and more.
-#[derive(Debug)]
 pub enum Selection {
     All,
     List(Items<Item>),
@@ -136,7 +130,6 @@ impl Drop for Selection {
 }
 
 /// A side of a comparison.
-#[derive(Debug)]
 pub enum Operand {
     Constant(Constant),
     Column(QualifiedName),
@@ -152,7 +145,7 @@ impl Drop for Operand {
 }
 
 /// How two operands are compared.
-#[derive(Clone, Copy, Debug, PartialEq, Eq)]
+#[derive(Clone, Copy)]
 pub enum Comparison {
     Equal,
     Unequal,
@@ -163,7 +156,7 @@ pub enum Comparison {
 }
 
 /// A condition, with its brackets as they are written.
-#[derive(Debug, Drop)]
+#[derive(Drop)]
 pub enum Condition {
     Compare(Operand, Comparison, Operand),
     Not(Boxed<Condition>),
@@ -173,7 +166,6 @@ pub enum Condition {
 }
 
 /// Which rows of an input count. A slide of 1 is no slide.
-#[derive(Debug)]
 pub enum WrittenWindow {
     /// The last ticks, moved on each so many ticks: 0 to 2^62 - 1, and 1 to 2^62 - 1.
     Range(u64, u64),
@@ -197,7 +189,6 @@ impl Drop for WrittenWindow {
 }
 
 /// A stream that a block reads, its window, and the name that it is given.
-#[derive(Debug)]
 pub struct Input {
     pub stream: QualifiedName,
     pub window: WrittenWindow,
@@ -215,7 +206,6 @@ impl Drop for Input {
 }
 
 /// One SELECT. It has 1 to 3 inputs, and no column to group by where GROUP BY is missing.
-#[derive(Debug)]
 pub struct SelectBlock {
     pub distinct: bool,
     pub selection: Selection,
@@ -237,7 +227,6 @@ impl Drop for SelectBlock {
 }
 
 /// A second block and what stands before it.
-#[derive(Debug)]
 pub struct Second {
     pub operator: SetOperator,
     pub block: SelectBlock,
@@ -253,7 +242,6 @@ impl Drop for Second {
 }
 
 /// A whole query.
-#[derive(Debug)]
 pub struct Query {
     pub output: Option<StreamOperator>,
     pub first: SelectBlock,

@@ -157,7 +157,7 @@ fn read_capped(alloc: Global, text: &str) -> Result<Query, ReadError>
 
 /// What a text of at most 4096 bytes says in the query language. It is made by `read` alone, and
 /// contracts see the query: some tokens are that query.
-#[derive(Debug, Drop)]
+#[derive(Drop)]
 pub struct Syntax {
     query: Query,
 }

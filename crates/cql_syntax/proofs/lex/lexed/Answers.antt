@@ -1,7 +1,5 @@
-use Rattle.std.proofs.Common.{rules, ◌≡◌, ◌<◌, ◌≤◌, ◌+◌, ◌-◌, length, take, drop, slice_index, IfSome, IfOk, true, false, ℕ, List, [], ◌∷◌, ◌++◌, Option, Some, None, refl, sym, ap, ◌∙◌, arith, subst, length-drop}
+use Rattle.std.proofs.Common.{◌≡◌, ◌<◌, ◌≤◌, ◌+◌, length, drop, slice_index, IfSome, false, ℕ, List, Option, Some, None, refl, sym, ap, ◌∙◌, arith, subst, length-drop}
 use Rattle.cql_syntax.specs.declared.token.Token.{Token}
-use Rattle.cql_syntax.specs.declared.token.Lexeme.{Lexeme}
-use Rattle.cql_syntax.specs.declared.lex.Scanned.{Scanned}
 use Rattle.cql_syntax.specs.Lex as spec
 use Rattle.cql_syntax.proofs.LexLemmas.{at_end, at_none, at_token, front_end, front_more, until_more, until_last}
 use Rattle.cql_syntax.proofs.lex.lexed.Goals as goal

@@ -56,12 +56,28 @@ pub enum Operation {
 }
 
 /// An expression, with its brackets as they are written.
-#[derive(Drop)]
 pub enum Expression {
     Constant(Constant),
     Column(QualifiedName),
     Bracket(Boxed<Expression>),
     Binary(Operation, Boxed<Expression>, Boxed<Expression>),
+}
+
+// A sum of thousands of terms is as many levels deep on the left, hence a loop.
+impl Drop for Expression {
+    fn drop(mut self) {
+        loop {
+            match self {
+                Expression::Constant(_constant) => return,
+                Expression::Column(_column) => return,
+                Expression::Bracket(inner) => self = inner.into_inner(),
+                Expression::Binary(_, left, right) => {
+                    let _right = right.into_inner();
+                    self = left.into_inner();
+                }
+            }
+        }
+    }
 }
 
 /// An aggregate of one column.
@@ -156,13 +172,28 @@ pub enum Comparison {
 }
 
 /// A condition, with its brackets as they are written.
-#[derive(Drop)]
 pub enum Condition {
     Compare(Operand, Comparison, Operand),
     Not(Boxed<Condition>),
     Bracket(Boxed<Condition>),
     And(Boxed<Condition>, Boxed<Condition>),
     Or(Boxed<Condition>, Boxed<Condition>),
+}
+
+// Hundreds of comparisons with OR between are as many levels deep on the left, hence a loop.
+impl Drop for Condition {
+    fn drop(mut self) {
+        loop {
+            match self {
+                Condition::Compare(_left, _how, _right) => return,
+                Condition::Not(inner) | Condition::Bracket(inner) => self = inner.into_inner(),
+                Condition::And(left, right) | Condition::Or(left, right) => {
+                    let _right = right.into_inner();
+                    self = left.into_inner();
+                }
+            }
+        }
+    }
 }
 
 /// Which rows of an input count. A slide of 1 is no slide.

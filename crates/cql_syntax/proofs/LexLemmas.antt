@@ -1,5 +1,5 @@
 -- Steps of the definitions in `specs/Lex.antt`.
-use Rattle.std.proofs.Common.{◌≡◌, ◌≢◌, ◌≤◌, ◌<◌, ◌+◌, ◌-◌, ℕ, zero, suc, Bool, true, false, ◌||◌, ◌&&◌, ◌==◌, nat_le, List, [], ◌∷◌, ◌++◌, length, drop, slice_index, get_or, Option, Some, None, refl, sym, ap, ◌∙◌, append_assoc, append-nil, length-append, arith, subst, add-one, drop-cons, if◌then◌else◌}
+use Rattle.std.proofs.Common.{◌≡◌, ◌≢◌, ◌≤◌, ◌<◌, ◌+◌, ◌-◌, ℕ, zero, suc, true, false, ◌==◌, List, [], ◌∷◌, ◌++◌, length, drop, slice_index, get_or, Option, Some, None, refl, sym, ap, ◌∙◌, append_assoc, append-nil, length-append, arith, subst, add-one, drop-cons, nat_lt}
 use Rattle.std.proofs.lemmas.Bool.Decides.{nat_tests}
 use Rattle.std.proofs.lemmas.Str.{lead_after_ascii}
 use Rattle.std.specs.Str.{IsUtf8}
@@ -9,7 +9,7 @@ use Rattle.std.proofs.Math.ListN.{drop_of_length-le}
 use Rattle.cql_syntax.specs.declared.token.Token.{Token}
 use Rattle.cql_syntax.specs.declared.token.Lexeme.{Lexeme}
 use Rattle.cql_syntax.specs.declared.lex.Scanned.{Scanned}
-use Rattle.cql_syntax.specs.Lex.{Bytes, Found, quoted, longer, behind, scan, lexed, token, is_blank, step, after_lexeme, with_front}
+use Rattle.cql_syntax.specs.Lex.{Bytes, quoted, longer, behind, scan, token, is_blank, after_lexeme, with_front, until}
 
 pub word_starts : (b : ℕ) → is_word_start b ≡ true → is_word_byte b ≡ true
 word_starts b h = grind (arith, nat_tests)
@@ -167,6 +167,12 @@ at_token z at t n h e f l m =
     ∙ ap (λ us. after_lexeme (record { at = at; token = t }) (scan 0 (at + n) us)) (ap (drop n) (sym (cut z at h)) ∙ drop-drop z at n)
 
 pub ruleset scan_steps = (at_end, at_blank, at_none, at_token)
+
+pub until_more : (most : ℕ) (l : Lexeme) (s : Scanned) → l.at < most → until most (after_lexeme l s) ≡ after_lexeme l (until most s)
+until_more most l s h = let e : nat_lt l.at most ≡ true = grind (arith, nat_tests) in rw e refl
+
+pub until_last : (most : ℕ) (l : Lexeme) (s : Scanned) → most ≤ l.at → until most (after_lexeme l s) ≡ after_lexeme l (record { lexemes = []; fault = None })
+until_last most l s h = let e : nat_lt l.at most ≡ false = grind (arith, nat_tests) in rw e refl
 
 pub front_end : (ls : List Lexeme) (f : Option ℕ) (s t : Scanned) → s ≡ record { lexemes = []; fault = f } → with_front ls s ≡ t → record { lexemes = ls; fault = f } ≡ t
 front_end ls f s t e h =

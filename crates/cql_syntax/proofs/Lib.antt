@@ -2,3 +2,4 @@ pub mod LexLemmas
 pub mod Quotes
 pub mod Splits
 pub mod Pieces
+pub mod Reserved

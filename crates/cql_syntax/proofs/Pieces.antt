@@ -1,6 +1,6 @@
 -- Pieces one after another.
 use Rattle.std.proofs.lemmas.List.{take_rest}
-use Rattle.std.proofs.Common.{◌≤◌, ◌-◌, length, get_or, take, drop, arith, ◌≡◌, ℕ, Bool, ◌&&◌, List, [], ◌∷◌, ◌++◌, refl, sym, ap, ◌∙◌, append_assoc, append-nil, rules}
+use Rattle.std.proofs.Common.{◌≤◌, ◌-◌, length, get_or, take, drop, arith, ◌≡◌, ◌&&◌, List, [], ◌∷◌, ◌++◌, refl, sym, ap, ◌∙◌, append_assoc, append-nil, rules}
 use Rattle.cql_syntax.specs.declared.token.Fixed.TheVariants as k
 use Rattle.cql_syntax.specs.declared.syntax.QualifiedName.{QualifiedName}
 use Rattle.cql_syntax.specs.declared.syntax.Constant.{Constant}
@@ -14,7 +14,7 @@ use Rattle.cql_syntax.specs.declared.syntax.Condition.{Condition}
 use Rattle.cql_syntax.specs.declared.syntax.Condition as branch
 use Rattle.cql_syntax.specs.declared.syntax.Condition.TheVariants as c
 use Rattle.cql_syntax.specs.declared.syntax.Query.{Query}
-use Rattle.cql_syntax.specs.Spelling.{Piece, symbol, Pieces, Printed, put, put_all, nothing, space, takes_space, leaves_space, piece_text, spelled, spell_name, spell_constant, operation_sign, spell_expression, spell_operand, comparison_sign, spell_condition, spell_query, canonical, following, separated}
+use Rattle.cql_syntax.specs.Spelling.{symbol, Pieces, Printed, put, put_all, nothing, space, takes_space, leaves_space, piece_text, spelled, spell_name, spell_constant, operation_sign, spell_expression, spell_operand, comparison_sign, spell_condition, spell_query, canonical, following, separated}
 
 pub put_append : (p : Printed) (xs ys : Pieces) → put_all p (xs ++ ys) ≡ put_all (put_all p xs) ys
 put_append p [] ys = refl

@@ -1,5 +1,5 @@
 -- What `split_once` and `strip_prefix` give at a quote.
-use Rattle.std.proofs.Common.{◌≡◌, ◌≢◌, ◌<◌, ◌≤◌, ◌+◌, List, ℕ, ◌∷◌, ◌++◌, length, drop, Option, Some, None, subst, lit<, Bor}
+use Rattle.std.proofs.Common.{◌≡◌, ◌≢◌, ◌+◌, List, ℕ, ◌∷◌, ◌++◌, length, drop, Option, Some, None, subst, lit<, Bor}
 use Rattle.std.specs.Option.{MatchOption}
 use Rattle.std.proofs.lemmas.Str.Pattern.{split_parts, IsSplitOnceResult, strip_prefix_char}
 use Rattle.std.specs.Str.Pattern.{FindsCharPrefix}

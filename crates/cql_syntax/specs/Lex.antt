@@ -1,9 +1,9 @@
 -- Tokens of a text, with the bytes at which they begin.
-use Rattle.std.specs.Prelude.{◌≡◌, ◌≤◌, ℕ, zero, suc, ◌+◌, ◌-◌, ◌*◌, ◌^◌, min, fold, Bool, true, false, not, ◌&&◌, ◌||◌, if◌then◌else◌, ◌==◌, nat_le, List, [], ◌∷◌, ◌++◌, take, drop, map, slice_index, Option, Some, None, codes}
+use Rattle.std.specs.Prelude.{◌≡◌, ℕ, zero, suc, ◌+◌, ◌-◌, ◌*◌, ◌^◌, min, fold, Bool, true, false, ◌&&◌, ◌||◌, if◌then◌else◌, ◌==◌, List, [], ◌∷◌, ◌++◌, take, drop, slice_index, Option, Some, None, is_some, nat_lt, codes}
 use Rattle.std.specs.Char.{is_ascii_digit}
 use Rattle.std.specs.List.{prefix_len}
 use Rattle.std.specs.Str.{str_eq_ignore_ascii_case}
-use Rattle.cql_value.specs.Name.{is_word_start, is_word_byte}
+use Rattle.cql_value.specs.Name.{is_word_start, is_word_byte, is_reserved}
 use Rattle.cql_syntax.specs.declared.token.Fixed.{Fixed}
 use Rattle.cql_syntax.specs.declared.token.Fixed.TheVariants as k
 use Rattle.cql_syntax.specs.declared.token.Token.{Token}
@@ -44,6 +44,10 @@ lookup (r ∷ rs) word = if str_eq_ignore_ascii_case word r.0 then Some r.1 else
 
 unfoldable pub reserved : Bytes → Option Fixed
 reserved = lookup reserved_words
+
+-- a word is reserved here exactly where it is reserved for names
+abbrev pub ReservedLaw : Type 0
+ReservedLaw = (word : Bytes) → is_some (reserved word) ≡ is_reserved word
 
 abbrev pub word_or_reserved : Bytes → Option Fixed → Token
 word_or_reserved w (Some j) = t.Fixed j
@@ -119,6 +123,18 @@ scan zero at (b ∷ z) = if is_blank b then scan zero (at + 1) z else step at (t
 
 unfoldable pub lexed : Bytes → Scanned
 lexed = scan 0 0
+
+-- the lexemes that begin before the byte, and the next one; the fault behind them, where that one ends them
+abbrev pub cut : ℕ → List Lexeme → Option ℕ → Scanned
+cut most [] fault = record { lexemes = []; fault = fault }
+cut most (l ∷ ls) fault = if nat_lt l.at most then after_lexeme l (cut most ls fault) else record { lexemes = l ∷ []; fault = None }
+
+abbrev pub until : ℕ → Scanned → Scanned
+until most s = cut most s.lexemes s.fault
+
+-- of all tokens of the text those that begin before the byte, and the next one
+unfoldable pub lexed_until : ℕ → Bytes → Scanned
+lexed_until most text = until most (lexed text)
 
 -- ---- for the loops
 

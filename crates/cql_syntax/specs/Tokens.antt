@@ -1,5 +1,5 @@
 -- Tokens and what is asked of them.
-use Rattle.std.specs.Prelude.{Bool, false, List, [], ◌∷◌, ◌++◌, map, Option, Some, None, if◌then◌else◌, is_some}
+use Rattle.std.specs.Prelude.{Bool, false, List, ◌++◌, map, Option, Some, None, if◌then◌else◌, is_some}
 use denote.Enum.Bare.{sameb}
 use Rattle.cql_syntax.specs.contracts.token.Fixed.{the_type}
 use Rattle.cql_syntax.specs.declared.token.Fixed.{Fixed}

@@ -40,7 +40,7 @@ const RESERVED: [(&str, Fixed); 26] = [
 ];
 
 /// The tokens of a text, and the byte where none begins, if there is one.
-#[derive(Debug, Drop)]
+#[derive(Drop)]
 pub struct Scanned {
     pub lexemes: Items<Lexeme>,
     pub fault: Option<usize>,
@@ -117,6 +117,11 @@ fn lookup(mut table: &[(&str, Fixed)], word: &str) -> Option<Fixed>
     }
     None
 }
+
+/// A word is reserved in a text exactly where it is reserved for names.
+pub fn reserved_law()
+    ensures { spec.ReservedLaw }
+{}
 
 #[tactic(auto, unfolding(crate::specs::Lex::reserved))]
 fn reserved(word: &str) -> Option<Fixed>
@@ -250,10 +255,11 @@ fn token(alloc: Global, text: &str, at: usize) -> Result<Option<(Token, usize)>,
     }
 }
 
-/// The tokens of a text.
-#[tactic(auto, using(crate::proofs::LexLemmas::scan_steps), unfolding(crate::specs::Lex::lexed))]
-pub fn lexed(alloc: Global, text: &str) -> Result<Scanned, AllocError>
-    ensures { IfOk result (λ scanned. scanned ≡ spec.lexed text.now) }
+/// The tokens of a text that begin before the byte `most`, and the next one. In a text of at most
+/// so many bytes these are all.
+#[tactic(auto, using(crate::proofs::LexLemmas::scan_steps), unfolding(crate::specs::Lex::lexed, crate::specs::Lex::lexed_until))]
+pub fn lexed(alloc: Global, text: &str, most: usize) -> Result<Scanned, AllocError>
+    ensures { IfOk result (λ scanned. scanned ≡ spec.lexed_until most text.now) }
 {
     let bytes = text.as_bytes();
     let mut lexemes = Items::new(alloc);
@@ -270,6 +276,12 @@ pub fn lexed(alloc: Global, text: &str) -> Result<Scanned, AllocError>
             });
         };
         lexemes.push(Lexeme { at, token })?;
+        if at >= most {
+            return Ok(Scanned {
+                lexemes,
+                fault: None,
+            });
+        }
         at += len;
     }
     Ok(Scanned {

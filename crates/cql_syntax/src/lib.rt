@@ -8,6 +8,6 @@ mod printer;
 pub mod syntax;
 pub mod token;
 
-pub use lex::{Scanned, lexed};
+pub use lex::{Scanned, lexed, reserved_law};
 pub use print::text_of;
 pub use token::is_same;

@@ -2,7 +2,7 @@
 use cql_value::{Boxed, Items, Name, Text};
 
 /// What a query tells of each change: what came, what went, or all that is there.
-#[derive(Clone, Copy, Debug, PartialEq, Eq)]
+#[derive(Clone, Copy, PartialEq, Eq)]
 pub enum StreamOperator {
     Istream,
     Dstream,
@@ -10,7 +10,7 @@ pub enum StreamOperator {
 }
 
 /// What stands between two blocks.
-#[derive(Clone, Copy, Debug, PartialEq, Eq)]
+#[derive(Clone, Copy)]
 pub enum SetOperator {
     UnionAll,
     ExceptAll,
@@ -18,7 +18,6 @@ pub enum SetOperator {
 
 /// A name, perhaps with another before it and a dot between: a column with the alias of its
 /// input, or a stream with its owner.
-#[derive(Debug)]
 pub struct QualifiedName {
     pub qualifier: Option<Name>,
     pub name: Name,
@@ -34,7 +33,6 @@ impl Drop for QualifiedName {
 }
 
 /// A number of 64 bits with a sign, or a text.
-#[derive(Debug)]
 pub enum Constant {
     Number(i64),
     Text(Text),
@@ -50,7 +48,7 @@ impl Drop for Constant {
 }
 
 /// What an expression does with two numbers.
-#[derive(Clone, Copy, Debug, PartialEq, Eq)]
+#[derive(Clone, Copy)]
 pub enum Operation {
     Add,
     Subtract,
@@ -58,7 +56,6 @@ pub enum Operation {
 }
 
 /// An expression, with its brackets as they are written.
-#[derive(Debug, Drop)]
 pub enum Expression {
     Constant(Constant),
     Column(QualifiedName),
@@ -66,8 +63,25 @@ pub enum Expression {
     Binary(Operation, Boxed<Expression>, Boxed<Expression>),
 }
 
+// A sum of thousands of terms is as many levels deep on the left, hence a loop.
+impl Drop for Expression {
+    fn drop(mut self) {
+        loop {
+            match self {
+                Expression::Constant(_constant) => return,
+                Expression::Column(_column) => return,
+                Expression::Bracket(inner) => self = inner.into_inner(),
+                Expression::Binary(_, left, right) => {
+                    let _right = right.into_inner();
+                    self = left.into_inner();
+                }
+            }
+        }
+    }
+}
+
 /// An aggregate of one column.
-#[derive(Clone, Copy, Debug, PartialEq, Eq)]
+#[derive(Clone, Copy)]
 pub enum Function {
     Sum,
     Min,
@@ -75,7 +89,6 @@ pub enum Function {
 }
 
 /// `COUNT(*)`, or a function of a column.
-#[derive(Debug)]
 pub enum Aggregate {
     Count,
     Over(Function, QualifiedName),
@@ -91,7 +104,6 @@ impl Drop for Aggregate {
 }
 
 /// What an item shows.
-#[derive(Debug)]
 pub enum Shown {
     Expression(Expression),
     Aggregate(Aggregate),
@@ -107,7 +119,6 @@ impl Drop for Shown {
 }
 
 /// An item of a block, and the name that it is given.
-#[derive(Debug)]
 pub struct Item {
     pub shown: Shown,
     pub alias: Option<Name>,
@@ -120,7 +131,6 @@ impl Drop for Item {
 }
 
 /// What a block shows: `*`, or one item and more.
-#[derive(Debug)]
 pub enum Selection {
     All,
     List(Items<Item>),
@@ -136,7 +146,6 @@ impl Drop for Selection {
 }
 
 /// A side of a comparison.
-#[derive(Debug)]
 pub enum Operand {
     Constant(Constant),
     Column(QualifiedName),
@@ -152,7 +161,7 @@ impl Drop for Operand {
 }
 
 /// How two operands are compared.
-#[derive(Clone, Copy, Debug, PartialEq, Eq)]
+#[derive(Clone, Copy)]
 pub enum Comparison {
     Equal,
     Unequal,
@@ -163,7 +172,6 @@ pub enum Comparison {
 }
 
 /// A condition, with its brackets as they are written.
-#[derive(Debug, Drop)]
 pub enum Condition {
     Compare(Operand, Comparison, Operand),
     Not(Boxed<Condition>),
@@ -172,8 +180,23 @@ pub enum Condition {
     Or(Boxed<Condition>, Boxed<Condition>),
 }
 
+// Hundreds of comparisons with OR between are as many levels deep on the left, hence a loop.
+impl Drop for Condition {
+    fn drop(mut self) {
+        loop {
+            match self {
+                Condition::Compare(_left, _how, _right) => return,
+                Condition::Not(inner) | Condition::Bracket(inner) => self = inner.into_inner(),
+                Condition::And(left, right) | Condition::Or(left, right) => {
+                    let _right = right.into_inner();
+                    self = left.into_inner();
+                }
+            }
+        }
+    }
+}
+
 /// Which rows of an input count. A slide of 1 is no slide.
-#[derive(Debug)]
 pub enum WrittenWindow {
     /// The last ticks, moved on each so many ticks: 0 to 2^62 - 1, and 1 to 2^62 - 1.
     Range(u64, u64),
@@ -197,7 +220,6 @@ impl Drop for WrittenWindow {
 }
 
 /// A stream that a block reads, its window, and the name that it is given.
-#[derive(Debug)]
 pub struct Input {
     pub stream: QualifiedName,
     pub window: WrittenWindow,
@@ -215,7 +237,6 @@ impl Drop for Input {
 }
 
 /// One SELECT. It has 1 to 3 inputs, and no column to group by where GROUP BY is missing.
-#[derive(Debug)]
 pub struct SelectBlock {
     pub distinct: bool,
     pub selection: Selection,
@@ -237,7 +258,6 @@ impl Drop for SelectBlock {
 }
 
 /// A second block and what stands before it.
-#[derive(Debug)]
 pub struct Second {
     pub operator: SetOperator,
     pub block: SelectBlock,
@@ -253,7 +273,6 @@ impl Drop for Second {
 }
 
 /// A whole query.
-#[derive(Debug)]
 pub struct Query {
     pub output: Option<StreamOperator>,
     pub first: SelectBlock,

@@ -5,7 +5,7 @@ ghost use Rattle.cql_syntax.specs.Tokens.{same};
 use cql_value::Text;
 
 /// A reserved word or a sign.
-#[derive(Clone, Copy, Debug, PartialEq, Eq)]
+#[derive(Clone, Copy, PartialEq, Eq)]
 pub enum Fixed {
     All,
     And,
@@ -53,7 +53,7 @@ pub enum Fixed {
 }
 
 /// A token of a query text.
-#[derive(Debug, Drop)]
+#[derive(Drop)]
 pub enum Token {
     Fixed(Fixed),
     /// A word that isn't reserved, of any length.
@@ -65,12 +65,13 @@ pub enum Token {
 }
 
 /// A token and the byte that it begins at.
-#[derive(Debug, Drop)]
+#[derive(Drop)]
 pub struct Lexeme {
     pub at: usize,
     pub token: Token,
 }
 
+/// Whether they are the same word or sign.
 #[tactic(auto, unfolding(crate::specs::Tokens::same))]
 pub fn is_same(a: Fixed, b: Fixed) -> bool
     ensures { result ≡ same a b }

@@ -13,6 +13,7 @@ pub mod BlockLaws
 pub mod Steps
 pub mod ReadLaws
 pub mod Finish
+pub mod Bound
 pub mod Places
 pub mod Again
 pub mod AgainQuery

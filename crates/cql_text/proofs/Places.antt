@@ -9,12 +9,13 @@ use Rattle.cql_syntax.specs.declared.syntax.Query.{Query}
 use Rattle.cql_text.specs.declared.reader.ReadError.{ReadError}
 use Rattle.cql_text.specs.declared.reader.ReadError.TheVariants.{BadQuery, NoMemory}
 use Rattle.cql_syntax.specs.Tokens.{Tokens, tokens_of}
-use Rattle.cql_syntax.specs.Lex.{Bytes, lexed, scan}
+use Rattle.cql_syntax.specs.Lex.{Bytes, lexed, lexed_until, cut}
 use Rattle.cql_text.specs.Grammar.{Spells, CanBegin}
 use Rattle.cql_text.specs.Reading.{Outcome}
 use Rattle.cql_text.specs.Readers.{query}
 use Rattle.cql_text.specs.Read.{most_bytes, Is, IsStuck, IsTooLong, IsPlace, IsRefusedAt, end_of, byte_of, place, number_at, number_in, number_before, goes_on, with_one, blamed, refusal, ended, attempted, attempt, finished, capped, read_tokens, read_of, Answers, Reads}
 use Rattle.cql_text.proofs.Laws.{rest_of}
+use Rattle.cql_text.proofs.Bound.{until_all, cut_order, cut_rest, cut_fault, fault_cut, cut_at, cut_next}
 use Rattle.cql_text.proofs.BlockLaws.{query_reader}
 use Rattle.cql_text.proofs.ReadLaws.{begin_prefix, spells_begins, begins_nil, stops_there, on_begins, off_ends, tokens-append, split_at, cons_of, InOrder, scan_order, order_pair, before_fault, get_after, get_end, set_after, take_two}
 
@@ -372,90 +373,146 @@ order_of : (text : Bytes) → InOrder 0 (lexed text).lexemes (lexed text).fault
 unfolding lexed
 order_of text = scan_order text 0 0
 
+order_until : (text : Bytes) → InOrder 0 (lexed_until most_bytes text).lexemes (lexed_until most_bytes text).fault
+unfolding lexed_until
+order_until text = cut_order most_bytes 0 (lexed text).lexemes (lexed text).fault (order_of text)
+
 ok_err : (q : Query) (at : ℕ) (o : Result Query ℕ) → o ≡ Ok q → o ≡ Err at → ⊥
 ok_err q at o f g = cc
 
-short : (n : ℕ) → nat_lt most_bytes n ≡ false → n ≤ most_bytes
-short n h = grind (arith, nat_tests)
+not_before : (n m : ℕ) → nat_lt n m ≡ false → m ≤ n
+not_before n m h = grind (arith, nat_tests)
 
-long : (n : ℕ) → nat_lt most_bytes n ≡ true → most_bytes < n
-long n h = grind (arith, nat_tests)
+is_before : (n m : ℕ) → nat_lt n m ≡ true → n < m
+is_before n m h = grind (arith, nat_tests)
 
 not_long : (n : ℕ) → n ≤ most_bytes → nat_lt most_bytes n ≡ false
 not_long n h = grind (arith, nat_tests)
 
-module _ (text : Bytes) where
-  abbrev found : ℕ
-  found = length text
+-- a place among all tokens and one among the first, before the byte at which these end
+module _ (text : Bytes) (long : most_bytes < length text) where
+  abbrev rest : List Lexeme
+  rest = (cut_rest most_bytes (lexed text).lexemes (lexed text).fault).0
 
-  finished_ok : (o : Result Query ℕ) (q : Query) → attempt (lexed text) ≡ o → finished (lexed text) found o ≡ Ok q → attempt (lexed text) ≡ Ok q
+  longer : (F B : List Lexeme) (l : Lexeme) → (lexed_until most_bytes text).lexemes ≡ F ++ l ∷ B → (lexed text).lexemes ≡ F ++ l ∷ (B ++ rest)
+  unfolding lexed_until
+  longer F B l e = (cut_rest most_bytes (lexed text).lexemes (lexed text).fault).1 ∙ ap (λ us. us ++ rest) e ∙ append_assoc F (l ∷ B) rest
+
+  among_all : (at : ℕ) → Place (lexed_until most_bytes text) (length text) at → at < most_bytes → Place (lexed text) (length text) at
+  unfolding lexed_until
+  among_all at (inl h) k = inl (cut_fault most_bytes (lexed text).lexemes (lexed text).fault at h)
+  among_all at (inr (inl h)) k = inr (inl (h.0, h.1, h.2 ++ rest, longer h.0 h.2 h.1 h.3, h.4, h.5, h.6))
+  among_all at (inr (inr (inl h))) k = inr (inr (inl (h.0, h.1, h.2, h.3, h.4 ++ rest, longer h.0 (h.3 ∷ h.4) h.2 h.5, h.6, h.7, h.8, h.9, h.10)))
+  among_all at (inr (inr (inr h))) k = absurd (omega (arith, h.3, k, long))
+
+  shorter : (F B : List Lexeme) (l : Lexeme) → (lexed text).lexemes ≡ F ++ l ∷ B → l.at < most_bytes → (lexed_until most_bytes text).lexemes ≡ F ++ l ∷ (cut most_bytes B (lexed text).fault).lexemes
+  unfolding lexed_until
+  shorter F B l e k = ap (λ us. (cut most_bytes us (lexed text).fault).lexemes) e ∙ cut_at most_bytes 0 F l B (lexed text).fault (subst (λ us. InOrder 0 us (lexed text).fault) e (order_of text)) k
+
+  fault_until : (at : ℕ) → (lexed text).fault ≡ Some at → at < most_bytes → (lexed_until most_bytes text).fault ≡ Some at
+  unfolding lexed_until
+  fault_until at e k = ap (λ f. (cut most_bytes (lexed text).lexemes f).fault) e ∙ fault_cut most_bytes 0 (lexed text).lexemes at (subst (λ f. InOrder 0 (lexed text).lexemes f) e (order_of text)) k
+
+  among_first : (at : ℕ) → Place (lexed text) (length text) at → at < most_bytes → Place (lexed_until most_bytes text) (length text) at
+  among_first at (inl h) k = inl (fault_until at h k)
+  among_first at (inr (inl h)) k = inr (inl (h.0, h.1, (cut most_bytes h.2 (lexed text).fault).lexemes, shorter h.0 h.2 h.1 h.3 (omega (arith, h.6, k)), h.4, h.5, h.6))
+  among_first at (inr (inr (inl h))) k =
+      let n = cut_next most_bytes h.3 h.4 (lexed text).fault in
+      inr (inr (inl (h.0, h.1, h.2, h.3, n.0, shorter h.0 (h.3 ∷ h.4) h.2 h.5 (omega (arith, h.10, k)) ∙ ap (λ us. h.0 ++ h.2 ∷ us) n.1, h.6, h.7, h.8, h.9, h.10)))
+  among_first at (inr (inr (inr h))) k = absurd (omega (arith, h.3, k, long))
+
+module _ (text : Bytes) where
+  abbrev size : ℕ
+  size = length text
+
+  abbrev first : Scanned
+  first = lexed_until most_bytes text
+
+  finished_ok : (o : Result Query ℕ) (q : Query) → attempt first ≡ o → finished first size o ≡ Ok q → attempt first ≡ Ok q
   finished_ok (Ok p) q e h = let w : p ≡ q = cc in e ∙ ap Ok w
   finished_ok (Err left) q e h = cc
 
-  tokens_ok : (q : Query) → read_tokens text ≡ Ok q → attempt (lexed text) ≡ Ok q
+  tokens_ok : (q : Query) → read_tokens text ≡ Ok q → attempt first ≡ Ok q
   unfolding read_tokens
-  tokens_ok q h = finished_ok (attempt (lexed text)) q refl h
+  tokens_ok q h = finished_ok (attempt first) q refl h
 
-  finished_err : (o : Result Query ℕ) (at : ℕ) → attempt (lexed text) ≡ o → finished (lexed text) found o ≡ Err at → Least (lexed text) found at
+  finished_err : (o : Result Query ℕ) (at : ℕ) → attempt first ≡ o → finished first size o ≡ Err at → Least first size at
   finished_err (Ok p) at e h = cc
-  finished_err (Err left) at e h = let w : refusal (lexed text) found left ≡ at = cc in subst (Least (lexed text) found) w (least_refusal (lexed text) found (order_of text) left e)
+  finished_err (Err left) at e h = let w : refusal first size left ≡ at = cc in subst (Least first size) w (least_refusal first size (order_until text) left e)
 
-  tokens_err : (at : ℕ) → read_tokens text ≡ Err at → Least (lexed text) found at
+  tokens_err : (at : ℕ) → read_tokens text ≡ Err at → Least first size at
   unfolding read_tokens
-  tokens_err at h = finished_err (attempt (lexed text)) at refl h
+  tokens_err at h = finished_err (attempt first) at refl h
 
   pub read_found : (q : Query) → read_of text ≡ Ok q → Is text q
   unfolding read_of
-  read_found q h = at (nat_lt most_bytes found) (read_tokens text) refl refl h
+  read_found q h = at (nat_lt most_bytes size) (read_tokens text) refl refl h
     where
-      at : (b : Bool) (o : Result Query ℕ) → nat_lt most_bytes found ≡ b → read_tokens text ≡ o → capped b o ≡ Ok q → Is text q
+      at : (b : Bool) (o : Result Query ℕ) → nat_lt most_bytes size ≡ b → read_tokens text ≡ o → capped b o ≡ Ok q → Is text q
       at true (Ok p) e f k = cc
       at true (Err a) e f k = cc
-      at false o e f k = let p = found_spells (lexed text) found (order_of text) q (tokens_ok q (f ∙ k)) in (short found e, p.0, p.1)
+      at false o e f k =
+          let s = not_before most_bytes size e in
+          let p = subst (λ t. (t.fault ≡ None) × Spells (tokens_of t.lexemes) q) (until_all most_bytes text s) (found_spells first size (order_until text) q (tokens_ok q (f ∙ k))) in
+          (s, p.0, p.1)
 
   pub read_only : (q : Query) → Is text q → read_of text ≡ Ok q
   unfolding read_of read_tokens
-  read_only q h = rw (not_long found h.0, spells_found (lexed text) found (order_of text) q h.1 h.2) refl
-
-  widen : (at : ℕ) → Place (lexed text) found at → IsPlace text at
-  widen at h = inr h
+  read_only q h = rw (not_long size h.0, until_all most_bytes text h.0, spells_found (lexed text) size (order_of text) q h.1 h.2) refl
 
   pub read_refused : (at : ℕ) → read_of text ≡ Err at → IsRefusedAt text at
   unfolding read_of
-  read_refused at h = by (nat_lt most_bytes found) (read_tokens text) refl refl h
+  read_refused at h = by (nat_lt most_bytes size) (read_tokens text) refl refl h
     where
-      by : (b : Bool) (o : Result Query ℕ) → nat_lt most_bytes found ≡ b → read_tokens text ≡ o → capped b o ≡ Err at → IsRefusedAt text at
+      by : (b : Bool) (o : Result Query ℕ) → nat_lt most_bytes size ≡ b → read_tokens text ≡ o → capped b o ≡ Err at → IsRefusedAt text at
       by true (Ok q) e f k =
           let w : most_bytes ≡ at = cc in
-          (inl (long found e, sym w), others)
+          (inl (is_before most_bytes size e, sym w), others)
         where
           others : (other : ℕ) → IsPlace text other → at ≤ other
           others other (inl p) = let w : most_bytes ≡ at = cc in omega (arith, w, p.1)
-          others other (inr p) = absurd (no_place (lexed text) found (order_of text) q other (tokens_ok q f) p)
+          others other (inr p) = pick (nat_lt other most_bytes) refl
+            where
+              pick : (b : Bool) → nat_lt other most_bytes ≡ b → at ≤ other
+              pick true g = absurd (no_place first size (order_until text) q other (tokens_ok q f) (among_first text (is_before most_bytes size e) other p (is_before other most_bytes g)))
+              pick false g = let w : most_bytes ≡ at = cc in let i = not_before other most_bytes g in omega (arith, w, i)
       by true (Err a) e f k =
           let w : min a most_bytes ≡ at = cc in
           let l = tokens_err a f in
           (place_of l.0, others)
         where
-          place_of : Place (lexed text) found a → IsPlace text at
-          place_of p = pick (nat_lt most_bytes a) refl
+          place_of : Place first size a → IsPlace text at
+          place_of p = pick (nat_lt a most_bytes) refl
             where
-              pick : (b : Bool) → nat_lt most_bytes a ≡ b → IsPlace text at
-              pick true g = let w : min a most_bytes ≡ at = cc in let i = long a g in inl (long found e, omega (arith, w, i))
-              pick false g = let w : min a most_bytes ≡ at = cc in let i = short a g in let j : a ≡ at = omega (arith, w, i) in inr (subst (Place (lexed text) found) j p)
+              pick : (b : Bool) → nat_lt a most_bytes ≡ b → IsPlace text at
+              pick true g =
+                  let w : min a most_bytes ≡ at = cc in
+                  let i = is_before a most_bytes g in
+                  let j : a ≡ at = omega (arith, w, i) in
+                  inr (subst (Place (lexed text) size) j (among_all text (is_before most_bytes size e) a p i))
+              pick false g = let w : min a most_bytes ≡ at = cc in let i = not_before a most_bytes g in inl (is_before most_bytes size e, omega (arith, w, i))
 
           others : (other : ℕ) → IsPlace text other → at ≤ other
           others other (inl p) = let w : min a most_bytes ≡ at = cc in omega (arith, w, p.1)
-          others other (inr p) = let w : min a most_bytes ≡ at = cc in let i = (tokens_err a f).1 other p in omega (arith, w, i)
+          others other (inr p) = pick (nat_lt other most_bytes) refl
+            where
+              pick : (b : Bool) → nat_lt other most_bytes ≡ b → at ≤ other
+              pick true g =
+                  let w : min a most_bytes ≡ at = cc in
+                  let i = (tokens_err a f).1 other (among_first text (is_before most_bytes size e) other p (is_before other most_bytes g)) in
+                  omega (arith, w, i)
+              pick false g = let w : min a most_bytes ≡ at = cc in let i = not_before other most_bytes g in omega (arith, w, i)
       by false (Ok q) e f k = cc
       by false (Err a) e f k =
           let w : a ≡ at = cc in
-          let l = subst (Least (lexed text) found) w (tokens_err a f) in
-          (inr l.0, others)
+          (inr (least w).0, others w)
         where
-          others : (other : ℕ) → IsPlace text other → at ≤ other
-          others other (inl p) = let i = short found e in absurd (omega (arith, p.0, i))
-          others other (inr p) = let w : a ≡ at = cc in (subst (Least (lexed text) found) w (tokens_err a f)).1 other p
+          least : a ≡ at → Least (lexed text) size at
+          least w = subst (λ s. Least s size at) (until_all most_bytes text (not_before most_bytes size e)) (subst (Least first size) w (tokens_err a f))
+
+          others : a ≡ at → (other : ℕ) → IsPlace text other → at ≤ other
+          others w other (inl p) = let i = not_before most_bytes size e in absurd (omega (arith, p.0, i))
+          others w other (inr p) = (least w).1 other p
 
 -- ---- what the reader answers
 

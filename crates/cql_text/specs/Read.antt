@@ -8,7 +8,7 @@ use Rattle.cql_syntax.specs.declared.syntax.Query.{Query}
 use Rattle.cql_text.specs.declared.reader.ReadError.{ReadError}
 use Rattle.cql_text.specs.declared.reader.ReadError.TheVariants.{BadQuery, NoMemory}
 use Rattle.cql_syntax.specs.Tokens.{Tokens, tokens_of}
-use Rattle.cql_syntax.specs.Lex.{Bytes, lexed}
+use Rattle.cql_syntax.specs.Lex.{Bytes, lexed, lexed_until}
 use Rattle.cql_text.specs.Grammar.{Spells, CanBegin}
 use Rattle.cql_text.specs.Reading.{Outcome}
 use Rattle.cql_text.specs.Readers.{query}
@@ -135,8 +135,9 @@ capped true (Ok q) = Err most_bytes
 capped true (Err at) = Err (min at most_bytes)
 capped false outcome = outcome
 
+-- of the tokens that begin within the bytes that a text may have, and one more, where the unit of a number may stand
 unfoldable pub read_tokens : Bytes → Result Query ℕ
-read_tokens text = finished (lexed text) (length text) (attempt (lexed text))
+read_tokens text = finished (lexed_until most_bytes text) (length text) (attempt (lexed_until most_bytes text))
 
 unfoldable pub read_of : Bytes → Result Query ℕ
 read_of text = capped (nat_lt most_bytes (length text)) (read_tokens text)

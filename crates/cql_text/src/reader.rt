@@ -119,12 +119,16 @@ fn attempt(alloc: Global, scanned: &Scanned) -> Result<Result<Query, usize>, All
     }
 }
 
-// The query that the text is, whatever its length.
+const MOST_BYTES: usize = 4096;
+
+// The query that the text's first tokens are. Those that begin beyond the bytes that a text may
+// have are not read, so that a long text makes no deep tree; one of them is, since it may be the
+// unit that puts the number before it out of its range.
 #[tactic(auto, unfolding(crate::specs::Read::read_tokens))]
 fn read_tokens(alloc: Global, text: &str) -> Result<Query, ReadError>
     ensures { Answers (spec.read_tokens text.now) result }
 {
-    let scanned = lexed(alloc, text)?;
+    let scanned = lexed(alloc, text, MOST_BYTES)?;
     match attempt(alloc, &scanned)? {
         Ok(query) => Ok(query),
         Err(left) => {
@@ -133,8 +137,6 @@ fn read_tokens(alloc: Global, text: &str) -> Result<Query, ReadError>
         }
     }
 }
-
-const MOST_BYTES: usize = 4096;
 
 #[tactic(auto, unfolding(crate::specs::Read::read_of))]
 fn read_capped(alloc: Global, text: &str) -> Result<Query, ReadError>
@@ -155,7 +157,7 @@ fn read_capped(alloc: Global, text: &str) -> Result<Query, ReadError>
 
 /// What a text of at most 4096 bytes says in the query language. It is made by `read` alone, and
 /// contracts see the query: some tokens are that query.
-#[derive(Debug, Drop)]
+#[derive(Drop)]
 pub struct Syntax {
     query: Query,
 }

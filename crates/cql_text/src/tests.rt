@@ -71,3 +71,23 @@ fn nested_and_long(rt: HostRuntime) -> Result<(), Fail> {
     }
     Ok(())
 }
+
+#[test]
+fn deep(rt: HostRuntime) -> Result<(), Fail> {
+    let a = rt.alloc();
+    let mut out = String::from_str(a, "Select 1")?;
+    push_often(&mut out, "+1", 2000)?;
+    out.push_str(" From s Where 1=1")?;
+    assert_eq!(rt; refused_at(a, out.as_str()), None);
+    let mut out = String::from_str(a, "Select 1 From s Where 1=1")?;
+    push_often(&mut out, " or 1=1", 580)?;
+    assert_eq!(rt; refused_at(a, out.as_str()), None);
+    let mut out = String::from_str(a, "Select 1")?;
+    push_often(&mut out, "+1", 30000)?;
+    assert_eq!(rt; refused_at(a, out.as_str()), Some(4096));
+    let mut out = String::from_str(a, "Select 1")?;
+    push_often(&mut out, " ", 60000)?;
+    out.push_str("?")?;
+    assert_eq!(rt; refused_at(a, out.as_str()), Some(4096));
+    Ok(())
+}

@@ -1,4 +1,4 @@
-use Rattle.std.proofs.Common.{◌≡◌, ◌≤◌, ◌+◌, length, false, string_bytes}
+use Rattle.std.proofs.Common.{◌≡◌, ◌+◌, length, false, string_bytes}
 use denote.Shadow.{shadow}
 use denote.Text.{Utf8}
 use Rattle.cql_syntax.specs.Lex.{quoted, behind}

@@ -1,4 +1,4 @@
-use Rattle.std.proofs.Common.{◌≡◌, ◌<◌, List, ℕ, Bool, true, false, if◌then◌else◌, [], ◌∷◌, ◌++◌, Result, Ok, Err, OnOk, is_ok, rules, refl, sym, ap, ◌∙◌, append_assoc, lit<}
+use Rattle.std.proofs.Common.{◌≡◌, List, ℕ, if◌then◌else◌, [], ◌∷◌, ◌++◌, Result, Ok, Err, OnOk, is_ok, rules, ap, ◌∙◌, lit<}
 use Rattle.cql_syntax.proofs.Quotes.{doubled_turn, doubled_end}
 use Rattle.cql_syntax.proofs.Splits.{split_some, split_none}
 use Rattle.cql_syntax.proofs.printer.push_doubled.Goals as goal

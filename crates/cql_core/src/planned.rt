@@ -13,10 +13,8 @@ use cql_plan::error::PlanError;
 use cql_plan::lookup::Lookup;
 use cql_plan::plan::Plan as Typed;
 use cql_plan::resolve;
+use cql_syntax::syntax::{Input, Query, SelectBlock, Selection, StreamOperator, WrittenWindow};
 use cql_text::Syntax;
-use cql_syntax::syntax::{
-    Input, Query, SelectBlock, Selection, StreamOperator, WrittenWindow,
-};
 use cql_value::{Schema, Text};
 use cql_window::Window;
 use std::alloc::{AllocError, Global};

@@ -27,8 +27,8 @@ use Rattle.cql_plan.specs.declared.plan.OutputKind.{OutputKind}
 use Rattle.cql_plan.specs.declared.plan.Planned.{Planned}
 use Rattle.cql_plan.specs.Outcome.{Outcome, ◌>>=◌, ◌>>◌, unless, each}
 use Rattle.cql_plan.specs.Columns.{kinds_of, column_of}
-use Rattle.cql_plan.specs.Sources.{Readable, source_of, are_apart, joined_row, ports_of}
-use Rattle.cql_plan.specs.Typing.{same_kind, same_kinds, expression_of, group_of, is_among, is_column, is_grouped_by, function_of, aggregate_of, shown_of, item_of, all_items, items_of, is_aggregate as is_written_aggregate, has_aggregate, is_named, is_grouped as is_written_grouped, where_of, shown_in, checked_of, body_of, block_of, output_of, alone, combined, with_second, typing}
+use Rattle.cql_plan.specs.Sources.{Readable, source_of, are_apart, joined_row, ports_of, inputs_of}
+use Rattle.cql_plan.specs.Typing.{same_kind, same_kinds, expression_of, group_of, is_among, is_column, is_grouped_by, function_of, aggregate_of, shown_of, item_of, all_items, items_of, is_aggregate as is_written_aggregate, has_aggregate, is_named, is_grouped as is_written_grouped, where_of, shown_in, join_of, checked_of, body_of, block_of, output_of, alone, combined, with_second, typing}
 use Rattle.cql_plan.specs.Fit.{is_empty, is_aggregate, some_are, HasColumn, IsTypedItem, IsGroupedItem, all_columns, IsTypedBlock, IsFitLaw}
 use Rattle.cql_plan.proofs.FitExpressions.{bound, passed, ok_is, each_ok, both, column_found, column_type, is_number, expression_typed, among}
 
@@ -190,13 +190,13 @@ unfolding body_of
 body_typed sources block c h =
     let fields = joined_row sources in
     let grouped = is_written_grouped block in
-    let w = bound (where_of fields block.condition) (λ condition. each (group_of fields) block.groups >>= (λ groups. items_of fields grouped groups block.selection >>= (λ items. Ok (checked_of block.distinct sources condition groups items)))) c h in
-    let g = bound (each (group_of fields) block.groups) (λ groups. items_of fields grouped groups block.selection >>= (λ items. Ok (checked_of block.distinct sources w.0 groups items))) c w.2 in
+    let w = bound (where_of fields block.condition) (λ condition. each (group_of fields) block.groups >>= (λ groups. items_of fields grouped groups block.selection >>= (λ items. Ok (checked_of block.distinct (inputs_of sources) (join_of sources condition) fields groups items)))) c h in
+    let g = bound (each (group_of fields) block.groups) (λ groups. items_of fields grouped groups block.selection >>= (λ items. Ok (checked_of block.distinct (inputs_of sources) (join_of sources w.0) fields groups items))) c w.2 in
     let groups = g.0 in
-    let n = bound (items_of fields grouped groups block.selection) (λ items. Ok (checked_of block.distinct sources w.0 groups items)) c g.2 in
+    let n = bound (items_of fields grouped groups block.selection) (λ items. Ok (checked_of block.distinct (inputs_of sources) (join_of sources w.0) fields groups items)) c g.2 in
     let zip = each_ok (group_of fields) block.groups groups g.1 in
     let fit = selection_fits fields grouped groups block.selection n.0 n.1 in
-    subst IsTypedChecked (ok_is (checked_of block.distinct sources w.0 groups n.0) c n.2) (record {
+    subst IsTypedChecked (ok_is (checked_of block.distinct (inputs_of sources) (join_of sources w.0) fields groups n.0) c n.2) (record {
       join = record { ports = ports_of sources; condition = w.0 };
       shape = record { columns = kinds_of fields; items = shown_in n.0; groups = groups };
       is_join = refl;

@@ -31,7 +31,7 @@ use Rattle.cql_syntax.specs.declared.syntax.SetOperator.{SetOperator}
 use Rattle.cql_syntax.specs.declared.syntax.SelectBlock.{SelectBlock}
 use Rattle.cql_syntax.specs.declared.syntax.Second.{Second}
 use Rattle.cql_syntax.specs.declared.syntax.Query.{Query}
-use Rattle.cql_plan.specs.declared.error.PlanError.TheVariants.{AmbiguousColumn, TypeMismatch}
+use Rattle.cql_plan.specs.declared.error.PlanFault.TheVariants.{AmbiguousColumn, TypeMismatch}
 use Rattle.cql_plan.specs.declared.expr.Expr.{Expr, fold-Expr}
 use Rattle.cql_plan.specs.declared.expr.Expr.TheOpen.{Expr-F}
 use Rattle.cql_plan.specs.declared.expr.Expr.TheVariants as e
@@ -44,6 +44,7 @@ use Rattle.cql_plan.specs.declared.node.Node.{Node}
 use Rattle.cql_plan.specs.declared.node.Node.TheVariants as node
 use Rattle.cql_plan.specs.declared.plan.OutputKind.{OutputKind}
 use Rattle.cql_plan.specs.declared.plan.OutputKind.TheVariants.{Istream, Dstream, Rstream, Signed}
+use Rattle.cql_plan.specs.declared.plan.Input.{Input}
 use Rattle.cql_plan.specs.declared.plan.Planned.{Planned}
 use Rattle.cql_plan.specs.declared.row.Field.{Field}
 use Rattle.cql_plan.specs.declared.row.Found.{Found}
@@ -52,6 +53,7 @@ use Rattle.cql_plan.specs.declared.typed.TypedExpr.{TypedExpr}
 use Rattle.cql_plan.specs.declared.typed.TypedOperand.{TypedOperand}
 use Rattle.cql_plan.specs.declared.item.TypedItem.{TypedItem}
 use Rattle.cql_plan.specs.declared.block.Checked.{Checked}
+use Rattle.cql_plan.specs.declared.block.Selected.{Selected}
 use Rattle.cql_plan.specs.Outcome.{Outcome, ◌>>=◌, ◌>>◌, unless, each}
 use Rattle.cql_plan.specs.Columns.{column_of, kinds_of}
 use Rattle.cql_plan.specs.Sources.{Readable, source_of, are_apart, joined_row, ports_of, inputs_of}
@@ -208,26 +210,29 @@ abbrev pub distinct_of : Bool → List ColumnType → Option Node
 distinct_of true kinds = Some (node.Distinct kinds)
 distinct_of false kinds = None
 
--- what the items show, and what they give
 abbrev pub shown_in : List TypedItem → List Item
 shown_in = map (λ typed. typed.item)
 
 abbrev pub kinds_in : List TypedItem → List ColumnType
 kinds_in = map (λ typed. typed.kind)
 
+-- what the items show, and what each gives
+abbrev pub selected_of : List TypedItem → Selected
+selected_of items = record { items = shown_in items; kinds = kinds_in items }
+
 -- the join of the inputs
 abbrev pub join_of : List Source → Condition → Node
 join_of sources condition = node.Join (record { ports = ports_of sources; condition = condition })
 
 -- the items over the joined row
-abbrev pub shape_of : List Source → List ℕ → List TypedItem → Node
-shape_of sources groups items = node.Shape (record { columns = kinds_of (joined_row sources); items = shown_in items; groups = groups })
+abbrev pub shape_of : List Field → List ℕ → List TypedItem → Node
+shape_of row groups items = node.Shape (record { columns = kinds_of row; items = shown_in items; groups = groups })
 
 -- what a block gives that passed its checks: its inputs, its nodes, and the types of its columns
-abbrev pub checked_of : Bool → List Source → Condition → List ℕ → List TypedItem → Checked
-checked_of distinct sources condition groups items = record {
-  inputs = inputs_of sources;
-  branch = record { join = join_of sources condition; shape = shape_of sources groups items; distinct = distinct_of distinct (kinds_in items) };
+abbrev pub checked_of : Bool → List Input → Node → List Field → List ℕ → List TypedItem → Checked
+checked_of distinct inputs join row groups items = record {
+  inputs = inputs;
+  branch = record { join = join; shape = shape_of row groups items; distinct = distinct_of distinct (kinds_in items) };
   kinds = kinds_in items;
 }
 
@@ -237,7 +242,7 @@ body_of sources block = do
   condition ← where_of (joined_row sources) block.condition
   groups ← each (group_of (joined_row sources)) block.groups
   items ← items_of (joined_row sources) (is_grouped block) groups block.selection
-  Ok (checked_of block.distinct sources condition groups items)
+  Ok (checked_of block.distinct (inputs_of sources) (join_of sources condition) (joined_row sources) groups items)
 
 -- a block: its inputs from the left, then their aliases, then the rest
 unfoldable pub block_of : Readable → SelectBlock → Outcome Checked

@@ -8,7 +8,7 @@ use sqlite_items::at;
 use std::alloc::{AllocError, Global};
 
 /// An expression over the columns of one row, counted from 0.
-#[derive(Debug, Drop)]
+#[derive(Drop)]
 pub enum Expr {
     Column(usize),
     Constant(Value),
@@ -55,23 +55,6 @@ pub fn evaluate(alloc: Global, expr: &Expr, row: &[Value]) -> Result<Option<Valu
                     None => Ok(None),
                 },
                 None => Ok(None),
-            }
-        }
-    }
-}
-
-impl Expr {
-    /// A copy that equals it.
-    pub fn try_clone(&self, alloc: Global) -> Result<Expr, AllocError>
-        ensures { IfOk result (λ e. e ≡ self.now) }
-    {
-        match self {
-            Expr::Column(at) => Ok(Expr::Column(*at)),
-            Expr::Constant(value) => Ok(Expr::Constant(value.try_clone(alloc)?)),
-            Expr::Binary(op, left, right) => {
-                let left = left.get().try_clone(alloc)?;
-                let right = right.get().try_clone(alloc)?;
-                Ok(Expr::Binary(*op, Boxed::new(alloc, left)?, Boxed::new(alloc, right)?))
             }
         }
     }

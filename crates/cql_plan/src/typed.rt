@@ -4,7 +4,7 @@ ghost use Rattle.cql_plan.specs.Outcome.{Answers};
 ghost use Rattle.cql_plan.specs.Typing as spec;
 
 use crate::condition::{Condition, Operand};
-use crate::error::PlanError;
+use crate::error::{PlanError, PlanFault};
 use crate::expr::Expr;
 use crate::row::{Field, column_of};
 use cql_syntax::syntax::{self, Comparison, Constant, Expression, Operation};
@@ -12,14 +12,14 @@ use cql_value::{Boxed, ColumnType, Value};
 use std::alloc::{AllocError, Global};
 
 /// An expression and what it gives.
-#[derive(Debug, Drop)]
+#[derive(Drop)]
 pub(crate) struct TypedExpr {
     pub(crate) expr: Expr,
     pub(crate) kind: ColumnType,
 }
 
 /// A side of a comparison and what it holds.
-#[derive(Debug, Drop)]
+#[derive(Drop)]
 pub(crate) struct TypedOperand {
     pub(crate) operand: Operand,
     pub(crate) kind: ColumnType,
@@ -60,7 +60,7 @@ fn operated(
     ensures { Answers (spec.operated operation left right) result }
 {
     if !same_kind(left.kind, ColumnType::Number) || !same_kind(right.kind, ColumnType::Number) {
-        return Err(PlanError::TypeMismatch);
+        return Err(PlanError::Refused(PlanFault::TypeMismatch));
     }
     let left = Boxed::new(alloc, left.expr)?;
     let right = Boxed::new(alloc, right.expr)?;
@@ -137,7 +137,7 @@ fn comparison_of(
     let left = operand_of(alloc, fields, left)?;
     let right = operand_of(alloc, fields, right)?;
     if !same_kind(left.kind, right.kind) {
-        return Err(PlanError::TypeMismatch);
+        return Err(PlanError::Refused(PlanFault::TypeMismatch));
     }
     Ok(Condition::Compare(left.operand, how, right.operand))
 }

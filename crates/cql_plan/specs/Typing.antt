@@ -87,10 +87,16 @@ operated operation left right =
     unless (same_kind left.kind Number && same_kind right.kind Number) TypeMismatch
     >> Ok (record { expr = e.Binary operation left.expr right.expr; kind = Number })
 
+abbrev pub constant_of : WrittenConstant → TypedExpr
+constant_of written = record { expr = e.Constant (value_of written); kind = kind_of written }
+
+abbrev pub place_of : List Field → QualifiedName → Outcome TypedExpr
+place_of fields written = column_of fields written >>= (λ found. Ok (record { expr = e.Column found.place; kind = found.kind }))
+
 -- one level of an expression: its operands from the left, then the operation round them
 abbrev pub expression_step : List Field → Expression-F (Outcome TypedExpr) → Outcome TypedExpr
-expression_step fields (Expression-F.Constant written) = Ok (record { expr = e.Constant (value_of written); kind = kind_of written })
-expression_step fields (Expression-F.Column written) = column_of fields written >>= (λ found. Ok (record { expr = e.Column found.place; kind = found.kind }))
+expression_step fields (Expression-F.Constant written) = Ok (constant_of written)
+expression_step fields (Expression-F.Column written) = place_of fields written
 expression_step fields (Expression-F.Bracket inner) = inner
 expression_step fields (Expression-F.Binary operation left right) = left >>= (λ l. right >>= (λ r. operated operation l r))
 
@@ -196,13 +202,13 @@ abbrev pub has_aggregate : Selection → Bool
 has_aggregate selection.All = false
 has_aggregate (selection.List items) = list_any is_aggregate items
 
-abbrev pub is_named : List QualifiedName → Bool
-is_named [] = false
-is_named (column ∷ columns) = true
+abbrev pub is_empty : {A : Type 0} → List A → Bool
+is_empty [] = true
+is_empty (x ∷ xs) = false
 
 -- a block is grouped if it has GROUP BY or an aggregate
 unfoldable pub is_grouped : SelectBlock → Bool
-is_grouped block = is_named block.groups || has_aggregate block.selection
+is_grouped block = not (is_empty block.groups) || has_aggregate block.selection
 
 -- ---- blocks
 

@@ -7,7 +7,7 @@ use crate::condition::{Condition, Operand};
 use crate::error::{PlanError, PlanFault};
 use crate::expr::Expr;
 use crate::row::{Field, column_of};
-use cql_syntax::syntax::{self, Comparison, Constant, Expression, Operation};
+use cql_syntax::syntax::{self, Comparison, Constant, Expression, Operation, QualifiedName};
 use cql_value::{Boxed, ColumnType, Value};
 use std::alloc::{AllocError, Global};
 
@@ -70,6 +70,25 @@ fn operated(
     })
 }
 
+fn constant_of(alloc: Global, written: &Constant) -> Result<TypedExpr, AllocError>
+    ensures { IfOk result (λ typed. typed ≡ spec.constant_of written.now) }
+{
+    Ok(TypedExpr {
+        expr: Expr::Constant(value_of(alloc, written)?),
+        kind: kind_of(written),
+    })
+}
+
+fn place_of(fields: &[Field], written: &QualifiedName) -> Result<TypedExpr, PlanFault>
+    ensures { result ≡ spec.place_of fields.now written.now }
+{
+    let found = column_of(fields, written)?;
+    Ok(TypedExpr {
+        expr: Expr::Column(found.place),
+        kind: found.kind,
+    })
+}
+
 /// An expression over the columns: its operands from the left, then the operation round them.
 #[tactic(auto, unfolding(crate::specs::Typing::expression_of))]
 pub(crate) fn expression_of(
@@ -80,17 +99,8 @@ pub(crate) fn expression_of(
     ensures { Answers (spec.expression_of fields.now written.now) result }
 {
     match written {
-        Expression::Constant(constant) => Ok(TypedExpr {
-            expr: Expr::Constant(value_of(alloc, constant)?),
-            kind: kind_of(constant),
-        }),
-        Expression::Column(column) => {
-            let found = column_of(fields, column)?;
-            Ok(TypedExpr {
-                expr: Expr::Column(found.place),
-                kind: found.kind,
-            })
-        }
+        Expression::Constant(constant) => Ok(constant_of(alloc, constant)?),
+        Expression::Column(column) => Ok(place_of(fields, column)?),
         Expression::Bracket(inner) => expression_of(alloc, fields, inner.get()),
         Expression::Binary(operation, left, right) => {
             let left = expression_of(alloc, fields, left.get())?;

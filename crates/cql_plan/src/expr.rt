@@ -48,7 +48,9 @@ fn combined(op: Operation, left: Option<Value>, right: Option<Value>) -> Option<
 fn value_at(alloc: Global, row: &[Value], place: usize) -> Result<Option<Value>, AllocError>
     ensures { IfOk result (λ v. v ≡ slice_get row.now place) }
 {
-    at(row, place).map(|value| value.try_clone(alloc)).transpose()
+    at(row, place)
+        .map(|value| value.try_clone(alloc))
+        .transpose()
 }
 
 /// The value of the expression on the row: none where an operation is outside i64.

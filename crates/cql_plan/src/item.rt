@@ -26,10 +26,8 @@ pub(crate) struct TypedItem {
 fn group_of(fields: &[Field], written: &QualifiedName) -> Result<usize, PlanFault>
     ensures { result ≡ spec.group_of fields.now written.now }
 {
-    match column_of(fields, written) {
-        Ok(found) => Ok(found.place),
-        Err(error) => Err(error),
-    }
+    let found = column_of(fields, written)?;
+    Ok(found.place)
 }
 
 /// The columns by which a block is grouped, from the left.
@@ -116,10 +114,10 @@ fn aggregate_of(fields: &[Field], written: &Aggregate) -> Result<TypedItem, Plan
             item: Item::Count,
             kind: ColumnType::Number,
         }),
-        Aggregate::Over(function, column) => match column_of(fields, column) {
-            Ok(found) => function_of(*function, found),
-            Err(error) => Err(error),
-        },
+        Aggregate::Over(function, column) => {
+            let found = column_of(fields, column)?;
+            function_of(*function, found)
+        }
     }
 }
 

@@ -60,10 +60,8 @@ pub(crate) struct Joined {
 fn part_column(fields: &[Field], name: &Name) -> Result<usize, PlanFault>
     ensures { result ≡ spec.part_column fields.now name.now }
 {
-    match column_named(fields, &None, name) {
-        Ok(found) => Ok(found.place),
-        Err(error) => Err(error),
-    }
+    let found = column_named(fields, &None, name)?;
+    Ok(found.place)
 }
 
 #[tactic(auto, using(crate::proofs::Each::stops, crate::proofs::Each::goes_on, crate::proofs::Each::ends))]
@@ -126,7 +124,12 @@ fn source_with(
     let alias = alias_of(input)?;
     let fields = fields_of(alloc, &alias, columns)?;
     let window = window_of(alloc, fields.as_slice(), &input.window)?;
-    let owner = input.stream.qualifier.as_ref().map(|owner| owner.try_clone()).transpose()?;
+    let owner = input
+        .stream
+        .qualifier
+        .as_ref()
+        .map(|owner| owner.try_clone())
+        .transpose()?;
     let stream = input.stream.name.try_clone()?;
     Ok(Source {
         input: Input {

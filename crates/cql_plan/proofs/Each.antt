@@ -3,7 +3,7 @@ use Rattle.std.proofs.Common.{◌≡◌, ◌<◌, ◌≤◌, ℕ, suc, List, [],
 use Rattle.std.specs.Prelude.{Ok, Err}
 use Rattle.std.proofs.Math.Seq.{drop-cons}
 use Rattle.std.proofs.lemmas.List.{drop_all, append-nil}
-use Rattle.cql_plan.specs.declared.error.PlanError.{PlanError}
+use Rattle.cql_plan.specs.declared.error.PlanFault.{PlanFault}
 use Rattle.cql_plan.specs.Outcome.{Outcome, ◌>>=◌, each}
 
 -- what was checked so far, before the outcome of the rest
@@ -27,7 +27,7 @@ goes_on {A} {B} check xs i x front y within is passes so =
     ∙ moved front y (each check (drop (suc i) xs))
 
 -- one has a fault
-pub stops : {A B : Type 0} (check : A → Outcome B) (xs : List A) (i : ℕ) (x : A) (front : List B) (e : PlanError) → i < length xs → x ≡ get_or xs i x
+pub stops : {A B : Type 0} (check : A → Outcome B) (xs : List A) (i : ℕ) (x : A) (front : List B) (e : PlanFault) → i < length xs → x ≡ get_or xs i x
     → check x ≡ Err e → each check xs ≡ after front (each check (drop i xs)) → each check xs ≡ Err e
 stops {A} {B} check xs i x front e within is fault so =
     so ∙ ap (after front) (opened check xs i x within is ∙ ap (λ o. o >>= (λ (z : B). each check (drop (suc i) xs) >>= (λ ys. Ok (z ∷ ys)))) fault)

@@ -11,15 +11,15 @@ use Rattle.cql_syntax.specs.Tokens.{Tokens}
 use Rattle.cql_text.specs.Rules.{optional}
 use Rattle.cql_text.specs.Grammar.{IsInputs, IsRest, IsSelected, IsBlock, IsSecond, IsOuter, IsInner, IsWhole, IsQuery}
 use Rattle.cql_text.specs.Read.{IsSyntax}
-use Rattle.cql_plan.specs.declared.error.PlanError.TheVariants.{AmbiguousColumn, TypeMismatch}
+use Rattle.cql_plan.specs.declared.error.PlanFault.TheVariants.{AmbiguousColumn, TypeMismatch}
 use Rattle.cql_plan.specs.declared.plan.OutputKind.{OutputKind}
 use Rattle.cql_plan.specs.declared.plan.Planned.{Planned}
 use Rattle.cql_plan.specs.declared.source.Source.{Source}
 use Rattle.cql_plan.specs.declared.block.Checked.{Checked}
 use Rattle.cql_plan.specs.Outcome.{Outcome, ◌>>=◌, unless, each}
 use Rattle.cql_plan.specs.Plan.{IsFew}
-use Rattle.cql_plan.specs.Sources.{Readable, source_of, are_apart, joined_row}
-use Rattle.cql_plan.specs.Typing.{typing, with_second, block_of, body_of, where_of, group_of, items_of, is_grouped, checked_of, output_of, same_kinds, alone, combined}
+use Rattle.cql_plan.specs.Sources.{Readable, source_of, are_apart, joined_row, inputs_of}
+use Rattle.cql_plan.specs.Typing.{typing, with_second, block_of, body_of, where_of, group_of, items_of, is_grouped, join_of, checked_of, output_of, same_kinds, alone, combined}
 
 -- ---- written inputs
 
@@ -103,7 +103,7 @@ body_length sources block checked so =
     let one = passes (where_of (joined_row sources) block.condition) _ checked so in
     let two = passes (each (group_of (joined_row sources)) block.groups) _ checked one.2 in
     let three = passes (items_of (joined_row sources) (is_grouped block) two.0 block.selection) _ checked two.2 in
-    let same : checked ≡ checked_of block.distinct sources one.0 two.0 three.0 = cc (three.2) in
+    let same : checked ≡ checked_of block.distinct (inputs_of sources) (join_of sources one.0) (joined_row sources) two.0 three.0 = cc (three.2) in
     ap (λ (c : Checked). length c.inputs) same ∙ length-map sources _
 
 block_length : (readable : Readable) (block : SelectBlock) (checked : Checked) → block_of readable block ≡ Ok checked → length checked.inputs ≡ length block.inputs

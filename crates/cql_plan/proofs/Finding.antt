@@ -5,7 +5,7 @@ use Rattle.std.proofs.Math.Seq.{drop-cons}
 use Rattle.std.proofs.lemmas.List.{drop_all, append-nil}
 use Rattle.cql_plan.specs.declared.row.Field.{Field}
 use Rattle.cql_plan.specs.declared.row.Found.{Found}
-use Rattle.cql_plan.specs.declared.error.PlanError.TheVariants.{AmbiguousColumn}
+use Rattle.cql_plan.specs.declared.error.PlanFault.TheVariants.{AmbiguousColumn}
 use Rattle.cql_plan.specs.Columns.{meant, may_mean, the_one, column_named}
 
 -- what was found so far

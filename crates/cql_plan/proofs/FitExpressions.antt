@@ -11,7 +11,7 @@ use Rattle.cql_syntax.specs.declared.syntax.Operation.{Operation}
 use Rattle.cql_syntax.specs.declared.syntax.Expression.{Expression, map-Expression, roll-Expression}
 use Rattle.cql_syntax.specs.declared.syntax.Expression.TheOpen.{Expression-F}
 use Rattle.cql_syntax.specs.declared.syntax.Expression.TheFolds.{fold-roll-Expression, ind-Expression}
-use Rattle.cql_plan.specs.declared.error.PlanError.{PlanError}
+use Rattle.cql_plan.specs.declared.error.PlanFault.{PlanFault}
 use Rattle.cql_plan.specs.declared.expr.Expr.{Expr, roll-Expr}
 use Rattle.cql_plan.specs.declared.expr.Expr.TheOpen.{Expr-F}
 use Rattle.cql_plan.specs.declared.expr.Expr.TheFolds.{fold-Expr, fold-roll-Expr, ind-Expr}
@@ -49,7 +49,7 @@ pub bound : {A B : Type 0} (m : Outcome A) (f : A → Outcome B) (y : B) → (m 
 bound (Ok x) f y h = (x, refl, h)
 bound (Err e) f y h = absurd cc
 
-pub passed : {B : Type 0} (b : Bool) (fault : PlanError) (rest : Outcome B) (y : B) → (unless b fault >> rest) ≡ Ok y → (b ≡ true) × (rest ≡ Ok y)
+pub passed : {B : Type 0} (b : Bool) (fault : PlanFault) (rest : Outcome B) (y : B) → (unless b fault >> rest) ≡ Ok y → (b ≡ true) × (rest ≡ Ok y)
 passed true fault rest y h = (refl, h)
 passed false fault rest y h = absurd cc
 

@@ -27,9 +27,9 @@ use Rattle.cql_plan.specs.declared.plan.OutputKind.{OutputKind}
 use Rattle.cql_plan.specs.declared.plan.Planned.{Planned}
 use Rattle.cql_plan.specs.Outcome.{Outcome, ◌>>=◌, ◌>>◌, unless, each}
 use Rattle.cql_plan.specs.Columns.{kinds_of, column_of}
-use Rattle.cql_plan.specs.Sources.{Readable, source_of, are_apart, joined_row, ports_of}
-use Rattle.cql_plan.specs.Typing.{same_kind, same_kinds, expression_of, group_of, is_among, is_column, is_grouped_by, function_of, aggregate_of, shown_of, item_of, all_items, items_of, is_aggregate as is_written_aggregate, has_aggregate, is_named, is_grouped as is_written_grouped, where_of, shown_in, checked_of, body_of, block_of, output_of, alone, combined, with_second, typing}
-use Rattle.cql_plan.specs.Fit.{is_empty, is_aggregate, some_are, HasColumn, IsTypedItem, IsGroupedItem, all_columns, IsTypedBlock, IsFitLaw}
+use Rattle.cql_plan.specs.Sources.{Readable, source_of, are_apart, joined_row, ports_of, inputs_of}
+use Rattle.cql_plan.specs.Typing.{same_kind, same_kinds, expression_of, group_of, is_among, is_column, is_grouped_by, function_of, aggregate_of, shown_of, item_of, all_items, items_of, is_aggregate as is_written_aggregate, has_aggregate, is_empty, is_grouped as is_written_grouped, where_of, shown_in, join_of, checked_of, body_of, block_of, output_of, alone, combined, with_second, typing}
+use Rattle.cql_plan.specs.Fit.{is_aggregate, HasColumn, IsTypedItem, IsGroupedItem, all_columns, IsTypedBlock, IsFitLaw}
 use Rattle.cql_plan.proofs.FitExpressions.{bound, passed, ok_is, each_ok, both, column_found, column_type, is_number, expression_typed, among}
 
 -- ---- items
@@ -83,13 +83,13 @@ item_fits fields grouped groups (shown.Expression x) t h =
 record AllFit (fields : List Field) (grouped : Bool) (groups : List ℕ) (plain : Bool) (items : List Item) : Type 0 where
   typed : AllByRecursion (IsTypedItem (kinds_of fields)) items
   allowed : grouped ≡ true → AllByRecursion (IsGroupedItem groups) items
-  same : plain ≡ true → some_are is_aggregate items ≡ false
+  same : plain ≡ true → list_any is_aggregate items ≡ false
 
 one_more : (fields : List Field) (grouped : Bool) (groups : List ℕ) (p q : Bool) (item : Item) (items : List Item) → Fits fields grouped groups p item → AllFit fields grouped groups q items → AllFit fields grouped groups (p && q) (item ∷ items)
 one_more fields grouped groups p q item items one all = record {
   typed = (one.typed, all.typed);
   allowed = λ g. (one.allowed g, all.allowed g);
-  same = λ h. (let b = both p q h in ap (λ x. x || some_are is_aggregate items) (one.same b.0) ∙ all.same b.1);
+  same = λ h. (let b = both p q h in ap (λ x. x || list_any is_aggregate items) (one.same b.0) ∙ all.same b.1);
 }
 
 abbrev are_plain : List WrittenItem → Bool
@@ -151,7 +151,7 @@ groups_fit fields (x ∷ written) (g ∷ groups) zip =
     let f = b.0 in
     (subst (HasColumn (kinds_of fields)) (ok_is f.place g b.2) (f.kind, column_found fields x f b.1), groups_fit fields written groups zip.1)
 
-no_groups : (written : List QualifiedName) (groups : List ℕ) (check : QualifiedName → Outcome ℕ) → is_named written ≡ false → AllZip (λ x g. check x ≡ Ok g) written groups → groups ≡ []
+no_groups : (written : List QualifiedName) (groups : List ℕ) (check : QualifiedName → Outcome ℕ) → not (is_empty written) ≡ false → AllZip (λ x g. check x ≡ Ok g) written groups → groups ≡ []
 no_groups [] [] check h zip = refl
 no_groups [] (g ∷ groups) check h zip = absurd zip
 no_groups (x ∷ written) groups check h zip = absurd cc
@@ -165,14 +165,14 @@ plain_selection selection.All h = refl
 plain_selection (selection.List items) h = plain_all items h
 
 -- a shape has groups or aggregates only where its block has
-same_grouped : (block : SelectBlock) (b : Bool) (groups : List ℕ) (items : List Item) → is_written_grouped block ≡ b → (is_named block.groups ≡ false → groups ≡ []) → (is_plain_selection block.selection ≡ true → some_are is_aggregate items ≡ false) → (not (is_empty groups) || some_are is_aggregate items) ≡ true → b ≡ true
+same_grouped : (block : SelectBlock) (b : Bool) (groups : List ℕ) (items : List Item) → is_written_grouped block ≡ b → (not (is_empty block.groups) ≡ false → groups ≡ []) → (is_plain_selection block.selection ≡ true → list_any is_aggregate items ≡ false) → (not (is_empty groups) || list_any is_aggregate items) ≡ true → b ≡ true
 unfolding is_written_grouped
 same_grouped block true groups items is none plain h = refl
 same_grouped block false groups items is none plain h =
-    let n = neither (is_named block.groups) (has_aggregate block.selection) is in
+    let n = neither (not (is_empty block.groups)) (has_aggregate block.selection) is in
     let without : groups ≡ [] = none n.0 in
-    let flat : some_are is_aggregate items ≡ false = plain (plain_selection block.selection n.1) in
-    let no : true ≡ false = sym h ∙ ap (λ g. not (is_empty g) || some_are is_aggregate items) without ∙ flat in
+    let flat : list_any is_aggregate items ≡ false = plain (plain_selection block.selection n.1) in
+    let no : true ≡ false = sym h ∙ ap (λ g. not (is_empty g) || list_any is_aggregate items) without ∙ flat in
     absurd cc
 
 -- ---- blocks
@@ -190,13 +190,13 @@ unfolding body_of
 body_typed sources block c h =
     let fields = joined_row sources in
     let grouped = is_written_grouped block in
-    let w = bound (where_of fields block.condition) (λ condition. each (group_of fields) block.groups >>= (λ groups. items_of fields grouped groups block.selection >>= (λ items. Ok (checked_of block.distinct sources condition groups items)))) c h in
-    let g = bound (each (group_of fields) block.groups) (λ groups. items_of fields grouped groups block.selection >>= (λ items. Ok (checked_of block.distinct sources w.0 groups items))) c w.2 in
+    let w = bound (where_of fields block.condition) (λ condition. each (group_of fields) block.groups >>= (λ groups. items_of fields grouped groups block.selection >>= (λ items. Ok (checked_of block.distinct (inputs_of sources) (join_of sources condition) fields groups items)))) c h in
+    let g = bound (each (group_of fields) block.groups) (λ groups. items_of fields grouped groups block.selection >>= (λ items. Ok (checked_of block.distinct (inputs_of sources) (join_of sources w.0) fields groups items))) c w.2 in
     let groups = g.0 in
-    let n = bound (items_of fields grouped groups block.selection) (λ items. Ok (checked_of block.distinct sources w.0 groups items)) c g.2 in
+    let n = bound (items_of fields grouped groups block.selection) (λ items. Ok (checked_of block.distinct (inputs_of sources) (join_of sources w.0) fields groups items)) c g.2 in
     let zip = each_ok (group_of fields) block.groups groups g.1 in
     let fit = selection_fits fields grouped groups block.selection n.0 n.1 in
-    subst IsTypedChecked (ok_is (checked_of block.distinct sources w.0 groups n.0) c n.2) (record {
+    subst IsTypedChecked (ok_is (checked_of block.distinct (inputs_of sources) (join_of sources w.0) fields groups n.0) c n.2) (record {
       join = record { ports = ports_of sources; condition = w.0 };
       shape = record { columns = kinds_of fields; items = shown_in n.0; groups = groups };
       is_join = refl;

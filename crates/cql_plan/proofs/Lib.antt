@@ -3,7 +3,7 @@ mod Each
 mod Few
 mod Meant
 mod Firsts
-mod Faults
 mod FitExpressions
 mod Fits
+mod Joined
 mod Qualified

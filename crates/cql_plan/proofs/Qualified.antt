@@ -8,7 +8,7 @@ use Rattle.std.specs.Str.{bytes_eq}
 use Rattle.cql_value.specs.declared.schema.Column.{Column}
 use Rattle.cql_value.specs.Schema.{are_distinct}
 use Rattle.cql_syntax.specs.declared.syntax.Input.{Input}
-use Rattle.cql_plan.specs.declared.error.PlanError.TheVariants.{AmbiguousColumn}
+use Rattle.cql_plan.specs.declared.error.PlanFault.TheVariants.{AmbiguousColumn}
 use Rattle.cql_plan.specs.declared.row.Field.{Field}
 use Rattle.cql_plan.specs.declared.row.Found.{Found}
 use Rattle.cql_plan.specs.declared.source.Source.{Source}

@@ -4,7 +4,7 @@ use Rattle.std.specs.Str.{bytes_eq}
 use Rattle.cql_value.specs.declared.schema.Column.{Column}
 use Rattle.cql_value.specs.declared.schema.ColumnType.{ColumnType}
 use Rattle.cql_syntax.specs.declared.syntax.QualifiedName.{QualifiedName}
-use Rattle.cql_plan.specs.declared.error.PlanError.TheVariants.{UnknownColumn, AmbiguousColumn}
+use Rattle.cql_plan.specs.declared.error.PlanFault.TheVariants.{UnknownColumn, AmbiguousColumn}
 use Rattle.cql_plan.specs.declared.row.Field.{Field}
 use Rattle.cql_plan.specs.declared.row.Found.{Found}
 use Rattle.cql_plan.specs.Outcome.{Outcome}

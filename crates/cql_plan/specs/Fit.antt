@@ -1,6 +1,6 @@
 -- Expressions and shapes that fit columns of given types.
 use Rattle.std.specs.Prelude.{◌≡◌, ℕ, List, [], ◌∷◌, ◌++◌, Option, Some, None, Ok, IfSome, Bool, true, false, not, ◌||◌, slice_get}
-use Rattle.std.specs.List.{AllByRecursion, Contains}
+use Rattle.std.specs.List.{AllByRecursion, Contains, list_any}
 use Rattle.cql_value.specs.declared.value.Value.{Value}
 use Rattle.cql_value.specs.declared.value.Value.TheVariants as value
 use Rattle.cql_value.specs.declared.schema.ColumnType.{ColumnType}
@@ -17,7 +17,7 @@ use Rattle.cql_plan.specs.declared.node.Node.TheVariants as node
 use Rattle.cql_plan.specs.declared.plan.Branch.{Branch}
 use Rattle.cql_plan.specs.declared.plan.Planned.{Planned}
 use Rattle.cql_plan.specs.Sources.{Readable}
-use Rattle.cql_plan.specs.Typing.{typing}
+use Rattle.cql_plan.specs.Typing.{typing, is_empty}
 
 -- ---- expressions
 
@@ -45,21 +45,13 @@ expr_type columns = fold-Expr (Option ColumnType) (type_step columns)
 
 -- ---- shapes
 
-abbrev pub is_empty : {A : Type 0} → List A → Bool
-is_empty [] = true
-is_empty (x ∷ xs) = false
-
 abbrev pub is_aggregate : Item → Bool
 is_aggregate (i.Value x) = false
 is_aggregate _ = true
 
-abbrev pub some_are : (Item → Bool) → List Item → Bool
-some_are p [] = false
-some_are p (x ∷ xs) = p x || some_are p xs
-
 -- there are grouped columns, or an aggregate
 abbrev pub is_grouped : Shape → Bool
-is_grouped shape = not (is_empty shape.groups) || some_are is_aggregate shape.items
+is_grouped shape = not (is_empty shape.groups) || list_any is_aggregate shape.items
 
 abbrev pub HasColumn : List ColumnType → ℕ → Type 0
 HasColumn columns at = (t : ColumnType) × (slice_get columns at ≡ Some t)

@@ -1,20 +1,18 @@
--- What the typing comes to, in words of its own: what a written column means, that of several checks the first fault is told, and what faults there are.
+-- What the typing comes to, in words of its own: what a written column means, and that of several checks the first fault is told.
 use Rattle.std.specs.Prelude.{◌≡◌, ◌≢◌, ◌<◌, ℕ, Bool, true, List, length, slice_get, Option, Some, Ok, Err, ◌⊎◌}
 use Rattle.cql_value.specs.declared.schema.Column.{Column}
 use Rattle.cql_value.specs.Schema.{are_distinct}
 use Rattle.cql_syntax.specs.declared.syntax.Input.{Input}
 use Rattle.cql_syntax.specs.declared.syntax.Item.{Item}
 use Rattle.cql_syntax.specs.declared.syntax.QualifiedName.{QualifiedName}
-use Rattle.cql_syntax.specs.declared.syntax.Query.{Query}
-use Rattle.cql_plan.specs.declared.error.PlanError.{PlanError}
-use Rattle.cql_plan.specs.declared.error.PlanError.TheVariants.{UnknownColumn, AmbiguousColumn, NoMemory}
+use Rattle.cql_plan.specs.declared.error.PlanFault.TheVariants.{UnknownColumn, AmbiguousColumn}
 use Rattle.cql_plan.specs.declared.row.Field.{Field}
 use Rattle.cql_plan.specs.declared.row.Found.{Found}
 use Rattle.cql_plan.specs.declared.source.Source.{Source}
 use Rattle.cql_plan.specs.Outcome.{Outcome, each}
 use Rattle.cql_plan.specs.Columns.{may_mean, column_named}
 use Rattle.cql_plan.specs.Sources.{Readable, source_of, are_apart, joined_row}
-use Rattle.cql_plan.specs.Typing.{group_of, item_of, typing}
+use Rattle.cql_plan.specs.Typing.{group_of, item_of}
 
 -- ---- columns
 
@@ -66,9 +64,3 @@ IsFirstFaultLaw =
     × ((fields : List Field) (columns : List QualifiedName) → IsFirst (group_of fields) columns (each (group_of fields) columns))
     × ((fields : List Field) (grouped : Bool) (groups : List ℕ) (items : List Item)
     → IsFirst (item_of fields grouped groups) items (each (item_of fields grouped groups) items))
-
--- ---- faults
-
--- the typing tells no want of memory
-abbrev pub IsFaultLaw : Type 0
-IsFaultLaw = (readable : Readable) (query : Query) (error : PlanError) → typing readable query ≡ Err error → error ≢ NoMemory

@@ -1,18 +1,12 @@
 -- What a check gives: something, or the first fault.
-use Rattle.std.specs.Prelude.{◌≡◌, ◌≢◌, ℕ, Bool, true, false, List, [], ◌∷◌, Result, Ok, Err}
+use Rattle.std.specs.Prelude.{◌≡◌, Bool, true, false, List, [], ◌∷◌, Result, Ok, Err}
+use Rattle.std.specs.Global.{Vec}
+use Rattle.cql_plan.specs.declared.error.PlanFault.{PlanFault}
 use Rattle.cql_plan.specs.declared.error.PlanError.{PlanError}
-use Rattle.cql_plan.specs.declared.error.PlanError.TheVariants.{UnknownStream, UnknownColumn, AmbiguousColumn, TypeMismatch, NoMemory}
-
--- the numbers of the refusals
-abbrev pub number_of : PlanError → ℕ
-number_of UnknownStream = 30
-number_of UnknownColumn = 52
-number_of AmbiguousColumn = 53
-number_of TypeMismatch = 54
-number_of NoMemory = 70
+use Rattle.cql_plan.specs.declared.error.PlanError.TheVariants.{Refused}
 
 abbrev pub Outcome : Type 0 → Type 0
-Outcome A = Result A PlanError
+Outcome A = Result A PlanFault
 
 -- one check after another: the first fault is told
 infixl 10 ◌>>=◌
@@ -25,7 +19,7 @@ abbrev pub ◌>>◌ : {A B : Type 0} → Outcome A → Outcome B → Outcome B
 first >> second = first >>= (λ _. second)
 
 -- a fault unless it is so
-abbrev pub unless : Bool → PlanError → Outcome (Unit {0})
+abbrev pub unless : Bool → PlanFault → Outcome (Unit {0})
 unless true fault = Ok tt
 unless false fault = Err fault
 
@@ -34,7 +28,16 @@ unfoldable pub each : {A B : Type 0} → (A → Outcome B) → List A → Outcom
 each check [] = Ok []
 each check (x ∷ xs) = check x >>= (λ y. each check xs >>= (λ ys. Ok (y ∷ ys)))
 
--- What a function that checks ensures: what it gives is the check's outcome, unless memory runs out.
+-- an error is the check's first fault, or else memory ran out
+abbrev pub Tells : {A : Type 0} → Outcome A → PlanError → Type 0
+Tells outcome error = (fault : PlanFault) → error ≡ Refused fault → outcome ≡ Err fault
+
+-- What a function that checks ensures: what it gives is what the check gives, and what it refuses has the check's first fault.
 abbrev pub Answers : {A : Type 0} → Outcome A → Result A PlanError → Type 0
 Answers outcome (Ok x) = outcome ≡ Ok x
-Answers outcome (Err e) = e ≢ NoMemory → outcome ≡ Err e
+Answers outcome (Err error) = Tells outcome error
+
+-- the same of a list that the code has as a vector
+abbrev pub AnswersList : {A : Type 0} → Outcome (List A) → Result (Vec A) PlanError → Type 0
+AnswersList outcome (Ok xs) = outcome ≡ Ok xs.items
+AnswersList outcome (Err error) = Tells outcome error

@@ -7,12 +7,13 @@ use Rattle.cql_value.specs.declared.schema.ColumnType.{ColumnType}
 use Rattle.cql_syntax.specs.declared.syntax.WrittenWindow.{WrittenWindow}
 use Rattle.cql_syntax.specs.declared.syntax.WrittenWindow.TheVariants as written
 use Rattle.cql_syntax.specs.declared.syntax.Input.{Input as WrittenInput}
-use Rattle.cql_plan.specs.declared.error.PlanError.TheVariants.{UnknownStream}
+use Rattle.cql_plan.specs.declared.error.PlanFault.TheVariants.{UnknownStream}
 use Rattle.cql_plan.specs.declared.plan.Window.{Window}
 use Rattle.cql_plan.specs.declared.plan.Window.TheVariants.{Range, Rows, All, Parts}
 use Rattle.cql_plan.specs.declared.plan.Input.{Input}
 use Rattle.cql_plan.specs.declared.row.Field.{Field}
 use Rattle.cql_plan.specs.declared.source.Source.{Source}
+use Rattle.cql_plan.specs.declared.source.Joined.{Joined}
 use Rattle.cql_plan.specs.Outcome.{Outcome, ◌>>=◌, each}
 use Rattle.cql_plan.specs.Columns.{fields_of, kinds_of, column_named}
 
@@ -67,3 +68,7 @@ ports_of = map (λ source. kinds_of source.fields)
 -- what the plan keeps of each input
 abbrev pub inputs_of : List Source → List Input
 inputs_of = map (λ source. source.input)
+
+-- the inputs of a block, put together
+abbrev pub joined_of : List Source → Joined
+joined_of sources = record { inputs = inputs_of sources; ports = ports_of sources; row = joined_row sources }

@@ -31,7 +31,7 @@ use Rattle.cql_syntax.specs.declared.syntax.SetOperator.{SetOperator}
 use Rattle.cql_syntax.specs.declared.syntax.SelectBlock.{SelectBlock}
 use Rattle.cql_syntax.specs.declared.syntax.Second.{Second}
 use Rattle.cql_syntax.specs.declared.syntax.Query.{Query}
-use Rattle.cql_plan.specs.declared.error.PlanError.TheVariants.{AmbiguousColumn, TypeMismatch}
+use Rattle.cql_plan.specs.declared.error.PlanFault.TheVariants.{AmbiguousColumn, TypeMismatch}
 use Rattle.cql_plan.specs.declared.expr.Expr.{Expr, fold-Expr}
 use Rattle.cql_plan.specs.declared.expr.Expr.TheOpen.{Expr-F}
 use Rattle.cql_plan.specs.declared.expr.Expr.TheVariants as e
@@ -44,6 +44,7 @@ use Rattle.cql_plan.specs.declared.node.Node.{Node}
 use Rattle.cql_plan.specs.declared.node.Node.TheVariants as node
 use Rattle.cql_plan.specs.declared.plan.OutputKind.{OutputKind}
 use Rattle.cql_plan.specs.declared.plan.OutputKind.TheVariants.{Istream, Dstream, Rstream, Signed}
+use Rattle.cql_plan.specs.declared.plan.Input.{Input}
 use Rattle.cql_plan.specs.declared.plan.Planned.{Planned}
 use Rattle.cql_plan.specs.declared.row.Field.{Field}
 use Rattle.cql_plan.specs.declared.row.Found.{Found}
@@ -52,6 +53,7 @@ use Rattle.cql_plan.specs.declared.typed.TypedExpr.{TypedExpr}
 use Rattle.cql_plan.specs.declared.typed.TypedOperand.{TypedOperand}
 use Rattle.cql_plan.specs.declared.item.TypedItem.{TypedItem}
 use Rattle.cql_plan.specs.declared.block.Checked.{Checked}
+use Rattle.cql_plan.specs.declared.block.Selected.{Selected}
 use Rattle.cql_plan.specs.Outcome.{Outcome, ◌>>=◌, ◌>>◌, unless, each}
 use Rattle.cql_plan.specs.Columns.{column_of, kinds_of}
 use Rattle.cql_plan.specs.Sources.{Readable, source_of, are_apart, joined_row, ports_of, inputs_of}
@@ -85,10 +87,16 @@ operated operation left right =
     unless (same_kind left.kind Number && same_kind right.kind Number) TypeMismatch
     >> Ok (record { expr = e.Binary operation left.expr right.expr; kind = Number })
 
+abbrev pub constant_of : WrittenConstant → TypedExpr
+constant_of written = record { expr = e.Constant (value_of written); kind = kind_of written }
+
+abbrev pub place_of : List Field → QualifiedName → Outcome TypedExpr
+place_of fields written = column_of fields written >>= (λ found. Ok (record { expr = e.Column found.place; kind = found.kind }))
+
 -- one level of an expression: its operands from the left, then the operation round them
 abbrev pub expression_step : List Field → Expression-F (Outcome TypedExpr) → Outcome TypedExpr
-expression_step fields (Expression-F.Constant written) = Ok (record { expr = e.Constant (value_of written); kind = kind_of written })
-expression_step fields (Expression-F.Column written) = column_of fields written >>= (λ found. Ok (record { expr = e.Column found.place; kind = found.kind }))
+expression_step fields (Expression-F.Constant written) = Ok (constant_of written)
+expression_step fields (Expression-F.Column written) = place_of fields written
 expression_step fields (Expression-F.Bracket inner) = inner
 expression_step fields (Expression-F.Binary operation left right) = left >>= (λ l. right >>= (λ r. operated operation l r))
 
@@ -194,13 +202,13 @@ abbrev pub has_aggregate : Selection → Bool
 has_aggregate selection.All = false
 has_aggregate (selection.List items) = list_any is_aggregate items
 
-abbrev pub is_named : List QualifiedName → Bool
-is_named [] = false
-is_named (column ∷ columns) = true
+abbrev pub is_empty : {A : Type 0} → List A → Bool
+is_empty [] = true
+is_empty (x ∷ xs) = false
 
 -- a block is grouped if it has GROUP BY or an aggregate
 unfoldable pub is_grouped : SelectBlock → Bool
-is_grouped block = is_named block.groups || has_aggregate block.selection
+is_grouped block = not (is_empty block.groups) || has_aggregate block.selection
 
 -- ---- blocks
 
@@ -208,26 +216,29 @@ abbrev pub distinct_of : Bool → List ColumnType → Option Node
 distinct_of true kinds = Some (node.Distinct kinds)
 distinct_of false kinds = None
 
--- what the items show, and what they give
 abbrev pub shown_in : List TypedItem → List Item
 shown_in = map (λ typed. typed.item)
 
 abbrev pub kinds_in : List TypedItem → List ColumnType
 kinds_in = map (λ typed. typed.kind)
 
+-- what the items show, and what each gives
+abbrev pub selected_of : List TypedItem → Selected
+selected_of items = record { items = shown_in items; kinds = kinds_in items }
+
 -- the join of the inputs
 abbrev pub join_of : List Source → Condition → Node
 join_of sources condition = node.Join (record { ports = ports_of sources; condition = condition })
 
 -- the items over the joined row
-abbrev pub shape_of : List Source → List ℕ → List TypedItem → Node
-shape_of sources groups items = node.Shape (record { columns = kinds_of (joined_row sources); items = shown_in items; groups = groups })
+abbrev pub shape_of : List Field → List ℕ → List TypedItem → Node
+shape_of row groups items = node.Shape (record { columns = kinds_of row; items = shown_in items; groups = groups })
 
 -- what a block gives that passed its checks: its inputs, its nodes, and the types of its columns
-abbrev pub checked_of : Bool → List Source → Condition → List ℕ → List TypedItem → Checked
-checked_of distinct sources condition groups items = record {
-  inputs = inputs_of sources;
-  branch = record { join = join_of sources condition; shape = shape_of sources groups items; distinct = distinct_of distinct (kinds_in items) };
+abbrev pub checked_of : Bool → List Input → Node → List Field → List ℕ → List TypedItem → Checked
+checked_of distinct inputs join row groups items = record {
+  inputs = inputs;
+  branch = record { join = join; shape = shape_of row groups items; distinct = distinct_of distinct (kinds_in items) };
   kinds = kinds_in items;
 }
 
@@ -237,7 +248,7 @@ body_of sources block = do
   condition ← where_of (joined_row sources) block.condition
   groups ← each (group_of (joined_row sources)) block.groups
   items ← items_of (joined_row sources) (is_grouped block) groups block.selection
-  Ok (checked_of block.distinct sources condition groups items)
+  Ok (checked_of block.distinct (inputs_of sources) (join_of sources condition) (joined_row sources) groups items)
 
 -- a block: its inputs from the left, then their aliases, then the rest
 unfoldable pub block_of : Readable → SelectBlock → Outcome Checked

@@ -1,23 +1,21 @@
 // Conditions over the columns of a row.
-ghost use Rattle.std.specs.Prelude.{◌≡◌, ◌↔◌, IfOk, IsTrue};
+ghost use Rattle.std.specs.Prelude.{◌≡◌};
 ghost use Rattle.std.specs.Option.{option_copied};
 ghost use Rattle.cql_plan.specs.Condition.{compares, operand_value, holds};
 
 use cql_syntax::syntax::Comparison;
 use cql_value::{Boxed, Value};
 use sqlite_items::at;
-use std::alloc::{AllocError, Global};
 use std::cmp::Ordering;
 
 /// A side of a comparison: a column of the row, counted from 0, or a constant.
-#[derive(Debug)]
 pub enum Operand {
     Column(usize),
     Constant(Value),
 }
 
 /// A condition over the columns of one row, counted from 0.
-#[derive(Debug, Drop)]
+#[derive(Drop)]
 pub enum Condition {
     Always,
     Compare(Operand, Comparison, Operand),
@@ -59,16 +57,6 @@ impl Operand {
             Operand::Constant(value) => Some(value),
         }
     }
-
-    /// A copy that equals it.
-    pub fn try_clone(&self, alloc: Global) -> Result<Operand, AllocError>
-        ensures { IfOk result (λ o. o ≡ self.now) }
-    {
-        match self {
-            Operand::Column(at) => Ok(Operand::Column(*at)),
-            Operand::Constant(value) => Ok(Operand::Constant(value.try_clone(alloc)?)),
-        }
-    }
 }
 
 /// Whether the row meets the condition.
@@ -88,35 +76,5 @@ pub fn meets(condition: &Condition, row: &[Value]) -> bool
         Condition::Not(inner) => !meets(inner.get(), row),
         Condition::And(left, right) => meets(left.get(), row) && meets(right.get(), row),
         Condition::Or(left, right) => meets(left.get(), row) || meets(right.get(), row),
-    }
-}
-
-impl Condition {
-    /// A copy that equals it.
-    pub fn try_clone(&self, alloc: Global) -> Result<Condition, AllocError>
-        ensures { IfOk result (λ c. c ≡ self.now) }
-    {
-        match self {
-            Condition::Always => Ok(Condition::Always),
-            Condition::Compare(left, comparison, right) => {
-                let left = left.try_clone(alloc)?;
-                let right = right.try_clone(alloc)?;
-                Ok(Condition::Compare(left, *comparison, right))
-            }
-            Condition::Not(inner) => {
-                let inner = inner.get().try_clone(alloc)?;
-                Ok(Condition::Not(Boxed::new(alloc, inner)?))
-            }
-            Condition::And(left, right) => {
-                let left = Boxed::new(alloc, left.get().try_clone(alloc)?)?;
-                let right = Boxed::new(alloc, right.get().try_clone(alloc)?)?;
-                Ok(Condition::And(left, right))
-            }
-            Condition::Or(left, right) => {
-                let left = Boxed::new(alloc, left.get().try_clone(alloc)?)?;
-                let right = Boxed::new(alloc, right.get().try_clone(alloc)?)?;
-                Ok(Condition::Or(left, right))
-            }
-        }
     }
 }

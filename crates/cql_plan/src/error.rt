@@ -1,43 +1,45 @@
 // Why a query gives no plan.
-ghost use Rattle.std.specs.Prelude.{◌≡◌};
-ghost use Rattle.cql_plan.specs.Outcome.{number_of};
 
-use std::alloc::AllocError;
+use std::alloc::{AllocError, AllocFailed};
 use thiserror::Error;
+
+/// What is wrong with a query.
+#[derive(Clone, Copy, Debug, PartialEq, Eq, Drop, Error)]
+pub enum PlanFault {
+    /// There is no such stream, or it can't be read.
+    #[error("unknown stream")]
+    UnknownStream,
+    /// No input has the column.
+    #[error("unknown column")]
+    UnknownColumn,
+    /// More than one input has the column, or two inputs have one alias.
+    #[error("ambiguous column")]
+    AmbiguousColumn,
+    /// A number stands where a text belongs or a text where a number does, an item isn't allowed
+    /// in a grouped block, or two blocks have other columns.
+    #[error("type mismatch")]
+    TypeMismatch,
+}
 
 /// Why a query gives no plan.
 #[derive(Clone, Copy, Debug, PartialEq, Eq, Drop, Error)]
 pub enum PlanError {
-    /// There is no such stream, or it can't be read (30).
-    #[error("unknown stream")]
-    UnknownStream,
-    /// No input has the column (52).
-    #[error("unknown column")]
-    UnknownColumn,
-    /// More than one input has the column, or two inputs have one alias (53).
-    #[error("ambiguous column")]
-    AmbiguousColumn,
-    /// A number stands where a text belongs or a text where a number does, an item isn't allowed
-    /// in a grouped block, or two blocks have other columns (54).
-    #[error("type mismatch")]
-    TypeMismatch,
-    /// There was no memory (70).
+    /// It has this fault, its first.
+    #[error("{0}")]
+    Refused(PlanFault),
+    /// There was no memory.
     #[error("no memory")]
     NoMemory,
 }
 
-impl PlanError {
-    /// The number by which a line tells it.
-    pub fn number(self) -> u64
-        ensures { result ≡ number_of self }
-    {
-        match self {
-            PlanError::UnknownStream => 30,
-            PlanError::UnknownColumn => 52,
-            PlanError::AmbiguousColumn => 53,
-            PlanError::TypeMismatch => 54,
-            PlanError::NoMemory => 70,
-        }
+impl From<PlanFault> for PlanError {
+    ghost use Rattle.std.specs.Prelude.{◌≡◌};
+    ghost use Rattle.cql_plan.specs.declared.error.PlanError.TheVariants.{Refused};
+
+    ghost from_gives = { λ fault e. e ≡ Refused fault };
+
+    fn from(fault: PlanFault) -> PlanError {
+        PlanError::Refused(fault)
     }
 }
 
@@ -48,6 +50,17 @@ impl From<AllocError> for PlanError {
     ghost from_gives = { λ _ e. e ≡ NoMemory };
 
     fn from(_error: AllocError) -> PlanError {
+        PlanError::NoMemory
+    }
+}
+
+impl<T: Drop> From<AllocFailed<T>> for PlanError {
+    ghost use Rattle.std.specs.Prelude.{◌≡◌};
+    ghost use Rattle.cql_plan.specs.declared.error.PlanError.TheVariants.{NoMemory};
+
+    ghost from_gives = { λ _ e. e ≡ NoMemory };
+
+    fn from(_error: AllocFailed<T>) -> PlanError {
         PlanError::NoMemory
     }
 }

@@ -1,6 +1,6 @@
 // Expressions over the columns of a row.
-ghost use Rattle.std.specs.Prelude.{◌≡◌, IfOk};
-ghost use Rattle.cql_plan.specs.Expr.{arithmetic, expr_value};
+ghost use Rattle.std.specs.Prelude.{◌≡◌, IfOk, slice_get};
+ghost use Rattle.cql_plan.specs.Expr.{arithmetic, both, expr_value};
 
 use cql_syntax::syntax::Operation;
 use cql_value::{Boxed, Value};
@@ -8,7 +8,7 @@ use sqlite_items::at;
 use std::alloc::{AllocError, Global};
 
 /// An expression over the columns of one row, counted from 0.
-#[derive(Debug, Drop)]
+#[derive(Drop)]
 pub enum Expr {
     Column(usize),
     Constant(Value),
@@ -35,44 +35,36 @@ fn compute(op: Operation, left: &Value, right: &Value) -> Option<Value>
     None
 }
 
+// The same, unless one of both is missing.
+fn combined(op: Operation, left: Option<Value>, right: Option<Value>) -> Option<Value>
+    ensures { result ≡ both (arithmetic op) left right }
+{
+    match (left, right) {
+        (Some(left), Some(right)) => compute(op, &left, &right),
+        _ => None,
+    }
+}
+
+fn value_at(alloc: Global, row: &[Value], place: usize) -> Result<Option<Value>, AllocError>
+    ensures { IfOk result (λ v. v ≡ slice_get row.now place) }
+{
+    at(row, place)
+        .map(|value| value.try_clone(alloc))
+        .transpose()
+}
+
 /// The value of the expression on the row: none where an operation is outside i64.
 #[tactic(auto, unfolding(crate::specs::Expr::expr_value))]
 pub fn evaluate(alloc: Global, expr: &Expr, row: &[Value]) -> Result<Option<Value>, AllocError>
     ensures { IfOk result (λ v. v ≡ expr_value row.now expr.now) }
 {
     match expr {
-        Expr::Column(place) => match at(row, *place) {
-            Some(value) => Ok(Some(value.try_clone(alloc)?)),
-            None => Ok(None),
-        },
+        Expr::Column(place) => value_at(alloc, row, *place),
         Expr::Constant(value) => Ok(Some(value.try_clone(alloc)?)),
         Expr::Binary(op, left, right) => {
             let left = evaluate(alloc, left.get(), row)?;
             let right = evaluate(alloc, right.get(), row)?;
-            match left {
-                Some(left) => match right {
-                    Some(right) => Ok(compute(*op, &left, &right)),
-                    None => Ok(None),
-                },
-                None => Ok(None),
-            }
-        }
-    }
-}
-
-impl Expr {
-    /// A copy that equals it.
-    pub fn try_clone(&self, alloc: Global) -> Result<Expr, AllocError>
-        ensures { IfOk result (λ e. e ≡ self.now) }
-    {
-        match self {
-            Expr::Column(at) => Ok(Expr::Column(*at)),
-            Expr::Constant(value) => Ok(Expr::Constant(value.try_clone(alloc)?)),
-            Expr::Binary(op, left, right) => {
-                let left = left.get().try_clone(alloc)?;
-                let right = right.get().try_clone(alloc)?;
-                Ok(Expr::Binary(*op, Boxed::new(alloc, left)?, Boxed::new(alloc, right)?))
-            }
+            Ok(combined(*op, left, right))
         }
     }
 }

@@ -1,10 +1,10 @@
 // Items with their types.
 ghost use Rattle.std.specs.Prelude.{◌≡◌, ◌==◌, IfOk};
 ghost use Rattle.std.specs.List.{list_any};
-ghost use Rattle.cql_plan.specs.Outcome.{Answers, each};
+ghost use Rattle.cql_plan.specs.Outcome.{Answers, AnswersList, each};
 ghost use Rattle.cql_plan.specs.Typing as spec;
 
-use crate::error::PlanError;
+use crate::error::{PlanError, PlanFault};
 use crate::expr::Expr;
 use crate::node::Item;
 use crate::row::{Field, Found, column_of};
@@ -16,20 +16,18 @@ use cql_value::{ColumnType, Items};
 use std::alloc::{AllocError, Global};
 
 /// An item and what it gives.
-#[derive(Debug, Drop)]
+#[derive(Drop)]
 pub(crate) struct TypedItem {
     pub(crate) item: Item,
     pub(crate) kind: ColumnType,
 }
 
 // A column by which a block is grouped.
-fn group_of(fields: &[Field], written: &QualifiedName) -> Result<usize, PlanError>
+fn group_of(fields: &[Field], written: &QualifiedName) -> Result<usize, PlanFault>
     ensures { result ≡ spec.group_of fields.now written.now }
 {
-    match column_of(fields, written) {
-        Ok(found) => Ok(found.place),
-        Err(error) => Err(error),
-    }
+    let found = column_of(fields, written)?;
+    Ok(found.place)
 }
 
 /// The columns by which a block is grouped, from the left.
@@ -83,13 +81,13 @@ fn is_grouped_by(groups: &[usize], written: &Expression, expr: &Expr) -> bool
 }
 
 // SUM takes a number, MIN and MAX take either type.
-fn function_of(function: Function, found: Found) -> Result<TypedItem, PlanError>
+fn function_of(function: Function, found: Found) -> Result<TypedItem, PlanFault>
     ensures { result ≡ spec.function_of function found }
 {
     match function {
         Function::Sum => {
             if !same_kind(found.kind, ColumnType::Number) {
-                return Err(PlanError::TypeMismatch);
+                return Err(PlanFault::TypeMismatch);
             }
             Ok(TypedItem {
                 item: Item::Sum(found.place),
@@ -108,7 +106,7 @@ fn function_of(function: Function, found: Found) -> Result<TypedItem, PlanError>
 }
 
 #[tactic(auto, unfolding(crate::specs::Typing::aggregate_of))]
-fn aggregate_of(fields: &[Field], written: &Aggregate) -> Result<TypedItem, PlanError>
+fn aggregate_of(fields: &[Field], written: &Aggregate) -> Result<TypedItem, PlanFault>
     ensures { result ≡ spec.aggregate_of fields.now written.now }
 {
     match written {
@@ -116,10 +114,10 @@ fn aggregate_of(fields: &[Field], written: &Aggregate) -> Result<TypedItem, Plan
             item: Item::Count,
             kind: ColumnType::Number,
         }),
-        Aggregate::Over(function, column) => match column_of(fields, column) {
-            Ok(found) => function_of(*function, found),
-            Err(error) => Err(error),
-        },
+        Aggregate::Over(function, column) => {
+            let found = column_of(fields, column)?;
+            function_of(*function, found)
+        }
     }
 }
 
@@ -135,11 +133,11 @@ fn shown_of(
     ensures { Answers (spec.shown_of fields.now grouped groups.now written.now) result }
 {
     match written {
-        Shown::Aggregate(aggregate) => aggregate_of(fields, aggregate),
+        Shown::Aggregate(aggregate) => Ok(aggregate_of(fields, aggregate)?),
         Shown::Expression(written) => {
             let typed = expression_of(alloc, fields, written)?;
             if grouped && !is_grouped_by(groups, written, &typed.expr) {
-                return Err(PlanError::TypeMismatch);
+                return Err(PlanError::Refused(PlanFault::TypeMismatch));
             }
             Ok(TypedItem {
                 item: Item::Value(typed.expr),
@@ -156,10 +154,10 @@ fn listed_items(
     grouped: bool,
     groups: &[usize],
     written: &[syntax::Item],
-) -> Result<Items<TypedItem>, PlanError>
-    ensures { Answers (each (spec.item_of fields.now grouped groups.now) written.now) result }
+) -> Result<Vec<TypedItem>, PlanError>
+    ensures { AnswersList (each (spec.item_of fields.now grouped groups.now) written.now) result }
 {
-    let mut items = Items::new(alloc);
+    let mut items = Vec::new(alloc);
     for item in written {
         items.push(shown_of(alloc, fields, grouped, groups, &item.shown)?)?;
     }
@@ -168,10 +166,10 @@ fn listed_items(
 
 // All columns.
 #[tactic(auto, unfolding(crate::specs::Typing::all_items))]
-fn all_items(alloc: Global, fields: &[Field]) -> Result<Items<TypedItem>, AllocError>
-    ensures { IfOk result (λ items. items ≡ spec.all_items 0 fields.now) }
+fn all_items(alloc: Global, fields: &[Field]) -> Result<Vec<TypedItem>, AllocError>
+    ensures { IfOk result (λ items. items.items ≡ spec.all_items 0 fields.now) }
 {
-    let mut items = Items::new(alloc);
+    let mut items = Vec::new(alloc);
     for (place, field) in fields.iter().enumerate() {
         items.push(TypedItem {
             item: Item::Value(Expr::Column(place)),
@@ -189,13 +187,13 @@ pub(crate) fn items_of(
     grouped: bool,
     groups: &[usize],
     written: &Selection,
-) -> Result<Items<TypedItem>, PlanError>
-    ensures { Answers (spec.items_of fields.now grouped groups.now written.now) result }
+) -> Result<Vec<TypedItem>, PlanError>
+    ensures { AnswersList (spec.items_of fields.now grouped groups.now written.now) result }
 {
     match written {
         Selection::All => {
             if grouped {
-                return Err(PlanError::TypeMismatch);
+                return Err(PlanError::Refused(PlanFault::TypeMismatch));
             }
             Ok(all_items(alloc, fields)?)
         }

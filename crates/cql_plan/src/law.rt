@@ -1,7 +1,6 @@
 // The laws of the typing: functions with empty bodies, whose contracts are the laws.
 ghost use Rattle.cql_plan.specs.Law.{
   IsColumnLaw,
-  IsFaultLaw,
   IsFirstFaultLaw,
   IsQualifiedLaw,
 };
@@ -16,11 +15,6 @@ pub fn column_law()
 /// is none each gives what stands at its place.
 pub fn first_fault_law()
     ensures { IsFirstFaultLaw }
-{}
-
-/// A fault of the typing is one of the four refusals, never want of memory.
-pub fn fault_law()
-    ensures { IsFaultLaw }
 {}
 
 /// Where the inputs have distinct aliases, and each stream distinct columns, a column with an

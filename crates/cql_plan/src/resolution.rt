@@ -1,13 +1,13 @@
 // The plan of a query.
-ghost use Rattle.std.specs.Prelude.{◌≡◌, ◌≢◌, IfOk, IfErr, Ok, Err};
+ghost use Rattle.std.specs.Prelude.{◌≡◌, IfOk, IfErr, Ok};
 ghost use Rattle.std.specs.List.{list_all, zip};
-ghost use Rattle.cql_plan.specs.Outcome.{Answers};
+ghost use Rattle.cql_plan.specs.Outcome.{Answers, Tells};
 ghost use Rattle.cql_plan.specs.Plan.{HasKinds, HasNodes};
 ghost use Rattle.cql_plan.specs.Typing as spec;
 ghost use Rattle.cql_plan.specs.Typing.{typing};
 
 use crate::block::{Checked, block_of};
-use crate::error::PlanError;
+use crate::error::{PlanError, PlanFault};
 use crate::lookup::Lookup;
 use crate::node::{Node, SetOp};
 use crate::plan::{OutputKind, Plan, Planned};
@@ -104,7 +104,7 @@ fn with_second<L: Lookup>(
         Some(written) => {
             let second = block_of(alloc, lookup, &written.block)?;
             if !same_kinds(first.kinds.as_slice(), second.kinds.as_slice()) {
-                return Err(PlanError::TypeMismatch);
+                return Err(PlanError::Refused(PlanFault::TypeMismatch));
             }
             Ok(combined(output, written.operator, first, second)?)
         }
@@ -120,14 +120,13 @@ fn planned<L: Lookup>(alloc: Global, query: &Query, lookup: &L) -> Result<Planne
     with_second(alloc, lookup, output_of(query.output), first, &query.second)
 }
 
-/// The plan of a query for a caller who may read the streams that `lookup` answers: the first
-/// fault where it has one, `UnknownStream` (30), `UnknownColumn` (52), `AmbiguousColumn` (53) or
-/// `TypeMismatch` (54).
+/// The plan of a query for a caller who may read the streams that `lookup` answers, or its first
+/// fault.
 pub fn resolve<L: Lookup>(alloc: Global, syntax: &Syntax, lookup: &L) -> Result<Plan, PlanError>
     // What is planned is the typing's.
     ensures found { IfOk result (λ plan. typing (L.readable lookup.now) syntax.now ≡ Ok plan) }
-    // A refusal is the typing's, unless memory runs out.
-    ensures refused { IfErr result (λ error. error ≢ PlanError.NoMemory → typing (L.readable lookup.now) syntax.now ≡ Err error) }
+    // What it refuses has the typing's first fault.
+    ensures refused { IfErr result (Tells (typing (L.readable lookup.now) syntax.now)) }
 {
     let planned = planned(alloc, syntax.query(), lookup)?;
     Ok(Plan::new(planned))

@@ -2,13 +2,13 @@
 ghost use Rattle.std.specs.Prelude.{◌≡◌, IfOk};
 ghost use Rattle.cql_plan.specs.Columns as spec;
 
-use crate::error::PlanError;
+use crate::error::PlanFault;
 use cql_syntax::syntax::QualifiedName;
 use cql_value::{Column, ColumnType, Items, Name};
 use std::alloc::{AllocError, Global};
 
 /// A column of the joined row: the alias of its input, its name and what it holds.
-#[derive(Debug, Drop)]
+#[derive(Drop)]
 pub(crate) struct Field {
     pub(crate) alias: Name,
     pub(crate) name: Name,
@@ -16,7 +16,7 @@ pub(crate) struct Field {
 }
 
 /// A column that was found: its place in the joined row, counted from 0, and what it holds.
-#[derive(Clone, Copy, Debug, PartialEq, Eq)]
+#[derive(Clone, Copy)]
 pub(crate) struct Found {
     pub(crate) place: usize,
     pub(crate) kind: ColumnType,
@@ -39,21 +39,21 @@ fn may_mean(qualifier: &Option<Name>, name: &Name, field: &Field) -> bool
     *name == field.name && is_of(qualifier, &field.alias)
 }
 
-/// The column that a written one means: none is `UnknownColumn` (52), several are
-/// `AmbiguousColumn` (53). Takes no memory.
+/// The column that a written one means: none is `UnknownColumn`, several are
+/// `AmbiguousColumn`. Takes no memory.
 #[tactic(auto, unfolding(crate::specs::Columns::column_named))]
 pub(crate) fn column_named(
     fields: &[Field],
     qualifier: &Option<Name>,
     name: &Name,
-) -> Result<Found, PlanError>
+) -> Result<Found, PlanFault>
     ensures { result ≡ spec.column_named qualifier.now name.now fields.now }
 {
     let mut found = None;
     for (place, field) in fields.iter().enumerate() {
         if may_mean(qualifier, name, field) {
             if found.is_some() {
-                return Err(PlanError::AmbiguousColumn);
+                return Err(PlanFault::AmbiguousColumn);
             }
             found = Some(Found {
                 place,
@@ -62,31 +62,16 @@ pub(crate) fn column_named(
         }
     }
     match found {
-        None => Err(PlanError::UnknownColumn),
+        None => Err(PlanFault::UnknownColumn),
         Some(found) => Ok(found),
     }
 }
 
 /// The column that a written one means. Takes no memory.
-pub(crate) fn column_of(fields: &[Field], written: &QualifiedName) -> Result<Found, PlanError>
+pub(crate) fn column_of(fields: &[Field], written: &QualifiedName) -> Result<Found, PlanFault>
     ensures { result ≡ spec.column_of fields.now written.now }
 {
     column_named(fields, &written.qualifier, &written.name)
-}
-
-impl Field {
-    // A copy that equals it.
-    fn try_clone(&self) -> Result<Field, AllocError>
-        ensures { IfOk result (λ f. f ≡ self.now) }
-    {
-        let alias = self.alias.try_clone()?;
-        let name = self.name.try_clone()?;
-        Ok(Field {
-            alias,
-            name,
-            kind: self.kind,
-        })
-    }
 }
 
 // The column of an input of this alias.
@@ -115,17 +100,6 @@ pub(crate) fn fields_of(
         fields.push(field_of(alias, column)?)?;
     }
     Ok(fields)
-}
-
-/// Copies of the columns.
-pub(crate) fn clone_fields(alloc: Global, fields: &[Field]) -> Result<Items<Field>, AllocError>
-    ensures { IfOk result (λ f. f ≡ fields.now) }
-{
-    let mut copies = Items::new(alloc);
-    for field in fields {
-        copies.push(field.try_clone()?)?;
-    }
-    Ok(copies)
 }
 
 /// What the columns hold.

@@ -2,19 +2,18 @@
 ghost use Rattle.std.specs.Prelude.{◌≡◌, IfOk, Some, option_copied};
 ghost use Rattle.std.specs.List.{list_any};
 ghost use Rattle.std.specs.Str.{bytes_eq};
-ghost use Rattle.cql_plan.specs.Outcome.{Answers, each};
+ghost use Rattle.cql_plan.specs.Outcome.{Answers, AnswersList, each};
 ghost use Rattle.cql_plan.specs.Sources as spec;
 
-use crate::error::PlanError;
+use crate::error::{PlanError, PlanFault};
 use crate::lookup::Lookup;
-use crate::plan::{Input, Window, clone_name_if_any};
-use crate::row::{Field, clone_fields, column_named, fields_of, kinds_of};
+use crate::plan::{Input, Window};
+use crate::row::{Field, column_named, fields_of, kinds_of};
 use cql_syntax::syntax;
 use cql_value::{Column, ColumnType, Items, Name};
 use std::alloc::{AllocError, Global};
 
 /// An input of a block: what the plan keeps of it, its alias and its columns.
-#[derive(Debug)]
 pub(crate) struct Source {
     pub(crate) input: Input,
     pub(crate) alias: Name,
@@ -31,14 +30,38 @@ impl Drop for Source {
     }
 }
 
+impl Source {
+    // What the plan keeps of it, and its columns.
+    fn into_parts(self) -> (Input, Items<Field>)
+        ensures input { result.0 ≡ self.input }
+        ensures fields { result.1 ≡ self.fields }
+    {
+        let Source {
+            input,
+            alias: _,
+            fields,
+        } = self;
+        (input, fields)
+    }
+}
+
+/// The inputs of a block, put together.
+#[derive(Drop)]
+pub(crate) struct Joined {
+    /// What the plan keeps of each input.
+    pub(crate) inputs: Items<Input>,
+    /// The types of each input's columns.
+    pub(crate) ports: Items<Items<ColumnType>>,
+    /// The columns of all inputs, in order.
+    pub(crate) row: Items<Field>,
+}
+
 // A column by which an input is parted: its place in the stream's own row.
-fn part_column(fields: &[Field], name: &Name) -> Result<usize, PlanError>
+fn part_column(fields: &[Field], name: &Name) -> Result<usize, PlanFault>
     ensures { result ≡ spec.part_column fields.now name.now }
 {
-    match column_named(fields, &None, name) {
-        Ok(found) => Ok(found.place),
-        Err(error) => Err(error),
-    }
+    let found = column_named(fields, &None, name)?;
+    Ok(found.place)
 }
 
 #[tactic(auto, using(crate::proofs::Each::stops, crate::proofs::Each::goes_on, crate::proofs::Each::ends))]
@@ -101,7 +124,12 @@ fn source_with(
     let alias = alias_of(input)?;
     let fields = fields_of(alloc, &alias, columns)?;
     let window = window_of(alloc, fields.as_slice(), &input.window)?;
-    let owner = clone_name_if_any(&input.stream.qualifier)?;
+    let owner = input
+        .stream
+        .qualifier
+        .as_ref()
+        .map(|owner| owner.try_clone())
+        .transpose()?;
     let stream = input.stream.name.try_clone()?;
     Ok(Source {
         input: Input {
@@ -134,7 +162,7 @@ fn source_of<L: Lookup>(
     ensures { Answers (spec.source_of (L.readable lookup.now) input.now) result }
 {
     match lookup.schema(owner_of(input), input.stream.name.as_str()) {
-        None => Err(PlanError::UnknownStream),
+        None => Err(PlanError::Refused(PlanFault::UnknownStream)),
         Some(schema) => source_with(alloc, input, schema.columns()),
     }
 }
@@ -145,10 +173,10 @@ pub(crate) fn sources<L: Lookup>(
     alloc: Global,
     lookup: &L,
     inputs: &[syntax::Input],
-) -> Result<Items<Source>, PlanError>
-    ensures { Answers (each (spec.source_of (L.readable lookup.now)) inputs.now) result }
+) -> Result<Vec<Source>, PlanError>
+    ensures { AnswersList (each (spec.source_of (L.readable lookup.now)) inputs.now) result }
 {
-    let mut sources = Items::new(alloc);
+    let mut sources = Vec::new(alloc);
     for input in inputs {
         sources.push(source_of(alloc, lookup, input)?)?;
     }
@@ -177,41 +205,18 @@ pub(crate) fn are_apart(sources: &[Source]) -> bool
     true
 }
 
-/// The columns of all inputs, in order.
-#[tactic(auto, unfolding(crate::specs::Sources::joined_row))]
-pub(crate) fn joined_row(alloc: Global, sources: &[Source]) -> Result<Items<Field>, AllocError>
-    ensures { IfOk result (λ row. row ≡ spec.joined_row sources.now) }
-{
-    let mut row = Items::new(alloc);
-    let mut rest = sources;
-    while let Some((first, later)) = rest.split_first() {
-        row.append(clone_fields(alloc, first.fields.as_slice())?)?;
-        rest = later;
-    }
-    Ok(row)
-}
-
-/// The types of each input's columns.
-pub(crate) fn ports_of(
-    alloc: Global,
-    sources: &[Source],
-) -> Result<Items<Items<ColumnType>>, AllocError>
-    ensures { IfOk result (λ ports. ports ≡ spec.ports_of sources.now) }
-{
-    let mut ports = Items::new(alloc);
-    for source in sources {
-        ports.push(kinds_of(alloc, source.fields.as_slice())?)?;
-    }
-    Ok(ports)
-}
-
-/// What the plan keeps of each input.
-pub(crate) fn inputs_of(alloc: Global, sources: &[Source]) -> Result<Items<Input>, AllocError>
-    ensures { IfOk result (λ inputs. inputs ≡ spec.inputs_of sources.now) }
+/// The inputs of a block, put together.
+pub(crate) fn joined_of(alloc: Global, sources: Vec<Source>) -> Result<Joined, AllocError>
+    ensures { IfOk result (λ joined. joined ≡ spec.joined_of sources.items) }
 {
     let mut inputs = Items::new(alloc);
+    let mut ports = Items::new(alloc);
+    let mut row = Items::new(alloc);
     for source in sources {
-        inputs.push(source.input.try_clone(alloc)?)?;
+        let (input, fields) = source.into_parts();
+        ports.push(kinds_of(alloc, fields.as_slice())?)?;
+        row.append(fields)?;
+        inputs.push(input)?;
     }
-    Ok(inputs)
+    Ok(Joined { inputs, ports, row })
 }

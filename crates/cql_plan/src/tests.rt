@@ -1,107 +1,148 @@
 mod streams;
-mod tables;
+mod values;
 
 use crate::condition::meets;
-use crate::error::PlanError;
+use crate::error::{PlanError, PlanFault};
 use crate::expr::evaluate;
-use crate::node::{Item, Node, OperatorKind};
-use crate::plan::Plan;
+use crate::node::{Item, Join, Node, OperatorKind, SetOp, Shape};
+use crate::plan::{Branch, Input, OutputKind, Plan, Window};
 use crate::resolution::resolve;
 use crate::tests::streams::Streams;
-use crate::tests::tables::{Parts, plans, texts};
-use cql_text::read;
-use cql_value::{Text, Value};
-use std::alloc::Global;
+use cql_syntax::syntax::SetOperator;
+use cql_text::{Syntax, read};
+use cql_value::{ColumnType, Text, Value};
+use std::alloc::{AllocError, Global};
 use std::test::Fail;
 
-fn resolved(alloc: Global, text: &str) -> Result<Result<Plan, PlanError>, Fail> {
-    let syntax = read(alloc, text)?;
+const TYPES: [ColumnType; 2] = [ColumnType::Text, ColumnType::Number];
+
+fn resolved(alloc: Global, syntax: &Syntax) -> Result<Result<Plan, PlanError>, Fail> {
     let streams = Streams::new(alloc)?;
-    Ok(resolve(alloc, &syntax, &streams))
+    Ok(resolve(alloc, syntax, &streams))
 }
 
-#[test]
-fn answers(rt: HostRuntime) -> Result<(), Fail> {
-    let a = rt.alloc();
-    for row in texts() {
-        let number = match resolved(a, row.0)? {
-            Ok(_) => 0,
-            Err(error) => error.number(),
-        };
-        assert!(rt; number == row.1, "{:?} gives {number}", row.0);
+fn plan_of(alloc: Global, text: &str) -> Result<Plan, Fail> {
+    let syntax = read(alloc, text)?;
+    Ok(resolved(alloc, &syntax)??)
+}
+
+fn join_of(branch: &Branch) -> Option<&Join> {
+    match &branch.join {
+        Node::Join(join) => Some(join),
+        _ => None,
     }
+}
+
+fn shape_of(branch: &Branch) -> Option<&Shape> {
+    match &branch.shape {
+        Node::Shape(shape) => Some(shape),
+        _ => None,
+    }
+}
+
+fn set_op_of(plan: &Plan) -> Option<&SetOp> {
+    match plan.set_op() {
+        Some(Node::SetOp(op)) => Some(op),
+        _ => None,
+    }
+}
+
+fn reads(input: &Input, owner: Option<&str>, stream: &str) -> bool {
+    input.owner.as_ref().map(|owner| owner.as_str()) == owner && input.stream.as_str() == stream
+}
+
+fn row_of(alloc: Global, number: i64) -> Result<[Value; 4], AllocError> {
+    let text = Text::new(alloc, "a")?;
+    let other = Text::new(alloc, "b")?;
+    Ok([
+        Value::Number(7),
+        Value::Text(text),
+        Value::Text(other),
+        Value::Number(number),
+    ])
+}
+
+// The value of the first item, where it is an expression, on a row of this last number.
+fn first_value(alloc: Global, plan: &Plan, number: i64) -> Result<Option<Value>, Fail> {
+    let row = row_of(alloc, number)?;
+    match shape_of(plan.first()).and_then(|shape| shape.items.get(0)) {
+        Some(Item::Value(expr)) => Ok(evaluate(alloc, expr, &row)?),
+        _ => Ok(None),
+    }
+}
+
+// Whether a row of this last number meets the condition.
+fn is_met(alloc: Global, plan: &Plan, number: i64) -> Result<bool, Fail> {
+    let row = row_of(alloc, number)?;
+    Ok(join_of(plan.first()).is_some_and(|join| meets(&join.condition, &row)))
+}
+
+const JOINED: &str =
+    "Select Istream(v + 1) From b.g [Range 5 Slide 2] x, p [Rows 3] Where (x.g = v)";
+
+#[test]
+fn inputs_of_a_join(rt: HostRuntime) -> Result<(), Fail> {
+    let plan = plan_of(rt.alloc(), JOINED)?;
+    assert_eq!(rt; plan.inputs().len(), 2);
+    let granted = &plan.inputs()[0];
+    assert!(rt; reads(granted, Some("b"), "g"));
+    assert!(rt;
+        matches!(
+            granted.window,
+            Window::Range {
+                length: 5,
+                slide: 2
+            }
+        )
+    );
+    let own = &plan.inputs()[1];
+    assert!(rt; reads(own, None, "p"));
+    assert!(rt; matches!(own.window, Window::Rows { count: 3, slide: 1 }));
     Ok(())
 }
 
-// The parts that the plan doesn't have as they are listed.
-fn unlike(alloc: Global, plan: &Plan, parts: &Parts) -> Result<Option<String>, Fail> {
-    let inputs = format!(in alloc; "{:?}", plan.inputs())?;
-    if inputs.as_str() != parts.inputs {
-        return Ok(Some(inputs));
-    }
-    let first = format!(in alloc; "{:?}", plan.first())?;
-    if first.as_str() != parts.first {
-        return Ok(Some(first));
-    }
-    let second = format!(in alloc; "{:?}", plan.second())?;
-    if second.as_str() != parts.second {
-        return Ok(Some(second));
-    }
-    let set_op = format!(in alloc; "{:?}", plan.set_op())?;
-    if set_op.as_str() != parts.set_op {
-        return Ok(Some(set_op));
-    }
-    let output = format!(in alloc; "{:?}", plan.output())?;
-    if output.as_str() != parts.output {
-        return Ok(Some(output));
-    }
-    Ok(None)
-}
-
-// Plans and their copies have the parts that are listed.
 #[test]
-fn parts_of_plans(rt: HostRuntime) -> Result<(), Fail> {
+fn values_of_a_join(rt: HostRuntime) -> Result<(), Fail> {
     let a = rt.alloc();
-    for parts in plans() {
-        let plan = resolved(a, parts.text)??;
-        let other = unlike(a, &plan, parts)?;
-        assert!(rt; other.is_none(), "{:?} has {other:?}", parts.text);
-        let copy = plan.try_clone(a)?;
-        let other = unlike(a, &copy, parts)?;
-        assert!(rt; other.is_none(), "a copy of {:?} has {other:?}", parts.text);
-    }
+    let plan = plan_of(a, JOINED)?;
+    assert!(rt; plan.second().is_none() && plan.output() == OutputKind::Istream);
+    assert!(rt; plan.first().join.kind() == OperatorKind::Join);
+    assert_eq!(rt; first_value(a, &plan, 41)?, Some(Value::Number(42)));
+    assert!(rt; is_met(a, &plan, 7)?);
+    assert!(rt; !is_met(a, &plan, 8)?);
     Ok(())
 }
 
-// The value of the first item, where it is an expression, on a row: none where it has none.
-fn first_value(alloc: Global, plan: &Plan, row: &[Value]) -> Result<Option<Value>, Fail> {
-    if let Node::Shape(shape) = &plan.first().shape {
-        if let Some(Item::Value(expr)) = shape.items.get(0) {
-            return Ok(evaluate(alloc, expr, row)?);
-        }
-    }
-    Ok(None)
-}
-
-// Whether a row meets the condition.
-fn is_met(plan: &Plan, row: &[Value]) -> bool {
-    match &plan.first().join {
-        Node::Join(join) => meets(&join.condition, row),
-        _ => false,
-    }
+// Whether the columns of a shape are those of stream p, and its items `k, Sum(v)` by `k`.
+fn sums_by_first(shape: &Shape) -> bool {
+    shape.columns.as_slice() == TYPES.as_slice()
+        && matches!(shape.items.get(1), Some(Item::Sum(1)))
+        && shape.groups.as_slice() == [0].as_slice()
 }
 
 #[test]
-fn meanings(rt: HostRuntime) -> Result<(), Fail> {
+fn parts_of_two_blocks(rt: HostRuntime) -> Result<(), Fail> {
+    let text = "Select Distinct k, Sum(v) From p [Partition By v, k Rows 4] Group By k \
+                Except All Select * From p x";
+    let plan = plan_of(rt.alloc(), text)?;
+    assert!(rt; plan.output() == OutputKind::Signed && plan.inputs().len() == 2);
+    if let Window::Parts { columns, count } = &plan.inputs()[0].window {
+        assert!(rt; columns.as_slice() == [1, 0].as_slice() && *count == 4);
+    }
+    assert!(rt; shape_of(plan.first()).is_some_and(sums_by_first));
+    assert!(rt; matches!(&plan.first().distinct, Some(Node::Distinct(_))));
+    let second = plan.second().and_then(shape_of);
+    assert!(rt; second.is_some_and(|shape| shape.items.len() == 2 && shape.groups.is_empty()));
+    assert!(rt; set_op_of(&plan).is_some_and(|op| op.kind == SetOperator::ExceptAll));
+    assert!(rt; set_op_of(&plan).is_some_and(|op| op.columns.as_slice() == TYPES.as_slice()));
+    Ok(())
+}
+
+#[test]
+fn a_fault(rt: HostRuntime) -> Result<(), Fail> {
     let a = rt.alloc();
-    let plan = resolved(a, "Select v * 2 - 1 From p Where k < 'm' And Not v = 3")??;
-    let row = [Value::Text(Text::new(a, "a")?), Value::Number(4)];
-    assert_eq!(rt; first_value(a, &plan, &row)?, Some(Value::Number(7)));
-    assert!(rt; is_met(&plan, &row));
-    let row = [Value::Text(Text::new(a, "m")?), Value::Number(4)];
-    assert!(rt; !is_met(&plan, &row));
-    let row = [Value::Text(Text::new(a, "a")?), Value::Number(i64::MAX)];
-    assert_eq!(rt; first_value(a, &plan, &row)?, None);
-    assert_eq!(rt; plan.first().join.kind(), OperatorKind::Join);
+    let syntax = read(a, "Select k From g")?;
+    let fault = resolved(a, &syntax)?.err();
+    assert!(rt; fault == Some(PlanError::Refused(PlanFault::UnknownStream)));
     Ok(())
 }

@@ -4,22 +4,22 @@ ghost use Rattle.cql_plan.specs.Outcome.{Answers};
 ghost use Rattle.cql_plan.specs.Typing as spec;
 
 use crate::condition::{Condition, Operand};
-use crate::error::PlanError;
+use crate::error::{PlanError, PlanFault};
 use crate::expr::Expr;
 use crate::row::{Field, column_of};
-use cql_syntax::syntax::{self, Comparison, Constant, Expression, Operation};
+use cql_syntax::syntax::{self, Comparison, Constant, Expression, Operation, QualifiedName};
 use cql_value::{Boxed, ColumnType, Value};
 use std::alloc::{AllocError, Global};
 
 /// An expression and what it gives.
-#[derive(Debug, Drop)]
+#[derive(Drop)]
 pub(crate) struct TypedExpr {
     pub(crate) expr: Expr,
     pub(crate) kind: ColumnType,
 }
 
 /// A side of a comparison and what it holds.
-#[derive(Debug, Drop)]
+#[derive(Drop)]
 pub(crate) struct TypedOperand {
     pub(crate) operand: Operand,
     pub(crate) kind: ColumnType,
@@ -60,13 +60,32 @@ fn operated(
     ensures { Answers (spec.operated operation left right) result }
 {
     if !same_kind(left.kind, ColumnType::Number) || !same_kind(right.kind, ColumnType::Number) {
-        return Err(PlanError::TypeMismatch);
+        return Err(PlanError::Refused(PlanFault::TypeMismatch));
     }
     let left = Boxed::new(alloc, left.expr)?;
     let right = Boxed::new(alloc, right.expr)?;
     Ok(TypedExpr {
         expr: Expr::Binary(operation, left, right),
         kind: ColumnType::Number,
+    })
+}
+
+fn constant_of(alloc: Global, written: &Constant) -> Result<TypedExpr, AllocError>
+    ensures { IfOk result (λ typed. typed ≡ spec.constant_of written.now) }
+{
+    Ok(TypedExpr {
+        expr: Expr::Constant(value_of(alloc, written)?),
+        kind: kind_of(written),
+    })
+}
+
+fn place_of(fields: &[Field], written: &QualifiedName) -> Result<TypedExpr, PlanFault>
+    ensures { result ≡ spec.place_of fields.now written.now }
+{
+    let found = column_of(fields, written)?;
+    Ok(TypedExpr {
+        expr: Expr::Column(found.place),
+        kind: found.kind,
     })
 }
 
@@ -80,17 +99,8 @@ pub(crate) fn expression_of(
     ensures { Answers (spec.expression_of fields.now written.now) result }
 {
     match written {
-        Expression::Constant(constant) => Ok(TypedExpr {
-            expr: Expr::Constant(value_of(alloc, constant)?),
-            kind: kind_of(constant),
-        }),
-        Expression::Column(column) => {
-            let found = column_of(fields, column)?;
-            Ok(TypedExpr {
-                expr: Expr::Column(found.place),
-                kind: found.kind,
-            })
-        }
+        Expression::Constant(constant) => Ok(constant_of(alloc, constant)?),
+        Expression::Column(column) => Ok(place_of(fields, column)?),
         Expression::Bracket(inner) => expression_of(alloc, fields, inner.get()),
         Expression::Binary(operation, left, right) => {
             let left = expression_of(alloc, fields, left.get())?;
@@ -137,7 +147,7 @@ fn comparison_of(
     let left = operand_of(alloc, fields, left)?;
     let right = operand_of(alloc, fields, right)?;
     if !same_kind(left.kind, right.kind) {
-        return Err(PlanError::TypeMismatch);
+        return Err(PlanError::Refused(PlanFault::TypeMismatch));
     }
     Ok(Condition::Compare(left.operand, how, right.operand))
 }

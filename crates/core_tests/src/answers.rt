@@ -30,59 +30,61 @@ struct Case {
     blocks: &'static [(u64, u64, &'static [i64])],
 }
 
+const CASES: &[Case] = &[
+    Case {
+        what: "what is there at the base is new there",
+        length: 2,
+        slide: 1,
+        rows: &[(5, 1)],
+        base: 6,
+        from: 6,
+        next: 12,
+        blocks: &[(6, 6, &[1])],
+    },
+    Case {
+        what: "what was there at the base isn't new later",
+        length: 2,
+        slide: 1,
+        rows: &[(5, 1), (7, 2)],
+        base: 6,
+        from: 7,
+        next: 12,
+        blocks: &[(7, 7, &[2])],
+    },
+    Case {
+        what: "a base later than the rows",
+        length: 2,
+        slide: 1,
+        rows: &[(5, 1)],
+        base: 8,
+        from: 8,
+        next: 12,
+        blocks: &[],
+    },
+    Case {
+        what: "a slide",
+        length: 3,
+        slide: 5,
+        rows: &[(1, 0), (4, 1), (6, 2)],
+        base: 0,
+        from: 0,
+        next: 20,
+        blocks: &[(5, 5, &[1])],
+    },
+    Case {
+        what: "a slide and a longer range",
+        length: 4,
+        slide: 5,
+        rows: &[(1, 0), (4, 1), (6, 2)],
+        base: 0,
+        from: 0,
+        next: 20,
+        blocks: &[(5, 5, &[0, 1]), (10, 10, &[2])],
+    },
+];
+
 fn cases() -> &'static [Case] {
-    &[
-        Case {
-            what: "what is there at the base is new there",
-            length: 2,
-            slide: 1,
-            rows: &[(5, 1)],
-            base: 6,
-            from: 6,
-            next: 12,
-            blocks: &[(6, 6, &[1])],
-        },
-        Case {
-            what: "what was there at the base isn't new later",
-            length: 2,
-            slide: 1,
-            rows: &[(5, 1), (7, 2)],
-            base: 6,
-            from: 7,
-            next: 12,
-            blocks: &[(7, 7, &[2])],
-        },
-        Case {
-            what: "a base later than the rows",
-            length: 2,
-            slide: 1,
-            rows: &[(5, 1)],
-            base: 8,
-            from: 8,
-            next: 12,
-            blocks: &[],
-        },
-        Case {
-            what: "a slide",
-            length: 3,
-            slide: 5,
-            rows: &[(1, 0), (4, 1), (6, 2)],
-            base: 0,
-            from: 0,
-            next: 20,
-            blocks: &[(5, 5, &[1])],
-        },
-        Case {
-            what: "a slide and a longer range",
-            length: 4,
-            slide: 5,
-            rows: &[(1, 0), (4, 1), (6, 2)],
-            base: 0,
-            from: 0,
-            next: 20,
-            blocks: &[(5, 5, &[0, 1]), (10, 10, &[2])],
-        },
-    ]
+    CASES
 }
 
 // One stream, under any name.

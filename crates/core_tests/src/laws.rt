@@ -1,13 +1,6 @@
 // The laws can be called.
 use cql_core::law::{
-    alone_law,
-    fetch_law,
-    history_law,
-    isolation_law,
-    query_law,
-    relation_law,
-    reply_law,
-    solo_law,
+    alone_law, fetch_law, history_law, isolation_law, query_law, relation_law, reply_law, solo_law,
 };
 use cql_core::runs::{blocks_are_unique, blocks_law, local_law};
 

@@ -26,13 +26,16 @@ fn pairs() -> &'static [(&'static [i64], &'static [i64], bool)] {
     ]
 }
 
+fn is_right(alloc: Global, one: &[i64], other: &[i64], are_same: bool) -> Result<bool, Fail> {
+    let first = output(alloc, one)?;
+    let second = output(alloc, other)?;
+    Ok(first.is_empty() == one.is_empty() && first.is(&second) == are_same)
+}
+
 #[test]
 fn outputs_that_are_the_same(rt: HostRuntime) -> Result<(), Fail> {
-    let alloc = rt.alloc();
     for (one, other, are_same) in pairs() {
-        let first = output(alloc, one)?;
-        assert!(rt; first.is_empty() == one.is_empty());
-        assert!(rt; first.is(&output(alloc, other)?) == *are_same);
+        assert!(rt; is_right(rt.alloc(), one, other, *are_same)?);
     }
     Ok(())
 }
@@ -53,15 +56,30 @@ fn blocks_of(alloc: Global, stretches: &[(u8, &[i64])]) -> Result<Vec<Block>, Fa
     Ok(runs.finish())
 }
 
+// Their blocks, each of one row.
+fn joined() -> &'static [(u64, u64, i64)] {
+    &[(3, 5, 1), (6, 6, 2), (10, 10, 2)]
+}
+
+fn is_block(block: &Block, (from, to, number): (u64, u64, i64)) -> bool {
+    let Output::Rows(rows) = &block.output;
+    block.from == from
+        && block.to == to
+        && rows.len() == 1
+        && rows.as_slice().iter().all(
+            |row| matches!(row.values(), [Value::Number(n)] if *n == number),
+        )
+}
+
 #[test]
 fn equal_stretches_join(rt: HostRuntime) -> Result<(), Fail> {
-    let alloc = rt.alloc();
-    let blocks = blocks_of(alloc, stretches())?;
-    let wants = [(3, 5, 1), (6, 6, 2), (10, 10, 2)];
-    assert_eq!(rt; blocks.len(), wants.len());
-    for (block, (from, to, number)) in blocks.iter().zip(wants) {
-        assert!(rt; block.from == from && block.to == to);
-        assert!(rt; block.output.is(&output(alloc, &[number])?));
-    }
+    let blocks = blocks_of(rt.alloc(), stretches())?;
+    assert!(rt; blocks.len() == joined().len());
+    assert!(rt;
+        blocks
+            .iter()
+            .zip(joined())
+            .all(|(block, want)| is_block(block, *want))
+    );
     Ok(())
 }

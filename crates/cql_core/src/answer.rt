@@ -9,10 +9,15 @@ use cql_value::Items;
 use std::marker::Model;
 
 /// A pin with the blocks of its outputs. Only `evaluate::answer` makes one.
-#[derive(Drop)]
 pub struct Answer {
     pin: Pin,
     blocks: Items<Block>,
+}
+
+impl Drop for Answer {
+    fn drop(self) {
+        let Answer { pin: _, blocks: _ } = self;
+    }
 }
 
 impl Model for Answer {

@@ -5,14 +5,19 @@ use cql_value::{Items, Row, Text};
 pub(crate) const GREATEST: u64 = 4_611_686_018_427_387_903;
 
 /// A column as a command names it: its name and its type, neither checked yet.
-#[derive(Debug, Drop)]
 pub struct ColumnText {
     pub name: Text,
     pub kind: Text,
 }
 
+impl Drop for ColumnText {
+    fn drop(self) {
+        let ColumnText { name: _, kind: _ } = self;
+    }
+}
+
 /// A command of a tenant, with the fields of its line. Times are in ticks.
-#[derive(Debug, Drop)]
+#[derive(Drop)]
 pub enum Command {
     /// Makes a stream of the tenant's own.
     Stream {

@@ -24,14 +24,6 @@ mod shelf;
 mod state;
 mod steps;
 mod tenants;
-#[cfg(test)]
-mod tests_answer;
-#[cfg(test)]
-mod tests_core;
-#[cfg(test)]
-mod tests_queries;
-#[cfg(test)]
-mod tests_tenants;
 
 pub use answer::Answer;
 pub use command::{ColumnText, Command};

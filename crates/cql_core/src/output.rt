@@ -5,7 +5,7 @@ ghost use Rattle.cql_core.specs.Output.{is_empty};
 use cql_value::{Items, Row};
 
 /// What a query tells at an instant.
-#[derive(Debug, Drop)]
+#[derive(Drop)]
 pub enum Output {
     /// Rows, ascending, each as often as it counts.
     Rows(Items<Row>),
@@ -38,7 +38,7 @@ fn are_same(a: &[Row], b: &[Row]) -> bool
 }
 
 /// A run of instants with equal output, both ends in ticks and among them.
-#[derive(Debug, Drop)]
+#[derive(Drop)]
 pub struct Block {
     pub from: u64,
     pub to: u64,

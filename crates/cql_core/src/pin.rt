@@ -12,13 +12,24 @@ use std::sync::Arc;
 
 /// A query with the rows of its input, and the instants that are asked for. It shares its plan and
 /// its rows with what it was taken out of.
-#[derive(Drop)]
 pub struct Pin {
     plan: Arc<Plan>,
     base: u64,
     from: u64,
     next: u64,
     rows: Vec<Timed>,
+}
+
+impl Drop for Pin {
+    fn drop(self) {
+        let Pin {
+            plan: _,
+            base: _,
+            from: _,
+            next: _,
+            rows: _,
+        } = self;
+    }
 }
 
 impl Model for Pin {

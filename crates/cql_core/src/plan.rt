@@ -4,7 +4,7 @@ use cql_value::{Name, Text};
 use cql_window::Window;
 
 /// What a query tells of its relation at an instant, beside the relation of the instant before.
-#[derive(Clone, Copy, Debug, PartialEq, Eq)]
+#[derive(Clone, Copy)]
 pub enum OutputKind {
     /// The rows that are new.
     Istream,
@@ -12,11 +12,22 @@ pub enum OutputKind {
 
 /// A query: what its typing plans and its canonical text; and of a query that is served the window
 /// through which it looks at a stream of the tenant's own, and what it tells.
-#[derive(Debug, Drop)]
 pub struct Plan {
     pub typed: Typed,
     pub text: Text,
     pub stream: Name,
     pub window: Window,
     pub kind: OutputKind,
+}
+
+impl Drop for Plan {
+    fn drop(self) {
+        let Plan {
+            typed: _,
+            text: _,
+            stream: _,
+            window: _,
+            kind: _,
+        } = self;
+    }
 }

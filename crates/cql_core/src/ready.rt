@@ -14,7 +14,6 @@ use std::marker::Model;
 use std::sync::Arc;
 
 /// A command with what was checked of it.
-#[derive(Drop)]
 pub(crate) enum Ready {
     Stream {
         name: Text,
@@ -38,6 +37,35 @@ pub(crate) enum Ready {
         name: Text,
         until: Option<u64>,
     },
+}
+
+impl Drop for Ready {
+    fn drop(self) {
+        match self {
+            Ready::Stream {
+                name: _name,
+                columns: _columns,
+                checked: _checked,
+            } => {}
+            Ready::Put {
+                stream: _stream,
+                element: _element,
+            } => {}
+            Ready::Beat {
+                stream: _stream,
+                at: _,
+            } => {}
+            Ready::Query {
+                name: _name,
+                text: _text,
+                checked: _checked,
+            } => {}
+            Ready::Fetch {
+                name: _name,
+                until: _,
+            } => {}
+        }
+    }
 }
 
 /// A command, checked as far as that needs no state: one that is refused by itself keeps that

@@ -3,7 +3,7 @@ ghost use Rattle.std.specs.Prelude.{◌≡◌};
 ghost use Rattle.cql_core.specs.Refusal.{number_of, name_of};
 
 /// Why a command is refused. A refusal changes nothing.
-#[derive(Clone, Copy, Debug, PartialEq, Eq, Drop)]
+#[derive(Clone, Copy, Drop)]
 pub enum Refusal {
     /// The tenant has a stream of that name (20).
     StreamExists,

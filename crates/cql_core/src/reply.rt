@@ -4,7 +4,6 @@ use crate::pin::Pin;
 use crate::refusal::Refusal;
 
 /// The reply to a command.
-#[derive(Drop)]
 pub enum Reply {
     /// It is done.
     Ok,
@@ -14,6 +13,17 @@ pub enum Reply {
     Blocks(Answer),
     /// It was refused, and nothing is changed.
     Refused(Refusal),
+}
+
+impl Drop for Reply {
+    fn drop(self) {
+        match self {
+            Reply::Ok => {}
+            Reply::Base(_) => {}
+            Reply::Blocks(_answer) => {}
+            Reply::Refused(_) => {}
+        }
+    }
 }
 
 /// What one step of the core gives: a reply, or a pin to be answered outside it.

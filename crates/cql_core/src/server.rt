@@ -15,10 +15,18 @@ use std::alloc::{AllocError, Global};
 use std::marker::Model;
 
 /// The streams and queries of all tenants. Contracts see the machine's state.
-#[derive(Drop)]
 pub struct Core {
     homes: Vec<Home>,
     queries: Vec<Shelf<QueryState>>,
+}
+
+impl Drop for Core {
+    fn drop(self) {
+        let Core {
+            homes: _,
+            queries: _,
+        } = self;
+    }
 }
 
 impl Model for Core {

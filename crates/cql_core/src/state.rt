@@ -11,11 +11,20 @@ use std::alloc::AllocError;
 
 /// A stream: its columns, the least time in ticks that it still takes, and its elements in order
 /// of acceptance.
-#[derive(Drop)]
 pub struct StreamState {
     pub schema: Schema,
     pub opened: u64,
     pub elements: Items<Timed>,
+}
+
+impl Drop for StreamState {
+    fn drop(self) {
+        let StreamState {
+            schema: _,
+            opened: _,
+            elements: _,
+        } = self;
+    }
 }
 
 impl StreamState {
@@ -32,11 +41,20 @@ impl StreamState {
 }
 
 /// A tenant's name and quotas, and its streams in order of making.
-#[derive(Drop)]
 pub struct Home {
     pub name: Name,
     pub quotas: Quotas,
     pub streams: Shelf<StreamState>,
+}
+
+impl Drop for Home {
+    fn drop(self) {
+        let Home {
+            name: _,
+            quotas: _,
+            streams: _,
+        } = self;
+    }
 }
 
 /// A live query: its plan, its base and cursor in ticks, and how many elements its stream had

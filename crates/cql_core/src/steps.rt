@@ -90,7 +90,7 @@ pub fn feed(home: &mut Home, stream: &Text, element: &Timed) -> Result<Reply, Al
     ensures err { OnErr result (home.new ≡ home.old) }
 {
     let reply = feed_reply(home, stream.as_str(), element);
-    if matches!(reply, Reply::Ok) {
+    if matches!(&reply, Reply::Ok) {
         home.streams.feed(stream.as_str(), element.try_clone()?)?;
     }
     Ok(reply)
@@ -112,7 +112,7 @@ pub fn beat(home: &mut Home, stream: &Text, at: u64) -> Reply
     ensures state { home.new ≡ home_after home.old (command.Beat stream.now at) }
 {
     let reply = beat_reply(home, stream.as_str(), at);
-    if matches!(reply, Reply::Ok) {
+    if matches!(&reply, Reply::Ok) {
         home.streams.beat(stream.as_str(), at);
     }
     reply

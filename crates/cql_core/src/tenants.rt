@@ -10,7 +10,7 @@ use std::marker::Model;
 use thiserror::Error;
 
 /// How much a tenant may have.
-#[derive(Clone, Copy, Debug, PartialEq, Eq)]
+#[derive(Clone, Copy, PartialEq, Eq)]
 pub struct Quotas {
     /// Streams, 0 to 64.
     pub streams: u64,
@@ -23,12 +23,21 @@ pub struct Quotas {
 }
 
 /// A tenant: its name, the key of its login, and its quotas.
-#[derive(Debug, Drop)]
 pub struct Tenant {
     pub name: Name,
     /// A text of 1 to 64 bytes.
     pub key: Text,
     pub quotas: Quotas,
+}
+
+impl Drop for Tenant {
+    fn drop(self) {
+        let Tenant {
+            name: _,
+            key: _,
+            quotas: _,
+        } = self;
+    }
 }
 
 impl Tenant {
@@ -47,7 +56,7 @@ impl Tenant {
 }
 
 /// A tenant's place in a table. Contracts see the place.
-#[derive(Clone, Copy, Debug, PartialEq, Eq)]
+#[derive(Clone, Copy, PartialEq, Eq)]
 pub struct TenantId {
     place: u32,
 }
@@ -71,7 +80,7 @@ impl TenantId {
 }
 
 /// 1 to 256 tenants with distinct names. Contracts see the list.
-#[derive(Debug, Drop)]
+#[derive(Drop)]
 pub struct TenantTable {
     tenants: Vec<Tenant>,
 }

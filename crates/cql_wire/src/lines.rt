@@ -8,8 +8,6 @@ ghost use Rattle.cql_wire.specs.Reads.{CountsReads};
 ghost use Rattle.cql_wire.specs.Taking.{HasRoom, GoesOn, TakesPiece, Took, ending_bytes, work_left, Finds, found_line};
 
 mod chunk;
-#[cfg(test)]
-mod tests;
 
 pub use crate::watched::ReadFault;
 use crate::watched::Watched;

@@ -14,9 +14,6 @@ use serde_json::Value as Json;
 use std::alloc::{AllocError, Global};
 use std::io::Write;
 
-#[cfg(test)]
-mod tests;
-
 fn push_number(line: &mut String, number: u64) -> Result<(), AllocError>
     ensures { OnOk result (string_bytes line.new ≡ string_bytes line.old ++ decimal number) }
 {

@@ -1,8 +1,10 @@
 //! Answers each line of a reader on a writer.
-ghost use Rattle.std.specs.Prelude.{◌≡◌, ◌⊎◌, ◌||◌, ◌+◌, ◌^◌, ◌<◌, true, is_err, Err, OnOk};
+ghost use Rattle.std.specs.Prelude.{◌≡◌, ◌≢◌, ◌⊎◌, ◌||◌, ◌+◌, ◌^◌, ◌<◌, true, false, [], is_err, Err, OnOk};
+ghost use Rattle.cql_core.specs.State.{opening};
 ghost use Rattle.cql_wire.specs.Asked.{asked_of};
 ghost use Rattle.cql_wire.specs.Next.{text_of};
 ghost use Rattle.cql_wire.specs.Output.{OutputLaw};
+ghost use Rattle.cql_wire.specs.Reads.{CountsReads};
 ghost use Rattle.cql_wire.specs.Script.{Answers};
 ghost use Rattle.cql_wire.specs.Served.{ServesLine};
 ghost use Rattle.cql_wire.specs.Watched.{inner_of, has_failed, calls_of};
@@ -16,9 +18,6 @@ use cql_core::{Core, TenantTable, serve};
 use std::alloc::{AllocError, Global};
 use std::io::{Read, Write};
 use thiserror::Error;
-
-#[cfg(test)]
-mod tests;
 
 /// Why a script ended before its last line was answered.
 #[derive(Clone, Copy, Debug, PartialEq, Eq, Error)]
@@ -93,6 +92,32 @@ fn answer_line<W: Write>(
     }
 }
 
+// Answers the lines of a reader, of which none was read yet, with a core as it opens.
+fn answer_lines<R: Read, W: Write>(
+    alloc: Global,
+    table: &TenantTable,
+    lines: &mut Lines,
+    core: &mut Core,
+    reader: &mut Watched<R>,
+    writer: &mut Watched<W>,
+) -> Result<(), ScriptError>
+    requires held { lines.old.held ≡ [] }
+    requires begins { (lines.old.ended ≡ false) × (lines.old.failed ≡ false) }
+    requires opens { core.old ≡ opening table.now }
+    ensures answers { Answers table.now (R.remaining (inner_of reader.old)) (R.remaining (inner_of reader.new))
+        (W.contents (inner_of writer.old)) (W.contents (inner_of writer.new)) (has_failed writer.new) result }
+    ensures cause { result ≡ Err ScriptError.Read → (has_failed reader.new ≡ true) ⊎ (lines.new.reads_left ≡ 0) }
+    ensures counts { CountsReads lines.old.reads_left lines.new.reads_left (calls_of reader.old) (calls_of reader.new) }
+    ensures steady { OnOk result ((has_failed reader.new ≡ has_failed reader.old) × (has_failed writer.new ≡ has_failed writer.old)) }
+    ensures memory { result ≢ Err ScriptError.NoMemory }
+{
+    reply_law();
+    while let Some(line) = lines.next(reader)? {
+        answer_line(alloc, table, core, writer, line)?;
+    }
+    Ok(())
+}
+
 /// Answers each line of the reader that isn't blank, in order, with one line on the writer: the
 /// line of its fault (10, 11, 12 or 31), or of the reply that CQL's meaning gives to its tenant
 /// from that tenant's view of the lines before. A line that finds no memory is answered 70, and
@@ -110,11 +135,7 @@ pub fn script<R: Read, W: Write>(
     ensures steady { OnOk result ((has_failed reader.new ≡ has_failed reader.old) × (has_failed writer.new ≡ has_failed writer.old)) }
     ensures untouched { result ≡ Err ScriptError.NoMemory → (reader.new ≡ reader.old) × (writer.new ≡ writer.old) }
 {
-    reply_law();
     let mut lines = Lines::new(alloc)?;
     let mut core = Core::new(alloc, table.try_clone(alloc)?)?;
-    while let Some(line) = lines.next(reader)? {
-        answer_line(alloc, &table, &mut core, writer, line)?;
-    }
-    Ok(())
+    answer_lines(alloc, &table, &mut lines, &mut core, reader, writer)
 }

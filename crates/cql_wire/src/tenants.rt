@@ -12,9 +12,6 @@ use serde_json::Value as Json;
 use std::alloc::{AllocError, AllocFailed, Global};
 use thiserror::Error;
 
-#[cfg(test)]
-mod tests;
-
 /// The keys of a tenant, each of which has to be there.
 const TENANT_KEYS: &[&str] = &["hold", "key", "name", "queries", "result", "streams"];
 

@@ -71,6 +71,7 @@ impl<R: Read> Watched<R> {
         ensures bytes { ReadConsumes (R.remaining (inner_of self.old)) (R.remaining (inner_of self.new)) result buf.new }
         ensures failed { has_failed self.new ≡ (has_failed self.old || is_err result) }
         ensures calls { calls_of self.new ≡ (if has_failed self.old then calls_of self.old else count_after (calls_of self.old) 1) }
+        ensures counted { calls_of self.old ≤ calls_of self.new }
         ensures spared { has_failed self.old ≡ true → IsErr result × (inner_of self.new ≡ inner_of self.old) }
     {
         if self.failed {

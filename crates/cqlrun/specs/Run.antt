@@ -41,6 +41,6 @@ IsRun before after old new writer_failed ending.Reading =
 IsRun before after old new writer_failed ending.Writing = Scripted before after old new writer_failed (Err Write)
 IsRun before after old new writer_failed ending.NoMemory = new ≡ old
 
--- a failed read is told: the reader has failed, or 2^40 reads were made, if so many can be counted
+-- a failed read is told: the reader has failed, or 2^40 reads more than before were made, if so many can be counted
 abbrev pub IsReadFault : Bool → ℕ → ℕ → Type 0
-IsReadFault reader_failed before after = (reader_failed ≡ true) ⊎ (before + 65537 + 2 ^ 40 < 2 ^ 64 → 2 ^ 40 ≤ after)
+IsReadFault reader_failed before after = (reader_failed ≡ true) ⊎ (before + 65537 + 2 ^ 40 < 2 ^ 64 → before + 2 ^ 40 ≤ after)

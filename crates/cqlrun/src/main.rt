@@ -5,8 +5,6 @@ mod ending;
 mod program;
 #[cfg(test)]
 mod tests;
-#[cfg(test)]
-mod tests_queries;
 
 use cql_wire::Watched;
 use ending::Ending;

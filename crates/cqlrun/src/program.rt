@@ -18,7 +18,7 @@ fn tenants<R: Read>(alloc: Global, reader: &mut Watched<R>) -> Result<TenantTabl
         (λ table. TellsTable (R.remaining (inner_of reader.old)) (R.remaining (inner_of reader.new)) table)
         (λ ending. EndsBefore (R.remaining (inner_of reader.old)) (R.remaining (inner_of reader.new)) ending) }
     ensures steady { IsOk result → has_failed reader.new ≡ false }
-    ensures calls { calls_of reader.new ≤ calls_of reader.old + 65537 }
+    ensures calls { (calls_of reader.old ≤ calls_of reader.new) × (calls_of reader.new ≤ calls_of reader.old + 65537) }
     ensures cause { result ≡ Err Ending.Reading → has_failed reader.new ≡ true }
 {
     let line = match first_line(alloc, reader) {

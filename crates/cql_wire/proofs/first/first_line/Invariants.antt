@@ -13,6 +13,7 @@ invariant-loop-next g l = record {
   consumed : Consumes (g.R.Read.remaining (inner_of l.initial.reader)) (g.R.Read.remaining (inner_of l.reader)) l.line.items;
   failed : has_failed l.reader ≡ has_failed l.initial.reader;
   spared : has_failed l.initial.reader ≡ true → inner_of l.reader ≡ inner_of l.initial.reader;
+  counted : calls_of l.initial.reader ≤ calls_of l.reader;
   calls : calls_of l.reader ≤ calls_of l.initial.reader + length l.line.items;
 }
 

@@ -7,10 +7,10 @@ use Rattle.cql_wire.specs.Text.{LineText}
 use Rattle.cql_wire.specs.Reading.{coming, work}
 use Rattle.cql_wire.proofs.Running.{Came}
 use Rattle.cql_wire.proofs.Outputs.{Said}
-use Rattle.cql_wire.proofs.scripts.script.Given as goal
+use Rattle.cql_wire.proofs.scripts.answer_lines.Given as goal
 
-abbrev pub invariant-loop-core : goal.invariant-loop-core
-invariant-loop-core g l = record {
+abbrev pub invariant-loop-line : goal.invariant-loop-line
+invariant-loop-line g l = record {
   done : (lines : List LineText) × (written : List ℕ) × Came (coming l.initial.lines (g.R.Read.remaining (inner_of l.initial.reader))) (coming l.lines (g.R.Read.remaining (inner_of l.reader))) l.lines.ended lines
       × Said l.fn.table l.core lines written
       × Appends (g.W.Write.contents (inner_of l.initial.writer)) (g.W.Write.contents (inner_of l.writer)) written;
@@ -20,5 +20,5 @@ invariant-loop-core g l = record {
   counts : CountsReads l.initial.lines.reads_left l.lines.reads_left (calls_of l.initial.reader) (calls_of l.reader);
 }
 
-abbrev pub decreases-loop-core : goal.decreases-loop-core
-decreases-loop-core g l = work l.lines
+abbrev pub decreases-loop-line : goal.decreases-loop-line
+decreases-loop-line g l = work l.lines

@@ -2,7 +2,7 @@
 #![tactic(auto)]
 
 use cql_wire::{Watched, first_line, read_tenants, script};
-use std::alloc::{AllocError, Global};
+use std::alloc::Global;
 use std::process::ExitCode;
 use std::{fs, io};
 

@@ -1,19 +1,32 @@
 # Thin targets over the toolchain's command `rt`.
 RUNNER := crates/cqlrun/out/cqlrun
+FIRST := examples/first.jsonl
+# of a build from nothing, on four cores
+BUILD_TIME := about 20 minutes
 
-.PHONY: build run test bench
+.PHONY: help run build test bench
 
-# proves cqlrun and what it stands on, and builds it
-build:
-	cd crates/cqlrun && rt run < ../../examples/first.jsonl > /dev/null
+# tells what the targets do
+help:
+	@echo 'make run     the replies to $(FIRST), from a run that is checked and not proved (a minute)'
+	@echo 'make build   proves and builds $(RUNNER) ($(BUILD_TIME))'
+	@echo 'make test    the gate, and then the built program as users run it (longer)'
+	@echo 'make bench   builds the program, and times puts and query texts'
 
-# builds cqlrun and runs it on the first script
+# runs the first script with no proof
 run:
-	cd crates/cqlrun && rt run < ../../examples/first.jsonl
+	@echo 'The replies to $(FIRST), one a line. This run is checked as it goes, and not proved:'
+	@cd crates/cqlrun && rt try < ../../$(FIRST)
 
-# the gate
+# proves the program and what it stands on, and builds it
+build:
+	@echo 'Proving and building $(RUNNER). From nothing this takes $(BUILD_TIME).'
+	@cd crates/cqlrun && rt run < ../../$(FIRST) > /dev/null
+	@echo 'Built. Try: $(RUNNER) < $(FIRST)'
+
+# every proof from nothing, the edits that must be refused, the tests, and the built program
 test:
-	rt ci
+	.ci/run
 
 # times puts, and texts of two lengths, through the built cqlrun
 bench: build

@@ -18,52 +18,30 @@ fn numbered(alloc: Global, times: &[u64]) -> Result<Vec<Timed>, Fail> {
     Ok(rows)
 }
 
-// A window over rows of these times, and the numbers of the rows that it shows at an instant.
-#[derive(Clone, Copy)]
-struct Case {
-    length: u64,
-    slide: u64,
-    times: &'static [u64],
-    at: u64,
-    numbers: &'static [i64],
-}
-
-const fn case(
-    length: u64,
-    slide: u64,
-    times: &'static [u64],
-    at: u64,
-    numbers: &'static [i64],
-) -> Case {
-    Case {
-        length,
-        slide,
-        times,
-        at,
-        numbers,
-    }
-}
+// The length and the slide of a window, the times of the rows, an instant, and the numbers of the
+// rows that the window shows then.
+type Case = (u64, u64, &'static [u64], u64, &'static [i64]);
 
 // A row goes after the length; a range of no length is the instant.
 fn ranges() -> &'static [Case] {
     const TWICE: &[u64] = &[3, 3, 5, 5, 5, 6];
     const FAR: &[u64] = &[0, 1, 4611686018427387902, GREATEST];
     &[
-        case(2, 1, &[5], 4, &[]),
-        case(2, 1, &[5], 5, &[0]),
-        case(2, 1, &[5], 7, &[0]),
-        case(2, 1, &[5], 8, &[]),
-        case(2, 1, &[], 8, &[]),
-        case(1, 1, TWICE, 3, &[0, 1]),
-        case(1, 1, TWICE, 5, &[2, 3, 4]),
-        case(2, 1, TWICE, 5, &[0, 1, 2, 3, 4]),
-        case(2, 1, TWICE, 6, &[2, 3, 4, 5]),
-        case(0, 1, TWICE, 4, &[]),
-        case(0, 1, TWICE, 5, &[2, 3, 4]),
-        case(0, 1, FAR, GREATEST, &[3]),
-        case(4611686018427387902, 1, FAR, GREATEST, &[1, 2, 3]),
-        case(GREATEST, 1, FAR, GREATEST, &[0, 1, 2, 3]),
-        case(GREATEST, 1, FAR, 0, &[0]),
+        (2, 1, &[5], 4, &[]),
+        (2, 1, &[5], 5, &[0]),
+        (2, 1, &[5], 7, &[0]),
+        (2, 1, &[5], 8, &[]),
+        (2, 1, &[], 8, &[]),
+        (1, 1, TWICE, 3, &[0, 1]),
+        (1, 1, TWICE, 5, &[2, 3, 4]),
+        (2, 1, TWICE, 5, &[0, 1, 2, 3, 4]),
+        (2, 1, TWICE, 6, &[2, 3, 4, 5]),
+        (0, 1, TWICE, 4, &[]),
+        (0, 1, TWICE, 5, &[2, 3, 4]),
+        (0, 1, FAR, GREATEST, &[3]),
+        (4611686018427387902, 1, FAR, GREATEST, &[1, 2, 3]),
+        (GREATEST, 1, FAR, GREATEST, &[0, 1, 2, 3]),
+        (GREATEST, 1, FAR, 0, &[0]),
     ]
 }
 
@@ -72,27 +50,27 @@ fn slides() -> &'static [Case] {
     const TIMES: &[u64] = &[1, 4, 6];
     const FAR: &[u64] = &[0, 1, 4611686018427387902, GREATEST];
     &[
-        case(3, 5, TIMES, 4, &[]),
-        case(3, 5, TIMES, 5, &[1]),
-        case(3, 5, TIMES, 9, &[1]),
-        case(3, 5, TIMES, 10, &[]),
-        case(4, 5, TIMES, 9, &[0, 1]),
-        case(4, 5, TIMES, 10, &[2]),
-        case(4, 5, TIMES, 14, &[2]),
-        case(4, 5, TIMES, 15, &[]),
-        case(GREATEST, GREATEST, FAR, 4611686018427387902, &[0]),
-        case(GREATEST, GREATEST, FAR, GREATEST, &[0, 1, 2, 3]),
+        (3, 5, TIMES, 4, &[]),
+        (3, 5, TIMES, 5, &[1]),
+        (3, 5, TIMES, 9, &[1]),
+        (3, 5, TIMES, 10, &[]),
+        (4, 5, TIMES, 9, &[0, 1]),
+        (4, 5, TIMES, 10, &[2]),
+        (4, 5, TIMES, 14, &[2]),
+        (4, 5, TIMES, 15, &[]),
+        (GREATEST, GREATEST, FAR, 4611686018427387902, &[0]),
+        (GREATEST, GREATEST, FAR, GREATEST, &[0, 1, 2, 3]),
     ]
 }
 
 // The rows that the window of the case shows.
 fn shown(alloc: Global, case: &Case) -> Result<Vec<Timed>, Fail> {
     let window = Window::Range {
-        length: case.length,
-        slide: case.slide.max(1),
+        length: case.0,
+        slide: case.1.max(1),
     };
-    let rows = numbered(alloc, case.times)?;
-    Ok(content_at(alloc, window, &rows, case.at.min(GREATEST))?)
+    let rows = numbered(alloc, case.2)?;
+    Ok(content_at(alloc, window, &rows, case.3.min(GREATEST))?)
 }
 
 fn is_of(row: &Timed, number: i64) -> bool {
@@ -113,7 +91,7 @@ fn contents(rt: HostRuntime) -> Result<(), Fail> {
     let alloc = rt.alloc();
     for case in ranges().iter().chain(slides()) {
         let rows = shown(alloc, case)?;
-        assert!(rt; are_of(&rows, case.numbers), "at {}", case.at);
+        assert!(rt; are_of(&rows, case.4), "at {}", case.3);
     }
     Ok(())
 }

@@ -6,7 +6,8 @@ use Rattle.cql_value.specs.declared.value.Value.{Value}
 use Rattle.cql_bag.specs.declared.change.Change.{Change}
 use Rattle.cql_bag.specs.Bag.{Counts, IsBag, count, put, less_one}
 use Rattle.cql_bag.specs.Changes.{changed, changed_by, CanChange, CanChangeBy, Tells, Grows, change_of, excess}
-use Rattle.cql_bag.proofs.Rows.{bag_put, bag_less, count_put, count_less, count_self, count_rest, tied, same_counts_law}
+use Rattle.cql_value.proofs.Ties.{tied, ties_itself}
+use Rattle.cql_bag.proofs.Rows.{bag_put, bag_less, count_put, count_less, count_rest, same_counts_law}
 
 abbrev Row : Type 0
 Row = List Value
@@ -71,7 +72,7 @@ can_add [] b all = tt
 can_add (c ∷ cs) b all = (λ e. cc, can_add cs (changed c b) all.1)
 
 tied_self : (q : Row) → one true q q ≡ 1
-tied_self q = rw (count_self q) refl
+tied_self q = rw (ties_itself q) refl
 
 can_take : (cs : List Change) (b : Counts) → IsBag b → AllAre false cs → ((q : Row) → minuses q cs ≤ count q b) → CanChangeBy cs b
 can_take [] b bag all few = tt

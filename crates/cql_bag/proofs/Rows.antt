@@ -9,7 +9,7 @@ use Rattle.cql_value.specs.declared.value.Value.{Value}
 use Rattle.cql_bag.specs.Bag.{Counts, IsBag, put_times, less_one, count, size_of}
 use Rattle.cql_bag.specs.Law.{IsSameCountsLaw}
 use Rattle.cql_bag.specs.Place.{IsAt, IsGapFor}
-use Rattle.cql_bag.proofs.Entries.{entry-le-size, entry_positive, set-take_from, remove-take_from, count_at, count_entry, count_apart, same_counts, take_apart, IsBagBy-take_from, size-take_from, set-put_in, insert-put_in, entries_rise, IsBagBy-put_in, size-put_in, count-put_in, count-take_from, count_after, self_ties, is_equal}
+use Rattle.cql_bag.proofs.Entries.{entry-le-size, entry_positive, set-take_from, remove-take_from, count_at, count_entry, count_apart, same_counts, take_apart, IsBagBy-take_from, size-take_from, set-put_in, insert-put_in, entries_rise, IsBagBy-put_in, size-put_in, count-put_in, count-take_from, count_after}
 
 pub placed : (es : Counts) (k : List Value) (r : Result ℕ ℕ) → IsBag es → IsSearchInRange r (length es) → IsBinarySearchResult (λ e. row_cmp e.0 k) es r → record { found : IfOk r (IsAt es k); absent : IfErr r (IsGapFor es k) }
 placed es k (Ok at) bag bound is = record { found = record { in_range = bound; is_row = is }; absent = tt }
@@ -73,9 +73,3 @@ count_less q k es bag = count-take_from row_cmp row_cmp_total row_cmp_exact q k 
 
 pub count_rest : (e : List Value × ℕ) (es : Counts) (q : List Value) → IsBag (e ∷ es) → is_eq (row_cmp e.0 q) ≡ true → count q es ≡ 0
 count_rest e es q bag same = count_after row_cmp row_cmp_total row_cmp_exact e es q bag same
-
-pub count_self : (q : List Value) → is_eq (row_cmp q q) ≡ true
-count_self q = self_ties row_cmp row_cmp_total row_cmp_exact q
-
-pub tied : (k q : List Value) → is_eq (row_cmp k q) ≡ true → k ≡ q
-tied k q e = row_cmp_exact k q (is_equal _ e)

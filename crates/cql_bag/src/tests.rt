@@ -28,15 +28,13 @@ fn is_of(row: &Row, number: i64) -> bool {
 // Whether the bag has rows of these numbers, each so often.
 fn has(bag: &Bag, wanted: &[(i64, u64)]) -> bool {
     bag.entries().len() == wanted.len()
-        && bag
-            .entries()
-            .iter()
-            .zip(wanted)
-            .all(|(entry, wanted)| is_of(&entry.0, wanted.0) && entry.1 == wanted.1)
+        && bag.entries().iter().zip(wanted).all(|(entry, wanted)| is_of(&entry.0, wanted.0)
+            && entry.1 == wanted.1)
 }
 
 // Two bags that share rows.
 const FIRST: &[i64] = &[1, 1, 2, 5];
+
 const SECOND: &[i64] = &[1, 3, 5, 5];
 
 #[test]

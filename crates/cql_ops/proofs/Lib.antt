@@ -5,7 +5,6 @@ mod Examples
 mod Expressions
 mod Groups
 mod Keys
-mod Member
 mod Overflow
 mod Plain
 mod Rows

@@ -93,7 +93,7 @@ on_first (e ∷ es) f = f e.0
 
 abbrev pub item_over : Counts → Item → Option Value
 item_over group (i.Value x) = on_first group (λ row. expr_value row x)
-item_over group i.Count = within (pos (size_of group))
+item_over group i.Count = Some (Number (pos (size_of group)))
 item_over group (i.Sum at) = within (total at group)
 item_over group (i.Min at) = best_from true at None group
 item_over group (i.Max at) = best_from false at None group

@@ -1,5 +1,4 @@
 // Each law once.
-use crate::OpError;
 use crate::law::{
     bags_law, count_law, expression_examples, expression_law, fault_law, group_law,
     grouped_column_law, groups_law, items_law, join_example, joined_law, joined_types_law, key_law,
@@ -7,14 +6,6 @@ use crate::law::{
     whole_law,
 };
 use cql_plan::fit::fit_law;
-use std::alloc::AllocError;
-use std::test::Fail;
-
-#[test]
-fn no_memory(rt: HostRuntime) -> Result<(), Fail> {
-    assert_eq!(rt; OpError::from(AllocError), OpError::NoMemory);
-    Ok(())
-}
 
 #[test]
 fn laws() {

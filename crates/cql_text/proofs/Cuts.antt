@@ -1,5 +1,5 @@
 -- A printed text is cut into the tokens that were printed.
-use Rattle.std.proofs.Common.{◌≡◌, ◌≢◌, ◌<◌, ◌≤◌, ℕ, zero, suc, ◌+◌, ◌-◌, ◌*◌, ◌/◌, ◌%◌, ◌^◌, min, pos, negsuc, Bool, true, false, not, ◌&&◌, ◌||◌, ◌==◌, eqb, nat_le, List, [], ◌∷◌, ◌++◌, fold, length, drop, take, map, slice_index, Option, Some, None, refl, sym, ap, ◌∙◌, subst, append_assoc, append-nil, length-append, arith, if◌then◌else◌}
+use Rattle.std.proofs.Common.{◌≡◌, ◌≢◌, ◌<◌, ◌≤◌, ℕ, zero, suc, ◌+◌, ◌-◌, ◌*◌, ◌/◌, ◌%◌, ◌^◌, min, pos, negsuc, Bool, true, false, not, ◌&&◌, ◌||◌, ◌==◌, eqb, nat_le, List, [], ◌∷◌, ◌++◌, fold, length, drop, take, map, slice_index, Option, Some, None, is_some, refl, sym, ap, ◌∙◌, subst, append_assoc, append-nil, length-append, arith, if◌then◌else◌}
 use Rattle.std.proofs.lemmas.Bool.Decides.{nat_tests}
 use Rattle.std.proofs.lemmas.List.Folds.{prefix_len-append}
 use Rattle.std.proofs.lemmas.Fmt.{decimal_by_steps}
@@ -19,6 +19,7 @@ use Rattle.cql_syntax.specs.Tokens.{Tokens, tokens_of}
 use Rattle.cql_syntax.specs.Lex.{Bytes, Table, scan, lexed, token, is_blank, quoted, lookup, reserved, reserved_words, word, word_or_reserved, number, value, text_of, sign, sign_of, after_lexeme}
 use Rattle.cql_syntax.specs.Spelling.{Piece, symbol, call, name, number as number_piece, text, Pieces, number_tokens, piece_tokens, pieces_tokens, doubled, symbol_text, piece_text, is_tight, is_opening, takes_space, leaves_space, space, spelled}
 use Rattle.cql_text.proofs.Laws.{IsPlain, ArePlain}
+use Rattle.cql_syntax.proofs.Reserved.{reserved_as_name}
 use Rattle.cql_syntax.proofs.LexLemmas.{scan_end, scan_blank, scan_token, word_starts}
 
 is_39 : (b : ℕ) → (b == 39) ≡ true → b ≡ 39
@@ -198,17 +199,12 @@ minus_cut rest = (45, [], refl, refl, refl)
 
 -- ---- names
 
-lookup_none : (rows : Table) (s : Bytes) → list_any (λ w. str_eq_ignore_ascii_case s w) (map (λ r. r.0) rows) ≡ false → lookup rows s ≡ None
-lookup_none [] s h = refl
-lookup_none (r ∷ rows) s h = at (λ g. lookup_none rows s g) (str_eq_ignore_ascii_case s r.0) h
-  where
-    at : (list_any (λ w. str_eq_ignore_ascii_case s w) (map (λ r. r.0) rows) ≡ false → lookup rows s ≡ None) → (b : Bool) → (b || list_any (λ w. str_eq_ignore_ascii_case s w) (map (λ r. r.0) rows)) ≡ false → (if b then Some r.1 else lookup rows s) ≡ None
-    at ih true g = cc
-    at ih false g = ih g
-
 not_reserved : (s : Bytes) → is_reserved s ≡ false → reserved s ≡ None
-unfolding is_reserved reserved
-not_reserved s h = lookup_none reserved_words s h
+not_reserved s h = none (reserved s) (reserved_as_name s ∙ h)
+  where
+    none : (o : Option Fixed) → is_some o ≡ false → o ≡ None
+    none None k = refl
+    none (Some j) k = cc
 
 and_left : (a b : Bool) → (a && b) ≡ true → a ≡ true
 and_left true b h = refl

@@ -1,5 +1,5 @@
 -- The reader of a text decides what is a query, and refuses at the right byte.
-use Rattle.std.proofs.Common.{◌≡◌, ◌≢◌, ◌≤◌, ◌<◌, ℕ, zero, suc, ◌+◌, ◌-◌, min, nat_lt, Bool, true, false, ◌&&◌, if◌then◌else◌, List, [], ◌∷◌, ◌++◌, map, take, length, slice_get, slice_set, Option, Some, None, Result, Ok, Err, refl, sym, ap, ◌∙◌, subst, append_assoc, append-nil, length-append, arith, ◌⊎◌, inl, inr}
+use Rattle.std.proofs.Common.{◌≡◌, ◌≢◌, ◌≤◌, ◌<◌, ℕ, zero, suc, ◌+◌, ◌-◌, min, nat_lt, Bool, true, false, ◌&&◌, ◌==◌, if◌then◌else◌, List, [], ◌∷◌, ◌++◌, map, take, length, slice_get, slice_set, Option, Some, None, Result, Ok, Err, refl, sym, ap, ◌∙◌, subst, append_assoc, append-nil, length-append, arith, ◌⊎◌, inl, inr}
 use Rattle.std.proofs.lemmas.Bool.Decides.{nat_tests}
 use Rattle.std.proofs.lemmas.List.{append_cancel_right}
 use Rattle.cql_syntax.specs.declared.token.Token.{Token}
@@ -13,7 +13,7 @@ use Rattle.cql_syntax.specs.Lex.{Bytes, lexed, scan, token, is_blank, after_lexe
 use Rattle.cql_text.specs.Grammar.{Spells, CanBegin, IsQuery}
 use Rattle.cql_text.specs.Reading.{Outcome}
 use Rattle.cql_text.specs.Readers.{query}
-use Rattle.cql_text.specs.Read.{most_bytes, Is, IsTooMany, IsNoToken, IsStuck, IsTooLong, IsCutShort, IsPlace, IsRefusedAt, end_of, byte_of, place, number_at, number_in, number_before, is_empty, left_of, goes_on, with_one, blamed, refusal, ended, attempted, attempt, finished, capped, read_tokens, read_of}
+use Rattle.cql_text.specs.Read.{most_bytes, Is, IsTooMany, IsNoToken, IsStuck, IsTooLong, IsCutShort, IsPlace, IsRefusedAt, end_of, byte_of, place, number_at, number_in, number_before, left_of, goes_on, with_one, blamed, refusal, ended, attempted, attempt, finished, capped, read_tokens, read_of}
 use Rattle.cql_text.proofs.Laws.{rest_of, with_rest}
 use Rattle.cql_text.proofs.Parts.{Stops}
 use Rattle.cql_text.proofs.Follow.{after_query}
@@ -78,9 +78,9 @@ rest_left : (o : Outcome Query) → rest_of o ≡ left_of o
 rest_left (Ok p) = refl
 rest_left (Err e) = refl
 
-empty_nil : (us : Tokens) → is_empty us ≡ true → us ≡ []
+empty_nil : (us : Tokens) → (length us == 0) ≡ true → us ≡ []
 empty_nil [] h = refl
-empty_nil (x ∷ us) h = cc
+empty_nil (x ∷ us) h = absurd (grind (arith, nat_tests))
 
 pub on_begins : (ts : Tokens) → goes_on ts ≡ true → CanBegin ts
 unfolding goes_on
@@ -92,7 +92,7 @@ off_ends ts h c = at (rest_of (query ts)) refl
   where
     at : (us : Tokens) → rest_of (query ts) ≡ us → ⊥
     at [] e =
-        let x : is_empty (left_of (query ts)) ≡ true = ap is_empty (sym (rest_left (query ts)) ∙ e) in
+        let x : (length (left_of (query ts)) == 0) ≡ true = ap (λ us. length us == 0) (sym (rest_left (query ts)) ∙ e) in
         cc
     at (u ∷ r) e = let a = stops_there ts u r e in a.3 (begin_prefix (a.0 ++ u ∷ []) r (begin_same ts ((a.0 ++ u ∷ []) ++ r) (a.1 ∙ sym (append_assoc a.0 (u ∷ []) r)) c))
 

@@ -1,5 +1,5 @@
 -- A text as a query, or the byte at which it is refused.
-use Rattle.std.specs.Prelude.{◌≡◌, ◌≢◌, ◌≤◌, ◌<◌, ℕ, ◌+◌, ◌-◌, min, nat_lt, nat_le, Bool, true, false, ◌&&◌, if◌then◌else◌, List, [], ◌∷◌, ◌++◌, take, length, slice_get, slice_set, Option, Some, None, Result, Ok, Err, ◌⊎◌}
+use Rattle.std.specs.Prelude.{◌≡◌, ◌≢◌, ◌≤◌, ◌<◌, ℕ, ◌+◌, ◌-◌, min, nat_lt, nat_le, Bool, true, false, ◌&&◌, ◌==◌, if◌then◌else◌, List, [], ◌∷◌, ◌++◌, take, length, slice_get, slice_set, Option, Some, None, Result, Ok, Err, ◌⊎◌}
 use Rattle.cql_syntax.specs.declared.token.Token.{Token}
 use Rattle.cql_syntax.specs.declared.token.Token.TheVariants as t
 use Rattle.cql_syntax.specs.declared.token.Lexeme.{Lexeme}
@@ -88,17 +88,13 @@ number_in (Some l) = number_at l.at l.token
 unfoldable pub number_before : List Lexeme → ℕ → Option ℕ
 number_before ls left = if nat_lt 0 left && nat_lt left (length ls) then number_in (slice_get ls (length ls - left - 1)) else None
 
-abbrev pub is_empty : Tokens → Bool
-is_empty [] = true
-is_empty (x ∷ ts) = false
-
 abbrev pub left_of : Outcome Query → Tokens
 left_of (Ok p) = p.1
 left_of (Err rest) = rest
 
 -- the reader comes to the end of the tokens
 unfoldable pub goes_on : Tokens → Bool
-goes_on ts = is_empty (left_of (query ts))
+goes_on ts = length (left_of (query ts)) == 0
 
 -- the tokens up to the first of the last `left`, with 1 as the one before that
 unfoldable pub with_one : List Lexeme → ℕ → ℕ → List Lexeme

@@ -9,9 +9,6 @@ mod expression;
 mod item;
 mod query;
 mod reader;
-#[cfg(test)]
-mod tests;
 mod window;
 
-pub use cql_syntax::{syntax, token};
 pub use reader::{ReadError, Syntax, read, read_law};

@@ -1,12 +1,14 @@
 -- The items of a shape.
 use Rattle.std.specs.Prelude.{ℕ, ℤ, pos, ◌+ℤ◌, ◌*ℤ◌, List, [], ◌∷◌, map, filter, Option, Some, None, Bool, true, false, not, ◌&&◌, if◌then◌else◌, slice_get}
+use Rattle.std.specs.List.{list_any}
 use Rattle.std.specs.Ordering.{is_eq, is_lt, is_gt}
 use Rattle.cql_value.specs.Order.{row_cmp, value_cmp}
 use Rattle.cql_value.specs.declared.value.Value.{Value}
 use Rattle.cql_value.specs.declared.value.Value.TheVariants.{Number}
 use Rattle.cql_bag.specs.Bag.{Counts, put_all, size_of}
 use Rattle.cql_plan.specs.Expr.{expr_value, within}
-use Rattle.cql_plan.specs.Fit.{is_empty, some_are, is_grouped}
+use Rattle.cql_plan.specs.Typing.{is_empty}
+use Rattle.cql_plan.specs.Fit.{is_grouped}
 use Rattle.cql_plan.specs.declared.node.Shape.{Shape}
 use Rattle.cql_plan.specs.declared.node.Item.{Item}
 use Rattle.cql_plan.specs.declared.node.Item.TheVariants as i
@@ -59,7 +61,7 @@ is_count i.Count = true
 is_count _ = false
 
 abbrev pub all_are : (Item → Bool) → List Item → Bool
-all_are p items = not (some_are (λ x. not (p x)) items)
+all_are p items = not (list_any (λ x. not (p x)) items)
 
 -- the numbers of a column, each as often as its row counts, added up exactly
 abbrev pub share : ℕ → Option Value → ℤ

@@ -1,5 +1,5 @@
 // What a query computes.
-use cql_plan::plan::Plan as Typed;
+use cql_plan::Plan as Typed;
 use cql_value::{Name, Text};
 use cql_window::Window;
 
@@ -12,7 +12,7 @@ pub enum OutputKind {
 
 /// A query: what its typing plans and its canonical text; and of a query that is served the window
 /// through which it looks at a stream of the tenant's own, and what it tells.
-#[derive(Debug, Drop)]
+#[derive(Drop)]
 pub struct Plan {
     pub typed: Typed,
     pub text: Text,

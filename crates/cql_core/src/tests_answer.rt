@@ -1,8 +1,6 @@
 use crate::evaluate::answer;
 use crate::{Answer, Output, OutputKind, Pin, Plan};
-use cql_plan::lookup::Lookup;
-use cql_plan::plan::Plan as Typed;
-use cql_plan::resolve;
+use cql_plan::{Lookup, Plan as Typed, resolve};
 use cql_text::read;
 use cql_value::{Column, ColumnType, Name, Row, Schema, Text, Timed, Value};
 use cql_window::Window;

@@ -1,6 +1,6 @@
 -- How many inputs a plan has.
-use Rattle.std.proofs.Common.{◌≡◌, ◌≤◌, suc, ◌+◌, List, [], ◌∷◌, ◌++◌, length, refl, ap, ◌∙◌, subst, arith, inl, inr}
-use Rattle.std.specs.Prelude.{Option, Some, None, IfSome, Ok, Err, Bool}
+use Rattle.std.proofs.Common.{◌≡◌, ◌≤◌, suc, ◌+◌, List, [], ◌∷◌, ◌++◌, length, ap, ◌∙◌, subst, arith, inl, inr}
+use Rattle.std.specs.Prelude.{Option, Some, None, IfSome, Ok, Bool}
 use Rattle.std.proofs.lemmas.List.{length-append, length-map}
 use Rattle.cql_syntax.specs.declared.syntax.Input.{Input}
 use Rattle.cql_syntax.specs.declared.syntax.SelectBlock.{SelectBlock}

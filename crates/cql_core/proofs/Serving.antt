@@ -12,8 +12,8 @@ use Rattle.cql_value.specs.declared.value.Value.{Value}
 use Rattle.cql_value.specs.declared.schema.Column.{Column}
 use Rattle.cql_core.specs.declared.plan.Plan.{Plan}
 use Rattle.cql_core.specs.declared.tenants.Quotas.{Quotas}
-use Rattle.cql_plan.specs.declared.error.PlanError.{PlanError}
-use Rattle.cql_plan.specs.declared.error.PlanError.TheVariants as fault
+use Rattle.cql_plan.specs.declared.error.PlanFault.{PlanFault}
+use Rattle.cql_plan.specs.declared.error.PlanFault.TheVariants as fault
 use Rattle.cql_plan.specs.declared.plan.Planned.{Planned}
 use Rattle.cql_plan.specs.Sources.{Readable}
 use Rattle.cql_plan.specs.Typing.{typing}
@@ -116,14 +116,13 @@ plan_has : (plan : Option Plan) (opened : Option ℕ) → is_no_memory (plan_tol
 plan_has None opened = refl
 plan_has (Some plan) opened = base_has opened
 
-error_has : (error : PlanError) (opened : Option ℕ) → is_no_memory (plan_told (Err (refusal_of error)) opened) ≡ false
+error_has : (error : PlanFault) (opened : Option ℕ) → is_no_memory (plan_told (Err (refusal_of error)) opened) ≡ false
 error_has fault.UnknownStream opened = refl
 error_has fault.UnknownColumn opened = refl
 error_has fault.AmbiguousColumn opened = refl
 error_has fault.TypeMismatch opened = refl
-error_has fault.NoMemory opened = refl
 
-typed_has : (q : Written) (r : Result Planned PlanError) (opened : Option ℕ) → is_no_memory (plan_told (typed_as q (or_refusal r)) opened) ≡ false
+typed_has : (q : Written) (r : Result Planned PlanFault) (opened : Option ℕ) → is_no_memory (plan_told (typed_as q (or_refusal r)) opened) ≡ false
 typed_has q (Err error) opened = error_has error opened
 typed_has q (Ok typed) opened = plan_has (served_plan typed q) opened
 

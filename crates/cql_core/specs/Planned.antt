@@ -12,8 +12,8 @@ use Rattle.cql_syntax.specs.declared.syntax.SelectBlock.{SelectBlock}
 use Rattle.cql_syntax.specs.declared.syntax.Query.{Query}
 use Rattle.cql_text.specs.Read.{read_of}
 use Rattle.cql_syntax.specs.Spelling.{canonical}
-use Rattle.cql_plan.specs.declared.error.PlanError.{PlanError}
-use Rattle.cql_plan.specs.declared.error.PlanError.TheVariants as fault
+use Rattle.cql_plan.specs.declared.error.PlanFault.{PlanFault}
+use Rattle.cql_plan.specs.declared.error.PlanFault.TheVariants as fault
 use Rattle.cql_plan.specs.declared.plan.Planned.{Planned}
 use Rattle.cql_plan.specs.Sources.{Readable}
 use Rattle.cql_plan.specs.Typing.{typing}
@@ -85,19 +85,18 @@ plan_with typed q input ticks = record { typed = typed; text = canonical q; stre
 abbrev pub served_plan : Planned → Query → Option Plan
 served_plan typed q = option_and_then (λ input. option_map (plan_with typed q input) (plain_range input.window)) (served_input q)
 
--- the refusal that a fault of the typing is; the typing never wants memory
-abbrev pub refusal_of : PlanError → Refusal
+-- the refusal that a fault of the typing is
+abbrev pub refusal_of : PlanFault → Refusal
 refusal_of fault.UnknownStream = UnknownStream
 refusal_of fault.UnknownColumn = UnknownColumn
 refusal_of fault.AmbiguousColumn = AmbiguousColumn
 refusal_of fault.TypeMismatch = TypeMismatch
-refusal_of fault.NoMemory = TypeMismatch
 
 abbrev pub or_not_yet : Option Plan → Result Plan Refusal
 or_not_yet None = Err NotYet
 or_not_yet (Some plan) = Ok plan
 
-abbrev pub or_refusal : Result Planned PlanError → Result Planned Refusal
+abbrev pub or_refusal : Result Planned PlanFault → Result Planned Refusal
 or_refusal (Err error) = Err (refusal_of error)
 or_refusal (Ok typed) = Ok typed
 

@@ -1,5 +1,5 @@
 // What a query computes.
-use cql_plan::plan::Plan as Typed;
+use cql_plan::Plan as Typed;
 use cql_value::{Name, Text};
 use cql_window::Window;
 

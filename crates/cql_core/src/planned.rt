@@ -1,5 +1,5 @@
 // The plan of a query, where it is served.
-ghost use Rattle.std.specs.Prelude.{◌≡◌, ◌≢◌, IfOk, option_copied};
+ghost use Rattle.std.specs.Prelude.{◌≡◌, IfOk, option_copied};
 ghost use Rattle.cql_plan.specs.Typing.{typing};
 ghost use Rattle.cql_core.specs.Planned.{is_own, schema_in, plain_range, plain_input, served_input, served_plan, refusal_of, or_refusal, planned};
 ghost use Rattle.cql_core.specs.Named.{each};
@@ -9,10 +9,7 @@ use crate::plan::{OutputKind, Plan};
 use crate::refusal::Refusal;
 use crate::shared::Shared;
 use crate::state::Home;
-use cql_plan::error::PlanError;
-use cql_plan::lookup::Lookup;
-use cql_plan::plan::Plan as Typed;
-use cql_plan::resolve;
+use cql_plan::{Lookup, Plan as Typed, PlanError, PlanFault, resolve};
 use cql_syntax::syntax::{Input, Query, SelectBlock, Selection, StreamOperator, WrittenWindow};
 use cql_text::Syntax;
 use cql_value::{Schema, Text};
@@ -118,16 +115,15 @@ fn served_plan(alloc: Global, typed: Typed, syntax: &Syntax) -> Result<Option<Pl
     }))
 }
 
-// The refusal that a fault of the typing is, unless memory ran out.
-fn refusal_of(error: PlanError) -> Result<Refusal, AllocError>
-    ensures { IfOk result (λ refusal. (refusal ≡ refusal_of error) × (error ≢ PlanError.NoMemory)) }
+// The refusal that a fault of the typing is.
+fn refusal_of(fault: PlanFault) -> Refusal
+    ensures { result ≡ refusal_of fault }
 {
-    match error {
-        PlanError::UnknownStream => Ok(Refusal::UnknownStream),
-        PlanError::UnknownColumn => Ok(Refusal::UnknownColumn),
-        PlanError::AmbiguousColumn => Ok(Refusal::AmbiguousColumn),
-        PlanError::TypeMismatch => Ok(Refusal::TypeMismatch),
-        PlanError::NoMemory => Err(AllocError),
+    match fault {
+        PlanFault::UnknownStream => Refusal::UnknownStream,
+        PlanFault::UnknownColumn => Refusal::UnknownColumn,
+        PlanFault::AmbiguousColumn => Refusal::AmbiguousColumn,
+        PlanFault::TypeMismatch => Refusal::TypeMismatch,
     }
 }
 
@@ -137,7 +133,8 @@ fn typed(alloc: Global, home: &Home, syntax: &Syntax) -> Result<Result<Typed, Re
 {
     match resolve(alloc, syntax, &Reader { home }) {
         Ok(typed) => Ok(Ok(typed)),
-        Err(error) => Ok(Err(refusal_of(error)?)),
+        Err(PlanError::Refused(fault)) => Ok(Err(refusal_of(fault))),
+        Err(PlanError::NoMemory) => Err(AllocError),
     }
 }
 

@@ -37,3 +37,8 @@ pub ends : {A B : Type 0} (check : A → Outcome B) (xs : List A) (i : ℕ) (fro
     → each check xs ≡ after front (each check (drop i xs)) → each check xs ≡ Ok front
 unfolding each
 ends check xs i front past so = so ∙ ap (λ l. after front (each check l)) (drop_all i xs past) ∙ ap (λ l. Ok l) (append-nil front)
+
+-- what comes behind a check that passed
+pub passes : {A B : Type 0} (outcome : Outcome A) (next : A → Outcome B) (b : B) → (outcome >>= next) ≡ Ok b → (a : A) × (outcome ≡ Ok a) × (next a ≡ Ok b)
+passes (Ok a) next b so = (a, refl, so)
+passes (Err e) next b so = absurd (cc)

@@ -1,6 +1,6 @@
 -- How many inputs a plan has.
-use Rattle.std.proofs.Common.{◌≡◌, ◌≤◌, suc, ◌+◌, List, [], ◌∷◌, ◌++◌, length, refl, ap, ◌∙◌, subst, arith, inl, inr}
-use Rattle.std.specs.Prelude.{Option, Some, None, IfSome, Ok, Err, Bool}
+use Rattle.std.proofs.Common.{◌≡◌, ◌≤◌, suc, ◌+◌, List, [], ◌∷◌, ◌++◌, length, ap, ◌∙◌, subst, arith, inl, inr}
+use Rattle.std.specs.Prelude.{Option, Some, None, IfSome, Ok, Bool}
 use Rattle.std.proofs.lemmas.List.{length-append, length-map}
 use Rattle.cql_syntax.specs.declared.syntax.Input.{Input}
 use Rattle.cql_syntax.specs.declared.syntax.SelectBlock.{SelectBlock}
@@ -20,6 +20,7 @@ use Rattle.cql_plan.specs.Outcome.{Outcome, ◌>>=◌, unless, each}
 use Rattle.cql_plan.specs.Plan.{IsFew}
 use Rattle.cql_plan.specs.Sources.{Readable, source_of, are_apart, joined_row, inputs_of}
 use Rattle.cql_plan.specs.Typing.{typing, with_second, block_of, body_of, where_of, group_of, items_of, is_grouped, join_of, checked_of, output_of, same_kinds, alone, combined}
+use Rattle.cql_plan.proofs.Each.{passes}
 
 -- ---- written inputs
 
@@ -82,11 +83,6 @@ syntax_few : (query : Query) → IsSyntax query → QueryFew query
 syntax_few query (ts, is) = query_few ts query [] is
 
 -- ---- planned inputs
-
--- what comes behind a check that passed
-pub passes : {A B : Type 0} (outcome : Outcome A) (next : A → Outcome B) (b : B) → (outcome >>= next) ≡ Ok b → (a : A) × (outcome ≡ Ok a) × (next a ≡ Ok b)
-passes (Ok a) next b so = (a, refl, so)
-passes (Err e) next b so = absurd (cc)
 
 each_length : {A B : Type 0} (check : A → Outcome B) (xs : List A) (ys : List B) → each check xs ≡ Ok ys → length ys ≡ length xs
 unfolding each

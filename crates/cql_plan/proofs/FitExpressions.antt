@@ -1,5 +1,5 @@
 -- What typing gives has the types that it says.
-use Rattle.std.proofs.Common.{◌≡◌, ℕ, zero, suc, ◌+◌, ◌<◌, ◌==◌, List, [], ◌∷◌, length, Bool, true, false, ◌&&◌, ◌||◌, if◌then◌else◌, ◌⊎◌, inl, inr, Option, Some, Ok, Err, slice_get, refl, sym, ap, ◌∙◌, subst, arith}
+use Rattle.std.proofs.Common.{◌≡◌, ℕ, zero, suc, ◌+◌, ◌<◌, ◌==◌, List, [], ◌∷◌, length, Bool, true, false, ◌&&◌, ◌||◌, if◌then◌else◌, ◌⊎◌, inl, inr, Option, Some, Ok, slice_get, refl, sym, ap, ◌∙◌, subst, arith}
 use Rattle.std.specs.List.{AllZip, Contains, list_any, slice_index_or}
 use Rattle.std.proofs.lemmas.Bool.Decides.{nat_tests}
 use Rattle.cql_value.specs.declared.schema.ColumnType.{ColumnType}
@@ -24,6 +24,7 @@ use Rattle.cql_plan.specs.Outcome.{Outcome, ◌>>=◌, ◌>>◌, unless, each}
 use Rattle.cql_plan.specs.Columns.{kinds_of, may_mean, meant, the_one, column_named, column_of}
 use Rattle.cql_plan.specs.Typing.{same_kind, value_of, kind_of, operated, expression_step, expression_of, among_step, is_among}
 use Rattle.cql_plan.specs.Fit.{type_of, number_type, type_step, expr_type}
+use Rattle.cql_plan.proofs.Each.{passes}
 
 -- ---- elements
 
@@ -45,10 +46,6 @@ cases {A} y x xs c = at c.0 c.1 c.2
 
 -- ---- checks one after another
 
-pub bound : {A B : Type 0} (m : Outcome A) (f : A → Outcome B) (y : B) → (m >>= f) ≡ Ok y → (x : A) × (m ≡ Ok x) × (f x ≡ Ok y)
-bound (Ok x) f y h = (x, refl, h)
-bound (Err e) f y h = absurd cc
-
 pub passed : {B : Type 0} (b : Bool) (fault : PlanFault) (rest : Outcome B) (y : B) → (unless b fault >> rest) ≡ Ok y → (b ≡ true) × (rest ≡ Ok y)
 passed true fault rest y h = (refl, h)
 passed false fault rest y h = absurd cc
@@ -61,8 +58,8 @@ unfolding each
 each_ok check [] [] h = tt
 each_ok check [] (y ∷ ys) h = absurd cc
 each_ok check (x ∷ xs) ys h =
-    let a = bound (check x) (λ y. each check xs >>= (λ ys. Ok (y ∷ ys))) ys h in
-    let b = bound (each check xs) (λ zs. Ok (a.0 ∷ zs)) ys a.2 in
+    let a = passes (check x) (λ y. each check xs >>= (λ ys. Ok (y ∷ ys))) ys h in
+    let b = passes (each check xs) (λ zs. Ok (a.0 ∷ zs)) ys a.2 in
     subst (AllZip (λ x y. check x ≡ Ok y) (x ∷ xs)) (ok_is (a.0 ∷ b.0) ys b.2) (a.1, each_ok check xs b.0 b.1)
 
 pub both : (a b : Bool) → (a && b) ≡ true → (a ≡ true) × (b ≡ true)
@@ -138,13 +135,13 @@ level : (fields : List Field) (y : Expression-F ((x : Expression) × IsTypedAs f
 level fields (Expression-F.Constant written) t h =
     subst (λ t. expr_type (kinds_of fields) t.expr ≡ Some t.kind) (ok_is (record { expr = e.Constant (value_of written); kind = kind_of written }) t h) (constant_type (kinds_of fields) written)
 level fields (Expression-F.Column written) t h =
-    let b = bound (column_of fields written) (λ found. Ok (record { expr = e.Column found.place; kind = found.kind })) t h in
+    let b = passes (column_of fields written) (λ found. Ok (record { expr = e.Column found.place; kind = found.kind })) t h in
     let f = b.0 in
     subst (λ t. expr_type (kinds_of fields) t.expr ≡ Some t.kind) (ok_is (record { expr = e.Column f.place; kind = f.kind }) t b.2) (column_type (kinds_of fields) f.place ∙ column_found fields written f b.1)
 level fields (Expression-F.Bracket inner) t h = inner.1 t h
 level fields (Expression-F.Binary op left right) t h =
-    let a = bound (expression_of fields left.0) (λ l. expression_of fields right.0 >>= (λ r. operated op l r)) t h in
-    let b = bound (expression_of fields right.0) (λ r. operated op a.0 r) t a.2 in
+    let a = passes (expression_of fields left.0) (λ l. expression_of fields right.0 >>= (λ r. operated op l r)) t h in
+    let b = passes (expression_of fields right.0) (λ r. operated op a.0 r) t a.2 in
     operation_typed fields op a.0 b.0 t (left.1 a.0 a.1) (right.1 b.0 b.1) b.2
 
 -- what an expression is given as its type is its type

@@ -30,7 +30,8 @@ use Rattle.cql_plan.specs.Columns.{kinds_of, column_of}
 use Rattle.cql_plan.specs.Sources.{Readable, source_of, are_apart, joined_row, ports_of, inputs_of}
 use Rattle.cql_plan.specs.Typing.{same_kind, same_kinds, expression_of, group_of, is_among, is_column, is_grouped_by, function_of, aggregate_of, shown_of, item_of, all_items, items_of, is_aggregate as is_written_aggregate, has_aggregate, is_empty, is_grouped as is_written_grouped, where_of, shown_in, join_of, checked_of, body_of, block_of, output_of, alone, combined, with_second, typing}
 use Rattle.cql_plan.specs.Fit.{is_aggregate, HasColumn, IsTypedItem, IsGroupedItem, all_columns, IsTypedBlock, IsFitLaw}
-use Rattle.cql_plan.proofs.FitExpressions.{bound, passed, ok_is, each_ok, both, column_found, column_type, is_number, expression_typed, among}
+use Rattle.cql_plan.proofs.Each.{passes}
+use Rattle.cql_plan.proofs.FitExpressions.{passed, ok_is, each_ok, both, column_found, column_type, is_number, expression_typed, among}
 
 -- ---- items
 
@@ -66,10 +67,10 @@ unfolding shown_of aggregate_of
 item_fits fields grouped groups (shown.Aggregate aggregate.Count) t h =
     subst (FitsAs fields grouped groups false) (ok_is (record { item = i.Count; kind = Number }) t h) (record { typed = tt; allowed = λ g. tt; same = λ p. absurd cc })
 item_fits fields grouped groups (shown.Aggregate (aggregate.Over function column)) t h =
-    let b = bound (column_of fields column) (λ found. function_of function found) t h in
+    let b = passes (column_of fields column) (λ found. function_of function found) t h in
     over fields grouped groups function b.0 t (column_found fields column b.0 b.1) b.2
 item_fits fields grouped groups (shown.Expression x) t h =
-    let b = bound (expression_of fields x) (λ typed. unless (not grouped || is_grouped_by groups x typed.expr) _ >> Ok (record { item = i.Value typed.expr; kind = typed.kind })) t h in
+    let b = passes (expression_of fields x) (λ typed. unless (not grouped || is_grouped_by groups x typed.expr) _ >> Ok (record { item = i.Value typed.expr; kind = typed.kind })) t h in
     let typed = b.0 in
     let made : TypedItem = record { item = i.Value typed.expr; kind = typed.kind } in
     let done = passed (not grouped || is_grouped_by groups x typed.expr) _ (Ok made) t b.2 in
@@ -147,7 +148,7 @@ groups_fit fields [] [] zip = tt
 groups_fit fields [] (g ∷ groups) zip = absurd zip
 groups_fit fields (x ∷ written) [] zip = absurd zip
 groups_fit fields (x ∷ written) (g ∷ groups) zip =
-    let b = bound (column_of fields x) (λ found. Ok found.place) g zip.0 in
+    let b = passes (column_of fields x) (λ found. Ok found.place) g zip.0 in
     let f = b.0 in
     (subst (HasColumn (kinds_of fields)) (ok_is f.place g b.2) (f.kind, column_found fields x f b.1), groups_fit fields written groups zip.1)
 
@@ -190,10 +191,10 @@ unfolding body_of
 body_typed sources block c h =
     let fields = joined_row sources in
     let grouped = is_written_grouped block in
-    let w = bound (where_of fields block.condition) (λ condition. each (group_of fields) block.groups >>= (λ groups. items_of fields grouped groups block.selection >>= (λ items. Ok (checked_of block.distinct (inputs_of sources) (join_of sources condition) fields groups items)))) c h in
-    let g = bound (each (group_of fields) block.groups) (λ groups. items_of fields grouped groups block.selection >>= (λ items. Ok (checked_of block.distinct (inputs_of sources) (join_of sources w.0) fields groups items))) c w.2 in
+    let w = passes (where_of fields block.condition) (λ condition. each (group_of fields) block.groups >>= (λ groups. items_of fields grouped groups block.selection >>= (λ items. Ok (checked_of block.distinct (inputs_of sources) (join_of sources condition) fields groups items)))) c h in
+    let g = passes (each (group_of fields) block.groups) (λ groups. items_of fields grouped groups block.selection >>= (λ items. Ok (checked_of block.distinct (inputs_of sources) (join_of sources w.0) fields groups items))) c w.2 in
     let groups = g.0 in
-    let n = bound (items_of fields grouped groups block.selection) (λ items. Ok (checked_of block.distinct (inputs_of sources) (join_of sources w.0) fields groups items)) c g.2 in
+    let n = passes (items_of fields grouped groups block.selection) (λ items. Ok (checked_of block.distinct (inputs_of sources) (join_of sources w.0) fields groups items)) c g.2 in
     let zip = each_ok (group_of fields) block.groups groups g.1 in
     let fit = selection_fits fields grouped groups block.selection n.0 n.1 in
     subst IsTypedChecked (ok_is (checked_of block.distinct (inputs_of sources) (join_of sources w.0) fields groups n.0) c n.2) (record {
@@ -212,7 +213,7 @@ body_typed sources block c h =
 block_typed : (readable : Readable) (block : SelectBlock) (c : Checked) → block_of readable block ≡ Ok c → IsTypedChecked c
 unfolding block_of
 block_typed readable block c h =
-    let s = bound (each (source_of readable) block.inputs) (λ sources. unless (are_apart sources) _ >> body_of sources block) c h in
+    let s = passes (each (source_of readable) block.inputs) (λ sources. unless (are_apart sources) _ >> body_of sources block) c h in
     body_typed s.0 block c (passed (are_apart s.0) _ (body_of s.0 block) c s.2).1
 
 -- ---- queries
@@ -224,7 +225,7 @@ second_typed : (readable : Readable) (output : OutputKind) (first : Checked) (wr
 unfolding with_second
 second_typed readable output first None plan typed h = subst IsTypedPlan (ok_is (alone output first) plan h) (typed, tt)
 second_typed readable output first (Some written) plan typed h =
-    let b = bound (block_of readable written.block) (λ second. unless (same_kinds first.kinds second.kinds) _ >> Ok (combined output written.operator first second)) plan h in
+    let b = passes (block_of readable written.block) (λ second. unless (same_kinds first.kinds second.kinds) _ >> Ok (combined output written.operator first second)) plan h in
     let second = b.0 in
     let done = passed (same_kinds first.kinds second.kinds) _ (Ok (combined output written.operator first second)) plan b.2 in
     subst IsTypedPlan (ok_is (combined output written.operator first second) plan done.1) (typed, block_typed readable written.block second b.1)
@@ -232,5 +233,5 @@ second_typed readable output first (Some written) plan typed h =
 pub fit_law : IsFitLaw
 unfolding typing
 fit_law readable query plan h =
-    let b = bound (block_of readable query.first) (λ first. with_second readable (output_of query.output) first query.second) plan h in
+    let b = passes (block_of readable query.first) (λ first. with_second readable (output_of query.output) first query.second) plan h in
     second_typed readable (output_of query.output) b.0 query.second plan (block_typed readable query.first b.0 b.1) b.2

@@ -16,7 +16,7 @@ use Rattle.cql_plan.specs.Outcome.{Outcome, ◌>>=◌, each}
 use Rattle.cql_plan.specs.Columns.{fields_of, may_mean, meant, the_one, column_named}
 use Rattle.cql_plan.specs.Sources.{Readable, alias_of, window_of, source_with, source_of, are_apart, joined_row}
 use Rattle.cql_plan.specs.Law.{AreSchemas, IsQualifiedLaw}
-use Rattle.cql_plan.proofs.Few.{passes}
+use Rattle.cql_plan.proofs.Each.{passes}
 
 -- ---- tests
 

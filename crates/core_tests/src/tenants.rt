@@ -1,5 +1,5 @@
 // Tables of tenants, and the one refusal that no command can be brought to.
-use cql_core::{BadTenants, Quotas, Refusal, Tenant, TenantTable};
+use cql_core::{Quotas, Refusal, Tenant, TenantTable};
 use cql_value::{Name, Text};
 use std::alloc::Global;
 use std::test::Fail;
@@ -42,16 +42,6 @@ fn finds(rt: HostRuntime) -> Result<(), Fail> {
             .all(|(name, is_there)| table.find(name).is_some() == *is_there)
     );
     assert!(rt; table.find("a") != table.find("b"));
-    Ok(())
-}
-
-// It shows itself as its text, which no line tells.
-#[test]
-fn bad_tenants(rt: HostRuntime) -> Result<(), Fail> {
-    assert_eq!(rt;
-        format!(in rt.alloc(); "{BadTenants}")?.as_str(),
-        "bad tenants"
-    );
     Ok(())
 }
 

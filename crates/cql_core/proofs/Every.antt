@@ -1,6 +1,7 @@
 -- The blocks of any outputs.
-use Rattle.std.proofs.Common.{◌≡◌, ℕ, zero, suc, ◌+◌, ◌-◌, ◌≤◌, ◌<◌, ◌==◌, ◌&&◌, List, [], ◌∷◌, ◌++◌, length, Bool, true, false, refl, sym, ap, ◌∙◌, subst, arith}
+use Rattle.std.proofs.Common.{◌≡◌, ℕ, zero, suc, ◌+◌, ◌-◌, ◌≤◌, ◌<◌, ◌==◌, ◌&&◌, List, [], ◌∷◌, ◌++◌, length, true, false, refl, sym, ap, ◌∙◌, subst, arith}
 use Rattle.std.specs.Prelude.{if◌then◌else◌}
+use Rattle.std.proofs.lemmas.Bool.{and_parts}
 use Rattle.std.proofs.lemmas.Bool.Decides.{nat_tests}
 use Rattle.std.specs.Ordering.{is_eq}
 use Rattle.cql_value.specs.Order.{row_cmp}
@@ -15,17 +16,12 @@ use Rattle.cql_core.proofs.Blocks.{blocks_from, are_unique}
 use Rattle.cql_core.proofs.Ties.{tied, ties_itself}
 use Rattle.cql_core.proofs.Extend.{extends_empty, extends_last, extends_new}
 
-both : (a b : Bool) → (a && b) ≡ true → (a ≡ true) × (b ≡ true)
-both true true h = (refl, refl)
-both true false h = absurd cc
-both false b h = absurd cc
-
 same_rows-equal : (a b : List (List Value)) → same_rows a b ≡ true → a ≡ b
 same_rows-equal [] [] h = refl
 same_rows-equal [] (b ∷ bs) h = absurd cc
 same_rows-equal (a ∷ as') [] h = absurd cc
 same_rows-equal (a ∷ as') (b ∷ bs) h =
-    let e = both (is_eq (row_cmp a b)) (same_rows as' bs) h in (λ i. tied a b e.0 i ∷ same_rows-equal as' bs e.1 i)
+    let e = and_parts (is_eq (row_cmp a b)) (same_rows as' bs) h in (λ i. tied a b e.0 i ∷ same_rows-equal as' bs e.1 i)
 
 rows_themselves : (a : List (List Value)) → same_rows a a ≡ true
 rows_themselves [] = refl
@@ -71,7 +67,7 @@ joins new [] = more (λ (front, b, same, at, is). nil_is_no_end front b same) re
 joins new (b ∷ []) =
     elim (b.to + 1 == new.from && same_output b.output new.output) as (λ t. (b.to + 1 == new.from && same_output b.output new.output) ≡ t → Joins new (b ∷ [])) [
       | true ↦ λ h.
-          let e = both (b.to + 1 == new.from) (same_output b.output new.output) h in
+          let e = and_parts (b.to + 1 == new.from) (same_output b.output new.output) h in
           longer [] b refl (let f = e.0 in grind (arith, nat_tests)) (output_same b.output new.output e.1) (ap (λ t. if t then record b { to = new.to } ∷ [] else b ∷ new ∷ []) h)
       | false ↦ λ h.
           more (λ (front, d, same, at, is).

@@ -4,7 +4,7 @@ use Rattle.std.proofs.Math.Nat.{mod_self, mod-eq_of_lt, lt_of_mul-lt-mul_right, 
 use Rattle.std.specs.Int.{next_multiple_of}
 use Rattle.std.specs.List.{All, AllByRecursion, Contains, filter, prefix_len}
 use Rattle.std.specs.List.Sorted.{IsPermutation}
-use Rattle.std.proofs.lemmas.Bool.{cases_eq, cases_lt}
+use Rattle.std.proofs.lemmas.Bool.{and_parts, cases_eq, cases_lt}
 use Rattle.std.proofs.lemmas.Bool.Decides.{nat_tests}
 use Rattle.std.proofs.lemmas.List.Sorted.{Contains-permutation, All-permutation}
 use Rattle.std.proofs.lemmas.List.Elements.{All-weaker, filter_passes}
@@ -180,8 +180,3 @@ pub all_within : (from to : ℕ) (xs v : List ℕ) → IsPermutation (filter (is
 all_within from to xs v moved =
     All-permutation (λ t. (from ≤ t) × (t < to)) (filter (is_within from to) xs) v moved
     (All-weaker (λ t. is_within from to t ≡ true) (λ t. (from ≤ t) × (t < to)) (λ t h. let both = and_parts (nat_le from t) (nat_lt t to) h in let a = both.0 in let b = both.1 in (grind (arith, nat_tests), grind (arith, nat_tests))) _ (filter_passes (is_within from to) xs))
-  where
-    and_parts : (a b : Bool) → (a && b) ≡ true → (a ≡ true) × (b ≡ true)
-    and_parts true true h = (refl, refl)
-    and_parts true false h = absurd cc
-    and_parts false b h = absurd cc

@@ -14,7 +14,7 @@ use Rattle.cql_core.specs.Told.{Told, Refused, is_accepted}
 use Rattle.cql_core.specs.Checks.{base_told, query_told}
 use Rattle.cql_core.specs.Named.{same_name, find_named}
 use Rattle.cql_core.specs.View.{Seen, Own}
-use Rattle.cql_core.specs.Solo.{Asked, Known, nothing_known, readable_in, opened_in, own_meant, meant, joined_rows, new_asked, with_asked, known_done, known_after, known_from}
+use Rattle.cql_core.specs.Solo.{Asked, Known, nothing_known, readable_in, own_meant, meant, joined_rows, new_asked, with_asked, known_done, known_after, known_from}
 use Rattle.cql_core.specs.Law.{element_of, elements_accepted, IsQueryLaw}
 use Rattle.cql_core.proofs.Finds.{find_each_named, find_keep, find_new}
 

@@ -1,7 +1,6 @@
 -- The columns of streams, seen through their clocks.
-use Rattle.std.proofs.Common.{◌≡◌, ℕ, List, refl, ap, ◌∙◌, sym}
+use Rattle.std.proofs.Common.{◌≡◌, ℕ, List, refl, ap, ◌∙◌}
 use Rattle.std.specs.Prelude.{Option, Some, None, option_map}
-use Rattle.cql_value.specs.declared.schema.Column.{Column}
 use Rattle.cql_core.specs.declared.state.StreamState.{StreamState}
 use Rattle.cql_core.specs.Checks.{Clocked}
 use Rattle.cql_core.specs.Named.{Named, find_named, each}

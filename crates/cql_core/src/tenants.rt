@@ -98,7 +98,7 @@ impl Model for TenantTable {
 }
 
 /// The tenants aren't 1 to 256 with distinct names, or a key or a quota is out of its range.
-#[derive(Clone, Copy, Debug, PartialEq, Eq, Drop, Error)]
+#[derive(Debug, Drop, Error)]
 #[error("bad tenants")]
 pub struct BadTenants;
 

@@ -1,4 +1,4 @@
-use Rattle.std.proofs.Common.{sym, ◌∙◌}
+use Rattle.std.proofs.Common.{sym, ◌∙◌, rules}
 use Rattle.cql_core.proofs.Registers.{has_plan, registered, unplanned, sourceless}
 use Rattle.cql_core.proofs.steps.register.Goals as goal
 
@@ -32,3 +32,6 @@ returns-clause-state c =
     let has = has_plan c.args.home.now c.args.name.now c.args.text.now c.in-Ok.syntax c.in-Ok-2.plan (sym c.requires ∙ c.in-Ok.is) (sym c.in_ok-plan.ensures ∙ c.in-Ok-2.is) in
     let after = (registered c.args.home.now c.args.queries.now c.args.name.now c.args.text.now c.in-Ok-2.plan c.in-Some.stream.now has c.if-is_taken.ensures (rw c.len.ensures at c.if-len-home.false) c.in-Some.ensures).after in
     cc (c.in_ok-push.ensures.ok, after, c.in_ok-query.ensures, c.in_ok-name.ensures.ok)
+
+pub returns-then-len-home-clause-reply : goal.returns-then-len-home-clause-reply
+returns-then-len-home-clause-reply c = search rules

@@ -1,11 +1,11 @@
 -- Lemmas on the lines that were read so far.
-use Rattle.std.proofs.Common.{◌≡◌, ℕ, Bool, true, false, List, [], ◌∷◌, ◌++◌, Option, Some, None, Result, Ok, Err, refl, sym, ap, ◌∙◌, subst, append_assoc, append-nil, arith, suc, IfSome}
+use Rattle.std.proofs.Common.{◌≡◌, ℕ, Bool, true, false, List, [], ◌∷◌, ◌++◌, Option, Some, None, Result, Ok, Err, refl, sym, ap, ◌∙◌, subst, append_assoc, append-nil, IfSome}
 use Rattle.std.proofs.lemmas.List.Elements.{All-append, All-nil, filter_map-append}
 use Rattle.std.proofs.lemmas.List.Splits.{slice_split_none}
 use Rattle.std.proofs.lemmas.Grind.{flat_map-append}
 use Rattle.std.proofs.KnownBytes.{Consumes-trans, Consumes-nil}
 use Rattle.std.specs.Io.KnownBytes.{Consumes, IsAtEnd, Appends, prepend_known}
-use Rattle.std.specs.List.{All, filter_map, slice_split}
+use Rattle.std.specs.List.{filter_map, slice_split}
 use Rattle.cql_wire.specs.declared.watched.ReadFault.{ReadFault}
 use Rattle.cql_wire.specs.declared.lines.Line.{Line}
 use Rattle.cql_wire.specs.Text.{LineText, is_feed, HasNoFeed, line_found, lines_of, joined, Passed}

@@ -1,29 +1,24 @@
 -- What some tokens are, its canonical spelling is too: names, constants, expressions and conditions.
-use Rattle.std.proofs.Common.{◌≡◌, ◌≤◌, ◌<◌, ◌^◌, ℕ, zero, suc, pos, negsuc, ℤ, nat_lt, nat_le, Bool, true, false, if◌then◌else◌, List, [], ◌∷◌, ◌++◌, Option, Some, None, refl, sym, ap, ◌∙◌, subst, append_assoc, append-nil, ◌⊎◌, inl, inr}
-use Rattle.cql_value.specs.Name.{is_name}
+use Rattle.std.proofs.Common.{◌≡◌, ◌^◌, ℕ, zero, suc, pos, nat_lt, nat_le, Bool, true, false, if◌then◌else◌, List, [], ◌∷◌, ◌++◌, Option, Some, None, refl, sym, ap, ◌∙◌, subst, append_assoc, append-nil, inl, inr}
 use Rattle.cql_syntax.specs.declared.token.Fixed.{Fixed}
 use Rattle.cql_syntax.specs.declared.token.Fixed.TheVariants as k
 use Rattle.cql_syntax.specs.declared.token.Token.{Token}
 use Rattle.cql_syntax.specs.declared.token.Token.TheVariants as t
-use Rattle.cql_syntax.specs.declared.syntax.QualifiedName.{QualifiedName}
 use Rattle.cql_syntax.specs.declared.syntax.Constant.{Constant}
 use Rattle.cql_syntax.specs.declared.syntax.Constant.TheVariants as c
 use Rattle.cql_syntax.specs.declared.syntax.Operation.{Operation}
 use Rattle.cql_syntax.specs.declared.syntax.Operation.TheVariants as o
 use Rattle.cql_syntax.specs.declared.syntax.Expression.{Expression}
 use Rattle.cql_syntax.specs.declared.syntax.Expression.TheVariants as e
-use Rattle.cql_syntax.specs.declared.syntax.Operand.{Operand}
-use Rattle.cql_syntax.specs.declared.syntax.Operand.TheVariants as d
-use Rattle.cql_syntax.specs.declared.syntax.Comparison.{Comparison}
 use Rattle.cql_syntax.specs.declared.syntax.Condition.{Condition}
 use Rattle.cql_syntax.specs.declared.syntax.Condition.TheVariants as b
-use Rattle.cql_syntax.specs.Tokens.{Tokens, sign, joined, same}
+use Rattle.cql_syntax.specs.Tokens.{Tokens, sign, joined}
 use Rattle.cql_text.specs.Meaning.{name_of, qualified, constant_of, negative_of, minus, sum_sign, product_sign, comparison_of}
 use Rattle.cql_text.specs.Rules.{Rule, GoesOn, ends, goes}
 use Rattle.cql_text.specs.Rules as rule
 use Rattle.cql_text.specs.Grammar as grammar
 use Rattle.cql_text.specs.Grammar.{IsName, IsColumn, IsConstant, IsAtom, IsTermOf, IsSumOf, IsFactor, IsExpression, IsOperand, IsComparison, IsBothOf, IsEitherOf, IsPlain, IsCondition}
-use Rattle.cql_syntax.specs.Spelling.{Piece, symbol, call, name, number, text, Pieces, number_tokens, piece_tokens, pieces_tokens, qualified_pieces, spell_name, spell_constant, operation_sign, spell_expression, spell_operand, comparison_sign, spell_condition, following, separated}
+use Rattle.cql_syntax.specs.Spelling.{symbol, Pieces, piece_tokens, pieces_tokens, spell_name, spell_constant, operation_sign, spell_expression, spell_operand, comparison_sign, spell_condition, following, separated}
 use Rattle.cql_text.proofs.Names.{name_is}
 use Rattle.cql_text.proofs.Conditions.{comparison_is, pick}
 use Rattle.cql_text.proofs.Parts.{sign_is}

@@ -1,5 +1,5 @@
 -- What some tokens are, its canonical spelling is too: items, windows, blocks and queries.
-use Rattle.std.proofs.Common.{◌≡◌, ◌≤◌, ◌<◌, ◌^◌, ◌*◌, ℕ, zero, suc, pos, nat_lt, Bool, true, false, ◌&&◌, ◌||◌, ◌==◌, if◌then◌else◌, List, [], ◌∷◌, ◌++◌, Option, Some, None, refl, sym, ap, ◌∙◌, subst, append_assoc, append-nil, ◌⊎◌, inl, inr, arith, codes, mul-suc}
+use Rattle.std.proofs.Common.{◌≡◌, ◌≤◌, ◌<◌, ◌^◌, ◌*◌, ℕ, zero, suc, pos, nat_lt, Bool, true, false, ◌&&◌, ◌==◌, if◌then◌else◌, List, [], ◌∷◌, ◌++◌, Option, Some, None, refl, sym, ap, ◌∙◌, subst, append-nil, inl, inr, arith, codes, mul-suc}
 use Rattle.std.proofs.lemmas.Bool.Decides.{nat_tests}
 use Rattle.cql_value.specs.Name.{is_name}
 use Rattle.cql_syntax.specs.declared.token.Fixed.{Fixed}
@@ -7,20 +7,13 @@ use Rattle.cql_syntax.specs.declared.token.Fixed.TheVariants as k
 use Rattle.cql_syntax.specs.declared.token.Token.{Token}
 use Rattle.cql_syntax.specs.declared.token.Token.TheVariants as t
 use Rattle.cql_syntax.specs.declared.syntax.QualifiedName.{QualifiedName}
-use Rattle.cql_syntax.specs.declared.syntax.Function.{Function}
-use Rattle.cql_syntax.specs.declared.syntax.Aggregate.{Aggregate}
 use Rattle.cql_syntax.specs.declared.syntax.Aggregate.TheVariants as a
-use Rattle.cql_syntax.specs.declared.syntax.Shown.{Shown}
-use Rattle.cql_syntax.specs.declared.syntax.Shown.TheVariants as s
-use Rattle.cql_syntax.specs.declared.syntax.Item.{Item}
 use Rattle.cql_syntax.specs.declared.syntax.Selection.{Selection}
-use Rattle.cql_syntax.specs.declared.syntax.Selection.TheVariants as e
 use Rattle.cql_syntax.specs.declared.syntax.WrittenWindow.{WrittenWindow}
 use Rattle.cql_syntax.specs.declared.syntax.WrittenWindow.TheVariants as w
 use Rattle.cql_syntax.specs.declared.syntax.Input.{Input}
 use Rattle.cql_syntax.specs.declared.syntax.Condition.{Condition}
 use Rattle.cql_syntax.specs.declared.syntax.SelectBlock.{SelectBlock}
-use Rattle.cql_syntax.specs.declared.syntax.SetOperator.{SetOperator}
 use Rattle.cql_syntax.specs.declared.syntax.Second.{Second}
 use Rattle.cql_syntax.specs.declared.syntax.StreamOperator.{StreamOperator}
 use Rattle.cql_syntax.specs.declared.syntax.Query.{Query}
@@ -30,7 +23,7 @@ use Rattle.cql_text.specs.Rules.{Rule}
 use Rattle.cql_text.specs.Rules as rule
 use Rattle.cql_text.specs.Grammar as grammar
 use Rattle.cql_text.specs.Grammar.{IsName, IsColumn, IsExpression, IsCondition, most_levels, IsCount, IsOver, IsShown, IsItem, IsSelection, IsLength, IsRange, IsRows, IsPartition, IsWindow, IsInput, IsInputs, IsRest, IsSelected, IsBlock, IsSecond, IsOuter, IsInner, IsWhole, IsQuery, Spells, query_of}
-use Rattle.cql_syntax.specs.Spelling.{Piece, symbol, call, name, number, text, Pieces, pieces_tokens, spell_name, function_word, spell_aggregate, spell_shown, spell_alias, spell_item, spell_expression, spell_selection, spell_slide, spell_range, spell_plain, spell_partition, spell_window, spell_input, separated, following, spell_condition, spell_where, spell_groups, spell_distinct, spell_block, set_word, spell_second, stream_word, spell_output, spell_blocks, spell_query}
+use Rattle.cql_syntax.specs.Spelling.{symbol, number, Pieces, pieces_tokens, spell_name, function_word, spell_aggregate, spell_shown, spell_alias, spell_item, spell_selection, spell_slide, spell_range, spell_plain, spell_window, spell_input, separated, following, spell_condition, spell_where, spell_groups, spell_distinct, spell_block, set_word, spell_second, stream_word, spell_query}
 use Rattle.cql_text.proofs.ItemLaws.{function_is}
 use Rattle.cql_text.proofs.WindowLaws.{number_facts, number_known}
 use Rattle.cql_text.proofs.BlockLaws.{set_is, stream_is}

@@ -1,5 +1,5 @@
 -- The readers of blocks and queries decide their rules.
-use Rattle.std.proofs.Common.{◌≡◌, ℕ, Bool, true, false, ◌||◌, List, [], ◌∷◌, ◌++◌, Ok, Err, Option, Some, None, refl, sym, ap, ◌∙◌, subst, ◌⊎◌, inl, inr, if◌then◌else◌, is_some}
+use Rattle.std.proofs.Common.{◌≡◌, ℕ, Bool, true, false, ◌||◌, List, ◌∷◌, Option, Some, None, refl, sym, ap, ◌∙◌, subst, inl, inr, is_some}
 use Rattle.cql_syntax.specs.declared.token.Fixed.{Fixed}
 use Rattle.cql_syntax.specs.declared.token.Fixed.TheVariants as k
 use Rattle.cql_syntax.specs.declared.token.Token.{Token}
@@ -16,9 +16,9 @@ use Rattle.cql_syntax.specs.declared.syntax.StreamOperator.{StreamOperator}
 use Rattle.cql_syntax.specs.declared.syntax.StreamOperator.TheVariants as s
 use Rattle.cql_syntax.specs.declared.syntax.Second.{Second}
 use Rattle.cql_syntax.specs.declared.syntax.Query.{Query}
-use Rattle.cql_syntax.specs.Tokens.{Tokens, is, same, knows, sign}
-use Rattle.cql_text.specs.Meaning.{starts_alias, is_word, or_unbounded, or_empty, to_list, set_operator_of, stream_operator_of, unit_of}
-use Rattle.cql_text.specs.Reading.{Parser, expect, eat, token_by, next_is, and_then}
+use Rattle.cql_syntax.specs.Tokens.{is, same, knows, sign}
+use Rattle.cql_text.specs.Meaning.{starts_alias, or_unbounded, or_empty, to_list, set_operator_of, stream_operator_of, unit_of}
+use Rattle.cql_text.specs.Reading.{expect, eat, token_by, next_is}
 use Rattle.cql_text.specs.Rules.{Rule}
 use Rattle.cql_text.specs.Rules as rule
 use Rattle.cql_text.specs.Grammar as grammar
@@ -26,10 +26,10 @@ use Rattle.cql_text.specs.Grammar.{IsName, IsColumn, IsWindow, IsInput, IsInputs
 use Rattle.cql_text.specs.Readers as read
 use Rattle.cql_syntax.specs.Spelling.{set_word, stream_word}
 use Rattle.cql_text.proofs.Laws as law
-use Rattle.cql_text.proofs.Readers.{Reader, Always, pure_reader, word_reader, one_reader, may_reader, optional_reader}
-use Rattle.cql_text.proofs.Parts.{Stops, Narrow, Before, Begins, first, both, both_always, made, pure_at, weaken, anywhere, optional_part, optional_always, list_part, begins_word, begins_then, begins_one, begins_either, before_then, before_optional, before_may, before_begins, before_pure, left_test, right_test, same_test, or_left, or_right}
+use Rattle.cql_text.proofs.Readers.{Reader, Always, pure_reader, word_reader, one_reader, may_reader}
+use Rattle.cql_text.proofs.Parts.{Stops, Narrow, Before, Begins, first, both, both_always, made, pure_at, weaken, anywhere, optional_part, optional_always, list_part, begins_word, begins_then, begins_one, before_then, before_optional, before_may, before_begins, before_pure, left_test, right_test, same_test, or_left, or_right}
 use Rattle.cql_text.proofs.ChoiceReader.{choice_reader}
-use Rattle.cql_text.proofs.Follow.{Test, after_name, after_items, after_length, after_window, after_stream, after_input, after_inputs, after_condition, after_where, after_columns, after_block, after_whole, after_query}
+use Rattle.cql_text.proofs.Follow.{Test, after_name, after_items, after_window, after_stream, after_input, after_inputs, after_condition, after_where, after_columns, after_block, after_whole, after_query}
 use Rattle.cql_text.proofs.Names.{name_reader, begins_name, column_reader, begins_column}
 use Rattle.cql_text.proofs.Conditions.{pick, condition_reader}
 use Rattle.cql_text.proofs.ItemLaws.{selection_reader, begins_selection}

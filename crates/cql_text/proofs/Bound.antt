@@ -2,7 +2,6 @@
 use Rattle.std.proofs.Common.{◌≡◌, ◌≤◌, ◌<◌, ℕ, zero, suc, ◌+◌, ◌-◌, nat_lt, Bool, true, false, if◌then◌else◌, List, [], ◌∷◌, ◌++◌, length, Option, Some, None, refl, ap, ◌∙◌, arith}
 use Rattle.std.proofs.lemmas.Bool.Decides.{nat_tests}
 use Rattle.cql_syntax.specs.declared.token.Lexeme.{Lexeme}
-use Rattle.cql_syntax.specs.declared.lex.Scanned.{Scanned}
 use Rattle.cql_syntax.specs.Lex.{Bytes, Found, scan, lexed, lexed_until, until, cut, token, is_blank, after_lexeme, step}
 use Rattle.cql_syntax.proofs.LexLemmas.{until_more}
 use Rattle.cql_text.proofs.ReadLaws.{InOrder}

@@ -1,10 +1,10 @@
 -- Items with operators between them: the reader and the rule.
-use Rattle.std.proofs.Common.{◌≡◌, ◌≤◌, ◌<◌, ◌+◌, ℕ, zero, suc, List, [], ◌∷◌, ◌++◌, length, Result, Ok, Err, Option, Some, None, refl, sym, ap, ◌∙◌, subst, append_assoc, length-append, arith, ◌⊎◌, inl, inr}
+use Rattle.std.proofs.Common.{◌≡◌, ◌≤◌, ℕ, zero, suc, [], ◌∷◌, ◌++◌, length, Ok, Err, Option, Some, None, refl, sym, ap, ◌∙◌, subst, append_assoc, length-append, arith, ◌⊎◌, inl, inr}
 use Rattle.cql_syntax.specs.declared.token.Token.{Token}
 use Rattle.cql_syntax.specs.Tokens.{Tokens}
-use Rattle.cql_text.specs.Reading.{Outcome, Parser, next, at_head, and_then, linked, chain}
+use Rattle.cql_text.specs.Reading.{Outcome, Parser, at_head, and_then, linked, chain}
 use Rattle.cql_text.specs.Rules.{Rule, GoesOn, ends, goes}
-use Rattle.cql_text.proofs.Laws.{IsPlain, ArePlain, plain-append, IsSound, IsComplete, IsViable, IsFree, Looks, LooksAt, GoesOnSo, StandsBy, rest_of, with_rest}
+use Rattle.cql_text.proofs.Laws.{IsPlain, ArePlain, plain-append, IsSound, IsComplete, IsViable, IsFree, Looks, GoesOnSo, rest_of, with_rest}
 
 pub and_then_ok : {A B : Type 0} (o : Outcome A) (f : A → Parser B) (y : B × Tokens) → and_then o f ≡ Ok y → (x : A) × (us : Tokens) × (o ≡ Ok (x, us)) × (f x us ≡ Ok y)
 and_then_ok (Ok p) f y h = (p.0, p.1, refl, h)

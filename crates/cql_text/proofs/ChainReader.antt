@@ -1,11 +1,11 @@
 -- item { operator item } as a reader, whatever the item is. A chain may be the item of another chain.
-use Rattle.std.proofs.Common.{◌≡◌, ◌≤◌, ℕ, List, [], ◌∷◌, ◌++◌, length, Result, Ok, Err, Option, Some, None, refl, sym, ap, ◌∙◌, append_assoc, length-append, arith, ◌⊎◌, inl, inr}
+use Rattle.std.proofs.Common.{◌≡◌, ◌≤◌, ℕ, ◌∷◌, ◌++◌, length, Ok, Err, Option, Some, None, refl, sym, ap, ◌∙◌, append_assoc, length-append, arith, ◌⊎◌, inl, inr}
 use Rattle.cql_syntax.specs.declared.token.Token.{Token}
 use Rattle.cql_syntax.specs.Tokens.{Tokens}
 use Rattle.cql_text.specs.Reading.{Outcome, Parser, at_head, and_then, chain, chain_of}
 use Rattle.cql_text.specs.Rules.{Rule, ends}
 use Rattle.cql_text.specs.Rules as rule
-use Rattle.cql_text.proofs.Laws.{IsPlain, plain-append, Looks, GoesOnSo, rest_of, with_rest}
+use Rattle.cql_text.proofs.Laws.{IsPlain, plain-append, GoesOnSo, rest_of, with_rest}
 use Rattle.cql_text.proofs.ChainLaws.{and_then_ok, and_then_err, looks_through, chain_sound, chain_complete, chain_viable, chain_looks, goes_free, goes_stops}
 use Rattle.cql_text.proofs.Readers.{Reader}
 

@@ -1,10 +1,10 @@
 -- Two rules, told apart by the next token.
-use Rattle.std.proofs.Common.{◌≡◌, Bool, true, false, List, [], ◌∷◌, ◌++◌, Result, Ok, Err, refl, sym, ap, ◌∙◌, ◌⊎◌, inl, inr, if◌then◌else◌}
+use Rattle.std.proofs.Common.{◌≡◌, Bool, true, false, ◌∷◌, ◌++◌, Ok, Err, refl, ◌∙◌, inl, inr, if◌then◌else◌}
 use Rattle.cql_syntax.specs.declared.token.Token.{Token}
 use Rattle.cql_syntax.specs.Tokens.{Tokens}
-use Rattle.cql_text.specs.Reading.{Outcome, Parser, next_is, choice}
+use Rattle.cql_text.specs.Reading.{Parser, next_is, choice}
 use Rattle.cql_text.specs.Rules.{Rule}
-use Rattle.cql_text.proofs.Laws.{Looks, GoesOnSo, StandsBy, rest_of, with_rest}
+use Rattle.cql_text.proofs.Laws.{GoesOnSo, StandsBy, rest_of, with_rest}
 use Rattle.cql_text.specs.Rules as rule
 use Rattle.cql_text.proofs.Readers.{Reader, same_next}
 

@@ -1,5 +1,5 @@
 -- The readers of conditions decide their rules.
-use Rattle.std.proofs.Common.{◌≡◌, ℕ, zero, suc, Bool, true, false, List, [], ◌∷◌, ◌++◌, Ok, Option, Some, None, refl, sym, ap, ◌∙◌, subst, ◌⊎◌, inl, inr, if◌then◌else◌}
+use Rattle.std.proofs.Common.{◌≡◌, ℕ, zero, suc, Bool, true, false, List, Option, Some, refl, sym, ap, ◌∙◌, subst, ◌⊎◌, inl, inr, if◌then◌else◌}
 use Rattle.cql_syntax.specs.declared.token.Fixed.{Fixed}
 use Rattle.cql_syntax.specs.declared.token.Fixed.TheVariants as k
 use Rattle.cql_syntax.specs.declared.token.Token.{Token}
@@ -10,7 +10,7 @@ use Rattle.cql_syntax.specs.declared.syntax.Comparison.{Comparison}
 use Rattle.cql_syntax.specs.declared.syntax.Comparison.TheVariants as o
 use Rattle.cql_syntax.specs.declared.syntax.Condition.{Condition}
 use Rattle.cql_syntax.specs.declared.syntax.Condition.TheVariants as c
-use Rattle.cql_syntax.specs.Tokens.{Tokens, is, same, knows, sign}
+use Rattle.cql_syntax.specs.Tokens.{is, same, sign}
 use Rattle.cql_text.specs.Meaning.{is_word, comparison_of}
 use Rattle.cql_text.specs.Reading.{Parser, expect, token_by}
 use Rattle.cql_text.specs.Rules.{Rule}
@@ -20,7 +20,7 @@ use Rattle.cql_text.specs.Readers as read
 use Rattle.cql_syntax.specs.Spelling.{comparison_sign}
 use Rattle.cql_text.proofs.Laws as law
 use Rattle.cql_text.proofs.Readers.{Reader, Always, pure_reader, word_reader, one_reader, is_fixed}
-use Rattle.cql_text.proofs.Parts.{Stops, Before, Begins, first, both, both_always, made, pure_at, weaken, anywhere, chain_part, plain_sign, begins_word, begins_then, begins_one, begins_chain, begins_either}
+use Rattle.cql_text.proofs.Parts.{Stops, Begins, first, both, both_always, made, anywhere, chain_part, plain_sign, begins_word, begins_then, begins_one, begins_either}
 use Rattle.cql_text.proofs.ChoiceReader.{choice_reader}
 use Rattle.cql_text.proofs.Follow.{Test, after_name, after_both, after_condition}
 use Rattle.cql_text.proofs.Names.{column_reader, constant_reader, begins_column, begins_constant}

@@ -1,24 +1,20 @@
 -- A printed text is cut into the tokens that were printed.
-use Rattle.std.proofs.Common.{◌≡◌, ◌≢◌, ◌<◌, ◌≤◌, ℕ, zero, suc, ◌+◌, ◌-◌, ◌*◌, ◌/◌, ◌%◌, ◌^◌, min, pos, negsuc, Bool, true, false, not, ◌&&◌, ◌||◌, ◌==◌, eqb, nat_le, List, [], ◌∷◌, ◌++◌, fold, length, drop, take, map, slice_index, Option, Some, None, is_some, refl, sym, ap, ◌∙◌, subst, append_assoc, append-nil, length-append, arith, if◌then◌else◌}
+use Rattle.std.proofs.Common.{◌≡◌, ◌<◌, ◌≤◌, ℕ, suc, ◌+◌, ◌-◌, ◌*◌, ◌/◌, ◌%◌, ◌^◌, min, pos, negsuc, Bool, true, false, not, ◌&&◌, ◌==◌, eqb, nat_le, [], ◌∷◌, ◌++◌, fold, length, drop, take, slice_index, Option, Some, None, is_some, refl, sym, ap, ◌∙◌, subst, append_assoc, length-append, arith, if◌then◌else◌}
 use Rattle.std.proofs.lemmas.Bool.Decides.{nat_tests}
 use Rattle.std.proofs.lemmas.List.Folds.{prefix_len-append}
 use Rattle.std.proofs.lemmas.Fmt.{decimal_by_steps}
 use Rattle.std.specs.Fmt.{decimal, signed_decimal}
 use Rattle.std.specs.Char.{is_ascii_digit}
-use Rattle.std.specs.List.{prefix_len, list_all, list_any}
-use Rattle.std.specs.Str.{str_eq_ignore_ascii_case}
+use Rattle.std.specs.List.{prefix_len, list_all}
 use Rattle.cql_value.specs.Name.{is_word_start, is_word_byte, is_word, is_reserved, is_name}
-use Rattle.cql_value.specs.Name as value_name
 use Rattle.cql_syntax.specs.declared.token.Fixed.{Fixed}
 use Rattle.cql_syntax.specs.declared.token.Fixed.TheVariants as k
 use Rattle.cql_syntax.specs.declared.token.Token.{Token}
 use Rattle.cql_syntax.specs.declared.token.Token.TheVariants as t
-use Rattle.cql_syntax.specs.declared.token.Lexeme.{Lexeme}
-use Rattle.cql_syntax.specs.declared.lex.Scanned.{Scanned}
 use Rattle.cql_syntax.specs.Tokens.{Tokens, tokens_of}
-use Rattle.cql_syntax.specs.Lex.{Bytes, Table, scan, lexed, token, is_blank, quoted, lookup, reserved, reserved_words, word, word_or_reserved, number, value, text_of, sign, sign_of, after_lexeme}
+use Rattle.cql_syntax.specs.Lex.{Bytes, scan, lexed, token, is_blank, quoted, reserved, word, number, value}
 use Rattle.cql_syntax.specs.Spelling.{Piece, symbol, call, name, number as number_piece, text, Pieces, number_tokens, piece_tokens, pieces_tokens, doubled, symbol_text, piece_text, is_tight, is_opening, takes_space, leaves_space, space, spelled}
-use Rattle.cql_text.proofs.Laws.{IsPlain, ArePlain}
+use Rattle.cql_text.proofs.Laws.{ArePlain}
 use Rattle.cql_syntax.proofs.Reserved.{reserved_as_name}
 use Rattle.cql_syntax.proofs.LexLemmas.{scan_end, scan_blank, scan_token, word_starts}
 

@@ -1,5 +1,5 @@
 -- What is left of the tokens at the end.
-use Rattle.std.proofs.Common.{◌≡◌, ℕ, Bool, true, false, ◌&&◌, ◌==◌, List, [], ◌∷◌, length, Option, Some, None, is_none, Result, Ok, Err, refl, arith}
+use Rattle.std.proofs.Common.{◌≡◌, ℕ, Bool, true, false, ◌&&◌, ◌==◌, [], ◌∷◌, length, Option, Some, None, is_none, Ok, Err, refl, arith}
 use Rattle.std.proofs.lemmas.Bool.Decides.{nat_tests}
 use Rattle.cql_syntax.specs.declared.syntax.Query.{Query}
 use Rattle.cql_syntax.specs.declared.token.Token.{Token}

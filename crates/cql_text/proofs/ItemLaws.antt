@@ -1,21 +1,19 @@
 -- The readers of items decide their rules.
-use Rattle.std.proofs.Common.{◌≡◌, ℕ, zero, suc, Bool, true, false, List, [], ◌∷◌, ◌++◌, Ok, Option, Some, None, refl, sym, ap, ◌∙◌, subst, ◌⊎◌, inl, inr, if◌then◌else◌}
-use Rattle.cql_syntax.specs.declared.token.Fixed.{Fixed}
+use Rattle.std.proofs.Common.{◌≡◌, ℕ, Bool, true, false, List, [], ◌∷◌, Option, Some, refl, sym, ap, ◌∙◌, subst, inl, inr}
 use Rattle.cql_syntax.specs.declared.token.Fixed.TheVariants as k
 use Rattle.cql_syntax.specs.declared.token.Token.{Token}
 use Rattle.cql_syntax.specs.declared.token.Token.TheVariants as t
 use Rattle.cql_syntax.specs.declared.syntax.Function.{Function}
 use Rattle.cql_syntax.specs.declared.syntax.Function.TheVariants as f
-use Rattle.cql_syntax.specs.declared.syntax.Aggregate.{Aggregate}
 use Rattle.cql_syntax.specs.declared.syntax.Aggregate.TheVariants as a
 use Rattle.cql_syntax.specs.declared.syntax.Shown.{Shown}
 use Rattle.cql_syntax.specs.declared.syntax.Shown.TheVariants as s
 use Rattle.cql_syntax.specs.declared.syntax.Item.{Item}
 use Rattle.cql_syntax.specs.declared.syntax.Selection.{Selection}
 use Rattle.cql_syntax.specs.declared.syntax.Selection.TheVariants as e
-use Rattle.cql_syntax.specs.Tokens.{Tokens, is, same, knows, sign, joined}
+use Rattle.cql_syntax.specs.Tokens.{is, same, sign, joined}
 use Rattle.cql_text.specs.Meaning.{function_of, starts_aggregate}
-use Rattle.cql_text.specs.Reading.{Parser, expect, token_by}
+use Rattle.cql_text.specs.Reading.{expect, token_by}
 use Rattle.cql_text.specs.Rules.{Rule}
 use Rattle.cql_text.specs.Rules as rule
 use Rattle.cql_text.specs.Grammar as grammar
@@ -24,7 +22,7 @@ use Rattle.cql_text.specs.Readers as read
 use Rattle.cql_syntax.specs.Spelling.{function_word}
 use Rattle.cql_text.proofs.Laws as law
 use Rattle.cql_text.proofs.Readers.{Reader, Always, pure_reader, word_reader, one_reader}
-use Rattle.cql_text.proofs.Parts.{Stops, Before, Begins, first, both, both_always, made, pure_at, weaken, anywhere, optional_part, list_part, begins_word, begins_then, begins_one, begins_chain, begins_either, before_then, before_optional, before_pure, left_test, right_test, same_test, Narrow}
+use Rattle.cql_text.proofs.Parts.{Stops, Begins, first, both, both_always, made, weaken, anywhere, list_part, begins_word, begins_then, begins_one, begins_chain, begins_either, before_then, before_optional, before_pure, left_test, right_test, same_test}
 use Rattle.cql_text.proofs.ChoiceReader.{choice_reader}
 use Rattle.cql_text.proofs.Follow.{Test, after_name, after_sum, after_item, after_items}
 use Rattle.cql_text.proofs.Names.{column_reader, name_after_reader, begins_behind, Behind, expression_reader, begins_expression, AtFirst}

@@ -1,5 +1,5 @@
 -- What ties a reader of tokens to the rule that it decides.
-use Rattle.std.proofs.Common.{◌≡◌, ◌≤◌, ◌<◌, ◌^◌, ℕ, true, List, [], ◌∷◌, ◌++◌, length, Result, Ok, Err, Option, Some, None}
+use Rattle.std.proofs.Common.{◌≡◌, ◌<◌, ◌^◌, true, [], ◌∷◌, ◌++◌, Ok, Err}
 use Rattle.cql_value.specs.Name.{is_name}
 use Rattle.cql_syntax.specs.declared.token.Token.{Token}
 use Rattle.cql_syntax.specs.declared.token.Token.TheVariants as t

@@ -1,28 +1,27 @@
 -- The readers of names, constants and expressions decide their rules.
-use Rattle.std.proofs.Common.{◌≡◌, ◌≤◌, ◌<◌, ◌^◌, ◌*◌, nat_lt, nat_le, ℕ, zero, suc, pos, Bool, true, false, ◌&&◌, List, [], ◌∷◌, ◌++◌, Ok, Err, Option, Some, None, refl, sym, ap, ◌∙◌, subst, ◌⊎◌, inl, inr, if◌then◌else◌, arith, codes}
+use Rattle.std.proofs.Common.{◌≡◌, ◌≤◌, ◌<◌, ◌^◌, nat_lt, nat_le, ℕ, zero, suc, pos, Bool, true, false, List, [], ◌∷◌, Some, None, refl, sym, ap, ◌∙◌, subst, ◌⊎◌, inl, inr, if◌then◌else◌, arith}
 use Rattle.std.proofs.lemmas.Bool.Decides.{nat_tests}
 use Rattle.cql_value.specs.Name.{is_name, is_reserved}
 use Rattle.cql_syntax.specs.declared.token.Fixed.{Fixed}
 use Rattle.cql_syntax.specs.declared.token.Fixed.TheVariants as k
 use Rattle.cql_syntax.specs.declared.token.Token.{Token}
 use Rattle.cql_syntax.specs.declared.token.Token.TheVariants as t
-use Rattle.cql_syntax.specs.declared.syntax.QualifiedName.{QualifiedName}
 use Rattle.cql_syntax.specs.declared.syntax.Constant.{Constant}
 use Rattle.cql_syntax.specs.declared.syntax.Constant.TheVariants as c
 use Rattle.cql_syntax.specs.declared.syntax.Expression.{Expression}
 use Rattle.cql_syntax.specs.declared.syntax.Expression.TheVariants as e
 use Rattle.cql_syntax.specs.declared.syntax.Operation.{Operation}
 use Rattle.cql_syntax.specs.declared.syntax.Operation.TheVariants as o
-use Rattle.cql_syntax.specs.Tokens.{Tokens, is, same, knows, sign}
+use Rattle.cql_syntax.specs.Tokens.{is, same}
 use Rattle.cql_text.specs.Meaning.{name_of, is_word, qualified, constant_of, negative_of, minus, sum_sign, product_sign}
-use Rattle.cql_text.specs.Reading.{Parser, next_is, expect, token_by, optional, and_then}
+use Rattle.cql_text.specs.Reading.{Parser, expect, token_by, and_then}
 use Rattle.cql_text.specs.Rules.{Rule}
 use Rattle.cql_text.specs.Rules as rule
 use Rattle.cql_text.specs.Grammar.{IsName, IsColumn, IsConstant, IsAtom, IsTermOf, IsSumOf, IsFactor, IsExpression}
 use Rattle.cql_text.specs.Readers as read
 use Rattle.cql_text.proofs.Laws.{IsPlain}
 use Rattle.cql_text.proofs.Readers.{Reader, Always, pure_reader, word_reader, one_reader, is_fixed, same_self}
-use Rattle.cql_text.proofs.Parts.{Stops, Before, Begins, first, both, both_always, made, pure_at, weaken, anywhere, optional_always, chain_part, begins_word, begins_then, begins_one, begins_chain, begins_either, before_pure, before_optional, right_test, same_test}
+use Rattle.cql_text.proofs.Parts.{Stops, Begins, first, both_always, made, anywhere, optional_always, chain_part, begins_word, begins_then, begins_one, begins_chain, begins_either}
 use Rattle.cql_text.proofs.ChoiceReader.{choice_reader}
 use Rattle.cql_text.proofs.Follow.{Test, after_name, after_term, after_sum}
 

@@ -1,18 +1,17 @@
 -- Readers put together: what may follow, and what begins a rule.
-use Rattle.std.proofs.Common.{◌≡◌, ◌≤◌, ◌<◌, ℕ, Bool, true, false, ◌||◌, List, [], ◌∷◌, ◌++◌, Ok, Err, Option, Some, None, refl, sym, ap, ◌∙◌, subst, ◌⊎◌, inl, inr, if◌then◌else◌, is_some}
+use Rattle.std.proofs.Common.{◌≡◌, Bool, true, false, ◌||◌, [], ◌∷◌, Ok, Option, Some, None, refl, sym, ap, ◌∙◌, subst, inl, inr, if◌then◌else◌, is_some}
 use Rattle.cql_syntax.specs.declared.token.Fixed.{Fixed}
 use Rattle.cql_syntax.specs.declared.token.Fixed.TheVariants as k
 use Rattle.cql_syntax.specs.declared.token.Token.{Token}
 use Rattle.cql_syntax.specs.declared.token.Token.TheVariants as t
-use Rattle.cql_syntax.specs.Tokens.{Tokens, is, same, sign, knows, joined}
-use Rattle.cql_text.specs.Reading.{Outcome, Parser, next_is, at_head, and_then, expect, eat, optional, choice, chain_of, list_of, single}
+use Rattle.cql_syntax.specs.Tokens.{Tokens, is, sign, knows, joined}
+use Rattle.cql_text.specs.Reading.{Parser, next_is, at_head, and_then, optional, chain_of, list_of, single}
 use Rattle.cql_text.specs.Rules.{Rule}
 use Rattle.cql_text.specs.Rules as rule
 use Rattle.cql_text.specs.Grammar as grammar
 use Rattle.cql_text.proofs.Laws.{IsPlain}
-use Rattle.cql_text.proofs.Readers.{Reader, Always, pure_reader, word_reader, then_reader, optional_reader, may_reader, is_fixed}
+use Rattle.cql_text.proofs.Readers.{Reader, Always, pure_reader, then_reader, optional_reader, is_fixed}
 use Rattle.cql_text.proofs.ChainReader.{chain_reader}
-use Rattle.cql_text.proofs.ChoiceReader.{choice_reader}
 
 -- the next token fails the test
 abbrev pub Stops : (Token → Bool) → Tokens → Type 0

@@ -1,5 +1,5 @@
 -- The reader's byte is the least of the places at which a text is refused.
-use Rattle.std.proofs.Common.{◌≡◌, ◌≢◌, ◌≤◌, ◌<◌, ℕ, zero, suc, ◌+◌, ◌-◌, min, nat_lt, Bool, true, false, ◌&&◌, if◌then◌else◌, List, [], ◌∷◌, ◌++◌, take, length, slice_get, slice_set, Option, Some, None, Result, Ok, Err, IfOk, refl, sym, ap, ◌∙◌, subst, append_assoc, append-nil, length-append, arith, ◌⊎◌, inl, inr}
+use Rattle.std.proofs.Common.{◌≡◌, ◌≤◌, ◌<◌, ℕ, suc, ◌+◌, ◌-◌, min, nat_lt, Bool, true, false, if◌then◌else◌, List, [], ◌∷◌, ◌++◌, length, Option, Some, None, Result, Ok, Err, IfOk, refl, sym, ap, ◌∙◌, subst, append_assoc, length-append, arith, ◌⊎◌, inl, inr}
 use Rattle.std.proofs.lemmas.Bool.Decides.{nat_tests}
 use Rattle.cql_syntax.specs.declared.token.Token.{Token}
 use Rattle.cql_syntax.specs.declared.token.Token.TheVariants as t
@@ -13,7 +13,7 @@ use Rattle.cql_syntax.specs.Lex.{Bytes, lexed, lexed_until, cut}
 use Rattle.cql_text.specs.Grammar.{Spells, CanBegin}
 use Rattle.cql_text.specs.Reading.{Outcome}
 use Rattle.cql_text.specs.Readers.{query}
-use Rattle.cql_text.specs.Read.{most_bytes, Is, IsStuck, IsTooLong, IsPlace, IsRefusedAt, end_of, byte_of, place, number_at, number_in, number_before, goes_on, with_one, blamed, refusal, ended, attempted, attempt, finished, capped, read_tokens, read_of, Answers, Reads}
+use Rattle.cql_text.specs.Read.{most_bytes, Is, IsStuck, IsTooLong, IsPlace, IsRefusedAt, end_of, place, number_at, number_before, goes_on, with_one, refusal, ended, attempted, attempt, finished, capped, read_tokens, read_of, Answers, Reads}
 use Rattle.cql_text.proofs.Laws.{rest_of}
 use Rattle.cql_text.proofs.Bound.{until_all, cut_order, cut_rest, cut_fault, fault_cut, cut_at, cut_next}
 use Rattle.cql_text.proofs.BlockLaws.{query_reader}

@@ -1,19 +1,16 @@
 -- The reader of a text decides what is a query, and refuses at the right byte.
-use Rattle.std.proofs.Common.{◌≡◌, ◌≢◌, ◌≤◌, ◌<◌, ℕ, zero, suc, ◌+◌, ◌-◌, min, nat_lt, Bool, true, false, ◌&&◌, ◌==◌, if◌then◌else◌, List, [], ◌∷◌, ◌++◌, map, take, length, slice_get, slice_set, Option, Some, None, Result, Ok, Err, refl, sym, ap, ◌∙◌, subst, append_assoc, append-nil, length-append, arith, ◌⊎◌, inl, inr}
+use Rattle.std.proofs.Common.{◌≡◌, ◌≤◌, ℕ, zero, suc, ◌+◌, ◌-◌, Bool, true, false, ◌==◌, if◌then◌else◌, List, [], ◌∷◌, ◌++◌, take, length, slice_get, slice_set, Option, Some, None, Ok, Err, refl, sym, ap, ◌∙◌, subst, append_assoc, append-nil, arith}
 use Rattle.std.proofs.lemmas.Bool.Decides.{nat_tests}
 use Rattle.std.proofs.lemmas.List.{append_cancel_right}
 use Rattle.cql_syntax.specs.declared.token.Token.{Token}
-use Rattle.cql_syntax.specs.declared.token.Token.TheVariants as t
 use Rattle.cql_syntax.specs.declared.token.Lexeme.{Lexeme}
-use Rattle.cql_syntax.specs.declared.lex.Scanned.{Scanned}
 use Rattle.cql_syntax.specs.declared.syntax.Query.{Query}
-use Rattle.cql_syntax.specs.Tokens.{Tokens, tokens_of, same, sign}
-use Rattle.cql_text.specs.Meaning.{unit_of}
-use Rattle.cql_syntax.specs.Lex.{Bytes, lexed, scan, token, is_blank, after_lexeme, step, Found}
-use Rattle.cql_text.specs.Grammar.{Spells, CanBegin, IsQuery}
+use Rattle.cql_syntax.specs.Tokens.{Tokens, tokens_of}
+use Rattle.cql_syntax.specs.Lex.{Bytes, scan, token, is_blank, step, Found}
+use Rattle.cql_text.specs.Grammar.{Spells, CanBegin}
 use Rattle.cql_text.specs.Reading.{Outcome}
 use Rattle.cql_text.specs.Readers.{query}
-use Rattle.cql_text.specs.Read.{most_bytes, Is, IsTooMany, IsNoToken, IsStuck, IsTooLong, IsCutShort, IsPlace, IsRefusedAt, end_of, byte_of, place, number_at, number_in, number_before, left_of, goes_on, with_one, blamed, refusal, ended, attempted, attempt, finished, capped, read_tokens, read_of}
+use Rattle.cql_text.specs.Read.{left_of, goes_on}
 use Rattle.cql_text.proofs.Laws.{rest_of, with_rest}
 use Rattle.cql_text.proofs.Parts.{Stops}
 use Rattle.cql_text.proofs.Follow.{after_query}

@@ -1,5 +1,5 @@
 -- A reader and its rule, put together from parts.
-use Rattle.std.proofs.Common.{◌≡◌, ◌≤◌, ◌<◌, ◌+◌, ℕ, zero, suc, Bool, true, false, ◌||◌, List, [], ◌∷◌, ◌++◌, length, Result, Ok, Err, Option, Some, None, refl, sym, ap, ◌∙◌, subst, append_assoc, append-nil, length-append, arith, ◌⊎◌, inl, inr, if◌then◌else◌, rules}
+use Rattle.std.proofs.Common.{◌≡◌, Bool, true, false, [], ◌∷◌, ◌++◌, Ok, Err, Option, Some, None, refl, sym, ap, ◌∙◌, subst, append_assoc, ◌⊎◌, inl, inr, if◌then◌else◌, rules}
 use denote.Enum.Bare.{same_true}
 use Rattle.cql_syntax.specs.contracts.token.Fixed.{the_type}
 use Rattle.cql_syntax.specs.declared.token.Fixed.{Fixed}
@@ -7,10 +7,10 @@ use Rattle.cql_syntax.specs.declared.token.Fixed.TheVariants as k
 use Rattle.cql_syntax.specs.declared.token.Token.{Token}
 use Rattle.cql_syntax.specs.declared.token.Token.TheVariants as t
 use Rattle.cql_syntax.specs.Tokens.{Tokens, is, same, sign}
-use Rattle.cql_text.specs.Reading.{Outcome, Parser, next, next_is, at_head, and_then, linked, token_by, expect, sees, eat, after, optional}
+use Rattle.cql_text.specs.Reading.{Outcome, Parser, next_is, and_then, linked, token_by, expect, sees, eat, after, optional}
 use Rattle.cql_text.specs.Rules.{Rule}
 use Rattle.cql_text.specs.Rules as rule
-use Rattle.cql_text.proofs.Laws.{IsPlain, ArePlain, plain-append, IsSound, IsComplete, IsViable, IsFree, Looks, LooksAt, GoesOnSo, StandsBy, rest_of, with_rest}
+use Rattle.cql_text.proofs.Laws.{IsPlain, plain-append, IsSound, IsComplete, IsViable, IsFree, Looks, GoesOnSo, StandsBy, rest_of, with_rest}
 use Rattle.cql_text.proofs.ChainLaws.{and_then_ok, and_then_err, same_ok, bind_looks}
 
 -- ---- one token

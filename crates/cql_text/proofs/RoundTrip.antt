@@ -1,5 +1,5 @@
 -- A canonical spelling is read as what it spells.
-use Rattle.std.proofs.Common.{◌≡◌, ◌≤◌, List, [], ◌∷◌, ◌++◌, length, None, refl, sym, ap, ◌∙◌, subst, append-nil}
+use Rattle.std.proofs.Common.{◌≡◌, ◌≤◌, [], length, sym, ap, ◌∙◌, subst, append-nil}
 use Rattle.cql_syntax.specs.declared.syntax.Query.{Query}
 use Rattle.cql_syntax.specs.Tokens.{Tokens, tokens_of}
 use Rattle.cql_syntax.specs.Lex.{Bytes, lexed}

@@ -1,13 +1,13 @@
 -- One step of the definitions that recur on a number.
-use Rattle.std.proofs.Common.{◌≡◌, ℕ, zero, suc, ◌+◌, ◌-◌, ◌<◌, Bool, true, false, if◌then◌else◌, ◌&&◌, nat_lt, Option, Some, None, List, [], ◌∷◌, ◌++◌, length, Result, Ok, Err, ◌||◌, is_some, refl, sym, ap, ◌∙◌, arith}
+use Rattle.std.proofs.Common.{◌≡◌, ℕ, zero, suc, ◌+◌, ◌-◌, ◌<◌, true, if◌then◌else◌, ◌&&◌, nat_lt, Option, Some, None, [], ◌∷◌, Ok, ◌||◌, is_some, refl, arith}
 use Rattle.std.proofs.lemmas.Bool.Decides.{nat_tests}
 use Rattle.cql_syntax.specs.declared.token.Fixed.{Fixed}
 use Rattle.cql_syntax.specs.declared.token.Fixed.TheVariants as k
 use Rattle.cql_syntax.specs.declared.token.Token.{Token}
 use Rattle.cql_syntax.specs.Tokens.{Tokens, is, sign}
-use Rattle.cql_text.specs.Reading.{Parser, Outcome, sees, next, next_is, at_head, and_then, linked, chain, choice}
+use Rattle.cql_text.specs.Reading.{Parser, sees, next, next_is, at_head, and_then, linked, chain, choice}
 use Rattle.cql_syntax.specs.Tokens.{knows}
-use Rattle.cql_text.specs.Meaning.{function_of, starts_aggregate, starts_alias, is_word}
+use Rattle.cql_text.specs.Meaning.{function_of, is_word}
 use Rattle.cql_text.specs.Readers as read
 
 pub factor_at : (level : ℕ) (ts : Tokens) → read.factor level ts ≡ (if nat_lt 0 level && sees k.Open ts then read.bracket (read.sum (level - 1)) ts else read.atom ts)

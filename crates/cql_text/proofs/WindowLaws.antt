@@ -1,27 +1,26 @@
 -- The readers of windows decide their rules.
-use Rattle.std.proofs.Common.{◌≡◌, ◌≤◌, ◌<◌, ◌^◌, ◌*◌, nat_lt, nat_le, ℕ, zero, suc, Bool, true, false, ◌&&◌, ◌||◌, List, [], ◌∷◌, ◌++◌, Ok, Err, Option, Some, None, refl, sym, ap, ◌∙◌, subst, ◌⊎◌, inl, inr, if◌then◌else◌, is_some, arith}
+use Rattle.std.proofs.Common.{◌≡◌, ◌≤◌, ◌<◌, ◌^◌, nat_lt, nat_le, ℕ, Bool, true, false, ◌&&◌, ◌||◌, [], ◌∷◌, ◌++◌, Ok, Err, Option, Some, None, refl, sym, ap, ◌∙◌, subst, inl, inr, if◌then◌else◌, is_some, arith}
 use Rattle.std.proofs.lemmas.Bool.Decides.{nat_tests}
 use Rattle.cql_value.specs.Name.{is_name}
-use Rattle.cql_syntax.specs.declared.token.Fixed.{Fixed}
 use Rattle.cql_syntax.specs.declared.token.Fixed.TheVariants as k
 use Rattle.cql_syntax.specs.declared.token.Token.{Token}
 use Rattle.cql_syntax.specs.declared.token.Token.TheVariants as t
 use Rattle.cql_syntax.specs.declared.syntax.WrittenWindow.{WrittenWindow}
 use Rattle.cql_syntax.specs.declared.syntax.WrittenWindow.TheVariants as w
-use Rattle.cql_syntax.specs.Tokens.{Tokens, is, same, knows, sign, joined}
+use Rattle.cql_syntax.specs.Tokens.{Tokens, is, same, knows}
 use Rattle.cql_text.specs.Meaning.{number_from, unit_of, unit_named, times, ticks_of, or_else}
-use Rattle.cql_text.specs.Reading.{Outcome, Parser, expect, token_by, optional, next_is, and_then}
+use Rattle.cql_text.specs.Reading.{Parser, expect, token_by, optional, next_is, and_then}
 use Rattle.cql_text.specs.Rules.{Rule}
 use Rattle.cql_text.specs.Rules as rule
 use Rattle.cql_text.specs.Grammar as grammar
 use Rattle.cql_text.specs.Grammar.{IsName, IsLength, IsRange, IsRows, IsPartition, IsWindow}
 use Rattle.cql_text.specs.Readers as read
-use Rattle.cql_text.proofs.Laws.{IsPlain, StandsBy, Looks, GoesOnSo, rest_of, with_rest}
+use Rattle.cql_text.proofs.Laws.{IsPlain, StandsBy, GoesOnSo, rest_of, with_rest}
 use Rattle.cql_text.proofs.ChainLaws.{and_then_ok, and_then_err, same_ok, bind_looks}
 use Rattle.cql_text.proofs.Readers.{Reader, Always, pure_reader, word_reader, one_reader, token_sound, token_err, token_looks, pure_looks, same_next}
-use Rattle.cql_text.proofs.Parts.{Stops, Narrow, Before, Begins, first, both, both_always, made, pure_at, weaken, anywhere, optional_part, optional_always, list_part, begins_word, begins_then, begins_one, begins_either, before_then, before_optional, before_pure, left_test, right_test, same_test}
+use Rattle.cql_text.proofs.Parts.{Stops, Begins, first, both, both_always, made, weaken, anywhere, optional_part, optional_always, list_part, begins_word, begins_then, begins_one, begins_either, before_then, before_optional, before_pure, left_test, right_test, same_test}
 use Rattle.cql_text.proofs.ChoiceReader.{choice_reader}
-use Rattle.cql_text.proofs.Follow.{Test, after_name, after_length, after_window}
+use Rattle.cql_text.proofs.Follow.{Test, after_length, after_window}
 use Rattle.cql_text.proofs.Names.{name_reader}
 
 -- ---- numbers and lengths

@@ -1,5 +1,5 @@
 -- The grammar: each rule is a production, factored from the left.
-use Rattle.std.specs.Prelude.{◌≡◌, ℕ, zero, suc, ◌^◌, Bool, true, false, List, [], ◌∷◌, ◌++◌, Option, Some, None}
+use Rattle.std.specs.Prelude.{ℕ, zero, suc, Bool, List, [], ◌∷◌, ◌++◌, Option, Some, None}
 use Rattle.cql_syntax.specs.declared.token.Fixed.TheVariants as k
 use Rattle.cql_syntax.specs.declared.syntax.QualifiedName.{QualifiedName}
 use Rattle.cql_syntax.specs.declared.syntax.Constant.{Constant}
@@ -20,7 +20,6 @@ use Rattle.cql_syntax.specs.declared.syntax.WrittenWindow.{WrittenWindow}
 use Rattle.cql_syntax.specs.declared.syntax.WrittenWindow.TheVariants as window
 use Rattle.cql_syntax.specs.declared.syntax.Input.{Input}
 use Rattle.cql_syntax.specs.declared.syntax.SelectBlock.{SelectBlock}
-use Rattle.cql_syntax.specs.declared.syntax.SetOperator.{SetOperator}
 use Rattle.cql_syntax.specs.declared.syntax.Second.{Second}
 use Rattle.cql_syntax.specs.declared.syntax.StreamOperator.{StreamOperator}
 use Rattle.cql_syntax.specs.declared.syntax.Query.{Query}

@@ -1,8 +1,7 @@
 -- What single tokens mean, and what is made of the parts of a production.
-use Rattle.std.specs.Prelude.{◌≡◌, ℕ, zero, suc, ◌+◌, ◌*◌, ◌^◌, ◌-◌, nat_lt, nat_le, ℤ, pos, negsuc, Bool, true, false, ◌||◌, ◌&&◌, if◌then◌else◌, List, [], ◌∷◌, ◌++◌, Option, Some, None, codes}
+use Rattle.std.specs.Prelude.{ℕ, zero, suc, ◌*◌, ◌^◌, nat_lt, nat_le, ℤ, pos, negsuc, Bool, true, false, ◌||◌, ◌&&◌, if◌then◌else◌, List, [], ◌∷◌, Option, Some, None, codes}
 use Rattle.std.specs.Str.{str_eq_ignore_ascii_case}
 use Rattle.cql_value.specs.Name.{is_name}
-use Rattle.cql_syntax.specs.declared.token.Fixed.{Fixed}
 use Rattle.cql_syntax.specs.declared.token.Fixed.TheVariants as k
 use Rattle.cql_syntax.specs.declared.token.Token.{Token}
 use Rattle.cql_syntax.specs.declared.token.Token.TheVariants as t
@@ -21,12 +20,6 @@ use Rattle.cql_syntax.specs.declared.syntax.Comparison.{Comparison}
 use Rattle.cql_syntax.specs.declared.syntax.Comparison.TheVariants as comparison
 use Rattle.cql_syntax.specs.declared.syntax.WrittenWindow.{WrittenWindow}
 use Rattle.cql_syntax.specs.declared.syntax.WrittenWindow.TheVariants as window
-use Rattle.cql_syntax.specs.declared.syntax.Input.{Input}
-use Rattle.cql_syntax.specs.declared.syntax.Selection.{Selection}
-use Rattle.cql_syntax.specs.declared.syntax.Condition.{Condition}
-use Rattle.cql_syntax.specs.declared.syntax.SelectBlock.{SelectBlock}
-use Rattle.cql_syntax.specs.declared.syntax.Second.{Second}
-use Rattle.cql_syntax.specs.declared.syntax.Query.{Query}
 use Rattle.cql_syntax.specs.Tokens.{is, knows}
 
 -- ---- names

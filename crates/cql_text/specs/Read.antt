@@ -1,5 +1,5 @@
 -- A text as a query, or the byte at which it is refused.
-use Rattle.std.specs.Prelude.{◌≡◌, ◌≢◌, ◌≤◌, ◌<◌, ℕ, ◌+◌, ◌-◌, min, nat_lt, nat_le, Bool, true, false, ◌&&◌, ◌==◌, if◌then◌else◌, List, [], ◌∷◌, ◌++◌, take, length, slice_get, slice_set, Option, Some, None, Result, Ok, Err, ◌⊎◌}
+use Rattle.std.specs.Prelude.{◌≡◌, ◌≤◌, ◌<◌, ℕ, ◌+◌, ◌-◌, min, nat_lt, Bool, true, false, ◌&&◌, ◌==◌, if◌then◌else◌, List, [], ◌∷◌, ◌++◌, take, length, slice_get, slice_set, Option, Some, None, Result, Ok, Err, ◌⊎◌}
 use Rattle.cql_syntax.specs.declared.token.Token.{Token}
 use Rattle.cql_syntax.specs.declared.token.Token.TheVariants as t
 use Rattle.cql_syntax.specs.declared.token.Lexeme.{Lexeme}

@@ -1,5 +1,5 @@
 -- What the reader of tokens is made of.
-use Rattle.std.specs.Prelude.{◌≡◌, ◌≢◌, length, ℕ, zero, suc, Bool, true, false, if◌then◌else◌, List, [], ◌∷◌, ◌++◌, drop, Result, Ok, Err, Option, Some, None}
+use Rattle.std.specs.Prelude.{◌≡◌, ◌≢◌, length, ℕ, zero, suc, Bool, false, if◌then◌else◌, List, [], ◌∷◌, drop, Result, Ok, Err, Option, Some, None}
 use Rattle.cql_syntax.specs.declared.token.Fixed.{Fixed}
 use Rattle.cql_syntax.specs.declared.token.Fixed.TheVariants as k
 use Rattle.cql_syntax.specs.declared.token.Token.{Token}

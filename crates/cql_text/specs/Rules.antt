@@ -1,10 +1,9 @@
 -- The words in which the rules of the grammar are written.
-use Rattle.std.specs.Prelude.{◌≡◌, ℕ, List, [], ◌∷◌, ◌++◌, Option, Some, None, Bool, true, false, ◌⊎◌}
+use Rattle.std.specs.Prelude.{◌≡◌, ◌∷◌, Option, Some, None, Bool, true, false, ◌⊎◌}
 use Rattle.cql_syntax.specs.declared.token.Fixed.{Fixed}
-use Rattle.cql_syntax.specs.declared.token.Fixed.TheVariants as k
 use Rattle.cql_syntax.specs.declared.token.Token.{Token}
 use Rattle.cql_syntax.specs.declared.token.Token.TheVariants as t
-use Rattle.cql_syntax.specs.Tokens.{Tokens, is}
+use Rattle.cql_syntax.specs.Tokens.{Tokens}
 
 -- A rule of the grammar. `R ts x rest`: the tokens ts begin with x, and rest comes after it.
 abbrev pub Rule : Type 0 → Type 1

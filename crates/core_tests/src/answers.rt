@@ -3,9 +3,9 @@
 ghost use Rattle.std.specs.Prelude.{◌≡◌, IfOk};
 ghost use Rattle.std.specs.Arc.{arc_value};
 
-use crate::outputs::output;
+use crate::outputs::{Told, are_blocks};
 use cql_core::evaluate::answer;
-use cql_core::{Answer, Block, OutputKind, Pin, Plan};
+use cql_core::{Answer, OutputKind, Pin, Plan};
 use cql_plan::lookup::Lookup;
 use cql_plan::plan::Plan as Typed;
 use cql_plan::resolve;
@@ -27,7 +27,7 @@ struct Case {
     base: u64,
     from: u64,
     next: u64,
-    blocks: &'static [(u64, u64, &'static [i64])],
+    blocks: &'static [Told],
 }
 
 const CASES: &[Case] = &[
@@ -158,19 +158,9 @@ fn answered(alloc: Global, case: &Case) -> Result<Answer, Fail> {
     Ok(answer(alloc, Pin::new(plan, base, from, next, rows))?)
 }
 
-fn is_block(alloc: Global, block: &Block, want: &(u64, u64, &[i64])) -> Result<bool, Fail> {
-    let wanted = output(alloc, want.2)?;
-    Ok(block.from == want.0 && block.to == want.1 && block.output.is(&wanted))
-}
-
 fn is_told(alloc: Global, case: &Case) -> Result<bool, Fail> {
     let answer = answered(alloc, case)?;
-    for (block, want) in answer.blocks().iter().zip(case.blocks) {
-        if !is_block(alloc, block, want)? {
-            return Ok(false);
-        }
-    }
-    Ok(answer.next() == case.next && answer.blocks().len() == case.blocks.len())
+    Ok(answer.next() == case.next && are_blocks(alloc, answer.blocks(), case.blocks)?)
 }
 
 #[test]

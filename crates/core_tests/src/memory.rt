@@ -1,27 +1,30 @@
 // Commands where memory may run out.
+use crate::outputs::{Told, are_blocks};
 use crate::tenants::table;
-use cql_core::{Answer, ColumnText, Command, Core, Output, Refusal, Reply, TenantId, run, serve};
+use cql_core::{ColumnText, Command, Core, Refusal, Reply, TenantId, run, serve};
 use cql_value::{Items, Row, Text, Value};
 use std::alloc::Global;
 use std::test::Fail;
 
-// A reply: a fetch is told one row of the number 1 at the instant 5, and what comes next.
+// A reply; that to a fetch tells blocks, and the instant after the last that is final.
 #[derive(Clone, Copy)]
 enum Want {
     Done,
     Base(u64),
-    Row(u64),
+    Blocks(&'static [Told], u64),
 }
+
+const CALLS: &[(&str, Want)] = &[
+    ("stream", Want::Done),
+    ("query", Want::Base(0)),
+    ("put", Want::Done),
+    ("beat", Want::Done),
+    ("fetch", Want::Blocks(&[(5, 5, &[1])], 9)),
+];
 
 // The commands of a first run, and their replies.
 fn calls() -> &'static [(&'static str, Want)] {
-    &[
-        ("stream", Want::Done),
-        ("query", Want::Base(0)),
-        ("put", Want::Done),
-        ("beat", Want::Done),
-        ("fetch", Want::Row(9)),
-    ]
+    CALLS
 }
 
 fn columns(alloc: Global) -> Result<Items<ColumnText>, Fail> {
@@ -71,29 +74,14 @@ fn command(alloc: Global, word: &str) -> Result<Command, Fail> {
     }
 }
 
-fn is_number(row: &Row) -> bool {
-    matches!(row.values(), [Value::Number(1)])
-}
-
-fn is_one_row(answer: &Answer) -> bool {
-    match answer.blocks() {
-        [block] => {
-            let Output::Rows(rows) = &block.output;
-            block.from == 5
-                && block.to == 5
-                && rows.len() == 1
-                && rows.as_slice().iter().all(|row| is_number(row))
-        }
-        _ => false,
-    }
-}
-
-fn is_told(reply: &Reply, want: Want) -> bool {
+fn is_told(alloc: Global, reply: &Reply, want: Want) -> Result<bool, Fail> {
     match (reply, want) {
-        (Reply::Ok, Want::Done) => true,
-        (Reply::Base(base), Want::Base(wanted)) => *base == wanted,
-        (Reply::Blocks(answer), Want::Row(next)) => answer.next() == next && is_one_row(answer),
-        _ => false,
+        (Reply::Ok, Want::Done) => Ok(true),
+        (Reply::Base(base), Want::Base(wanted)) => Ok(*base == wanted),
+        (Reply::Blocks(answer), Want::Blocks(blocks, next)) => {
+            Ok(answer.next() == next && are_blocks(alloc, answer.blocks(), blocks)?)
+        }
+        _ => Ok(false),
     }
 }
 
@@ -113,7 +101,8 @@ fn are_all_told(alloc: Global) -> Result<bool, Fail> {
     let a = table.find("a").ok_or("a")?;
     let mut core = Core::new(alloc, table)?;
     for (word, want) in calls() {
-        if !is_told(&served(alloc, &mut core, a, word)?, *want) {
+        let reply = served(alloc, &mut core, a, word)?;
+        if !is_told(alloc, &reply, *want)? {
             return Ok(false);
         }
     }
@@ -147,11 +136,8 @@ fn replies(alloc: Global) -> Result<Vec<Reply>, Fail> {
 fn a_list_of_commands(rt: HostRuntime) -> Result<(), Fail> {
     let replies = replies(rt.alloc())?;
     assert!(rt; replies.len() == calls().len());
-    assert!(rt;
-        replies
-            .iter()
-            .zip(calls())
-            .all(|(reply, (_, want))| is_told(reply, *want))
-    );
+    for (reply, (_, want)) in replies.iter().zip(calls()) {
+        assert!(rt; is_told(rt.alloc(), reply, *want)?);
+    }
     Ok(())
 }

@@ -14,6 +14,23 @@ pub(crate) fn output(alloc: Global, numbers: &[i64]) -> Result<Output, Fail> {
     Ok(Output::Rows(Items::from_vec(rows)))
 }
 
+// A block: its ends, and the numbers of its rows.
+pub(crate) type Told = (u64, u64, &'static [i64]);
+
+fn is_block(alloc: Global, block: &Block, told: &Told) -> Result<bool, Fail> {
+    let wanted = output(alloc, told.2)?;
+    Ok(block.from == told.0 && block.to == told.1 && block.output.is(&wanted))
+}
+
+pub(crate) fn are_blocks(alloc: Global, blocks: &[Block], told: &[Told]) -> Result<bool, Fail> {
+    for (block, told) in blocks.iter().zip(told) {
+        if !is_block(alloc, block, told)? {
+            return Ok(false);
+        }
+    }
+    Ok(blocks.len() == told.len())
+}
+
 // Numbers of the rows of two outputs, and whether the outputs are the same.
 fn pairs() -> &'static [(&'static [i64], &'static [i64], bool)] {
     &[
@@ -56,30 +73,13 @@ fn blocks_of(alloc: Global, stretches: &[(u8, &[i64])]) -> Result<Vec<Block>, Fa
     Ok(runs.finish())
 }
 
-// Their blocks, each of one row.
-fn joined() -> &'static [(u64, u64, i64)] {
-    &[(3, 5, 1), (6, 6, 2), (10, 10, 2)]
-}
-
-fn is_block(block: &Block, (from, to, number): (u64, u64, i64)) -> bool {
-    let Output::Rows(rows) = &block.output;
-    block.from == from
-        && block.to == to
-        && rows.len() == 1
-        && rows.as_slice().iter().all(
-            |row| matches!(row.values(), [Value::Number(n)] if *n == number),
-        )
+fn joined() -> &'static [Told] {
+    &[(3, 5, &[1]), (6, 6, &[2]), (10, 10, &[2])]
 }
 
 #[test]
 fn equal_stretches_join(rt: HostRuntime) -> Result<(), Fail> {
     let blocks = blocks_of(rt.alloc(), stretches())?;
-    assert!(rt; blocks.len() == joined().len());
-    assert!(rt;
-        blocks
-            .iter()
-            .zip(joined())
-            .all(|(block, want)| is_block(block, *want))
-    );
+    assert!(rt; are_blocks(rt.alloc(), &blocks, joined())?);
     Ok(())
 }

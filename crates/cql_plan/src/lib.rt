@@ -15,8 +15,6 @@ pub mod plan;
 mod resolution;
 mod row;
 mod source;
-#[cfg(test)]
-mod tests;
 mod typed;
 
 pub use condition::{Condition, Operand, meets};

@@ -7,6 +7,7 @@ ghost use Rattle.cql_value.specs.Name.{is_word_start, is_word_byte};
 ghost use Rattle.cql_syntax.specs.Lex as spec;
 
 use crate::token::{Fixed, Lexeme, Token};
+use cql_value::name::{is_word_byte, is_word_start};
 use cql_value::{Items, Text};
 use std::alloc::{AllocError, Global};
 
@@ -50,18 +51,6 @@ fn is_blank(b: u8) -> bool
     ensures { result ≡ spec.is_blank b }
 {
     b == b' ' || b == b'\t' || b == b'\n' || b == b'\r'
-}
-
-fn is_word_start(b: u8) -> bool
-    ensures { result ≡ is_word_start b }
-{
-    b.is_ascii_alphabetic() || b == b'_'
-}
-
-fn is_word_byte(b: u8) -> bool
-    ensures { result ≡ is_word_byte b }
-{
-    b.is_ascii_alphanumeric() || b == b'_'
 }
 
 // The byte at the place, or 0 beyond the end.

@@ -1,6 +1,7 @@
+// What the reader of queries reads and prints.
 mod tables;
 
-use crate::tests::tables::texts_read;
+use crate::reading::tables::texts_read;
 use cql_text::read;
 use std::alloc::Global;
 use std::test::Fail;

@@ -1,6 +1,5 @@
 // Values of expressions and conditions.
-use crate::condition::{Condition, Operand, meets};
-use crate::expr::{Expr, evaluate};
+use cql_plan::{Condition, Expr, Operand, evaluate, meets};
 use cql_syntax::syntax::{Comparison, Operation};
 use cql_value::{Boxed, Text, Value};
 use std::alloc::{AllocError, Global};

@@ -1,13 +1,11 @@
 mod streams;
 mod values;
 
-use crate::condition::meets;
-use crate::error::{PlanError, PlanFault};
-use crate::expr::evaluate;
-use crate::node::{Item, Join, Node, OperatorKind, SetOp, Shape};
-use crate::plan::{Branch, Input, OutputKind, Plan, Window};
-use crate::resolution::resolve;
-use crate::tests::streams::Streams;
+use crate::typing::streams::Streams;
+use cql_plan::{
+    Branch, Input, Item, Join, Node, OperatorKind, OutputKind, Plan, PlanError, PlanFault, SetOp,
+    Shape, Window, evaluate, meets, resolve,
+};
 use cql_syntax::syntax::SetOperator;
 use cql_text::{Syntax, read};
 use cql_value::{ColumnType, Text, Value};

@@ -1,5 +1,5 @@
 // The streams of the tests.
-use crate::lookup::Lookup;
+use cql_plan::Lookup;
 use cql_value::{Column, ColumnType, Name, Schema};
 use std::alloc::Global;
 use std::test::Fail;

@@ -1,0 +1,18 @@
+//! Tests of the reader, the typing and the core through their public items: what no script of lines
+//! can show.
+#![tactic(auto)]
+
+#[cfg(test)]
+mod answers;
+#[cfg(test)]
+mod laws;
+#[cfg(test)]
+mod memory;
+#[cfg(test)]
+mod outputs;
+#[cfg(test)]
+mod reading;
+#[cfg(test)]
+mod tenants;
+#[cfg(test)]
+mod typing;

@@ -3,7 +3,7 @@ ghost use Rattle.std.specs.Prelude.{◌≡◌};
 ghost use Rattle.cqlrun.specs.Ending.{status_of, text_of};
 
 /// How a run ends.
-#[derive(Clone, Copy, Debug, PartialEq, Eq, Drop)]
+#[derive(Clone, Copy)]
 pub enum Ending {
     /// Each line was answered (0).
     Done,

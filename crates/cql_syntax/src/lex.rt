@@ -40,7 +40,7 @@ const RESERVED: [(&str, Fixed); 26] = [
     ("where", Fixed::Where),
 ];
 
-/// The tokens of a text, and the byte where none begins, if there is one.
+/// The tokens of a text, as far as it was read, and the byte where none begins, if one was met.
 #[derive(Drop)]
 pub struct Scanned {
     pub lexemes: Items<Lexeme>,

@@ -240,12 +240,7 @@ fn signed(alloc: Global, plus: &[i64], minus: &[i64]) -> Result<Output, Fail> {
     Ok(Output::Signed { plus, minus })
 }
 
-fn push_block(
-    blocks: &mut Vec<Block>,
-    from: u64,
-    to: u64,
-    output: Output,
-) -> Result<(), Fail> {
+fn push_block(blocks: &mut Vec<Block>, from: u64, to: u64, output: Output) -> Result<(), Fail> {
     blocks.push(Block { from, to, output })?;
     Ok(())
 }

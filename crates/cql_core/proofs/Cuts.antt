@@ -1,5 +1,5 @@
 -- What comes from an instant on isn't seen before it.
-use Rattle.std.proofs.Common.{◌≡◌, ℕ, zero, suc, ◌+◌, ◌≤◌, List, [], ◌∷◌, map, take, true, false, cond, nat_lt, refl, sym, ap, ◌∙◌, arith}
+use Rattle.std.proofs.Common.{◌≡◌, ℕ, zero, suc, ◌+◌, ◌-◌, ◌≤◌, ◌<◌, List, [], ◌∷◌, map, take, true, false, cond, nat_lt, refl, sym, ap, ◌∙◌, arith}
 use Rattle.std.proofs.lemmas.Bool.Decides.{nat_tests}
 use Rattle.std.proofs.Math.Nat.{div-mul-le_self}
 use Rattle.cql_value.specs.Element.{Element}
@@ -8,11 +8,12 @@ use Rattle.cql_window.specs.declared.window.Window.TheVariants.{Range}
 use Rattle.cql_window.specs.Window.{end_of, count_before, kept, content}
 use Rattle.cql_core.specs.declared.plan.Plan.{Plan}
 use Rattle.cql_bag.specs.Bag.{bag_of}
-use Rattle.cql_core.specs.Output.{output_of}
-use Rattle.cql_core.specs.Blocks.{blocks_of}
+use Rattle.cql_out.specs.declared.relation.Relation.TheVariants.{Bag}
+use Rattle.cql_out.specs.declared.told.Output.{Output}
+use Rattle.cql_out.specs.ByKind.{output_of}
+use Rattle.cql_out.specs.Blocks.{extended, blocks_of_many, blocks_of, IsLocalLaw}
 use Rattle.cql_core.specs.Relation.{PinSeen, relation_at, output_at}
 use Rattle.cql_core.specs.Machine.{rows_before}
-use Rattle.cql_core.proofs.Every.{local_law}
 
 one_add : (n : ℕ) → 1 + n ≡ suc n
 one_add n = omega arith
@@ -54,9 +55,20 @@ unfolding relation_at
 same_relation plan base from next c rows le =
     ap (λ l. cond (nat_lt base c) (bag_of (map (λ x. x.row) l)) []) (content_cut plan.window c next rows le)
 
+same_many : (O P : ℕ → Output) (c n : ℕ) → ((t : ℕ) → c ≤ t → t < c + n → O t ≡ P t) → blocks_of_many O c n ≡ blocks_of_many P c n
+unfolding blocks_of_many
+same_many O P c zero same = refl
+same_many O P c (suc n) same =
+    λ i. extended (c + n) (c + n) (same (c + n) (omega arith) (omega arith) i) (same_many O P c n (λ t ge lt. same t ge (omega arith)) i)
+
+-- the law of cql_out, for proofs that no code calls it in
+local_law : IsLocalLaw
+unfolding blocks_of
+local_law O P c l same = same_many O P c (l - c) (λ t ge lt. same t ge (omega arith))
+
 -- the rows before the end of a fetch tell what all rows tell
 pub same_blocks : (plan : Plan) (base from next : ℕ) (rows : List Element)
     → blocks_of (output_at (seen_by plan base from next (rows_before next rows))) from next ≡ blocks_of (output_at (seen_by plan base from next rows)) from next
 same_blocks plan base from next rows =
     local_law (output_at (seen_by plan base from next (rows_before next rows))) (output_at (seen_by plan base from next rows)) from next
-    (λ t ge lt i. output_of plan.kind (same_relation plan base from next t rows (omega arith) i) (same_relation plan base from next (t + 1) rows (omega arith) i))
+    (λ t ge lt i. output_of plan.kind (Bag (same_relation plan base from next t rows (omega arith) i)) (Bag (same_relation plan base from next (t + 1) rows (omega arith) i)))

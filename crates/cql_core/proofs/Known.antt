@@ -12,7 +12,7 @@ use Rattle.cql_core.specs.declared.command.Command.TheVariants.{Stream, Put, Bea
 use Rattle.cql_core.specs.declared.plan.Plan.{Plan}
 use Rattle.cql_core.specs.declared.refusal.Refusal.TheVariants.{Behind}
 use Rattle.cql_core.specs.declared.state.StreamState.{StreamState}
-use Rattle.cql_core.specs.Blocks.{blocks_of}
+use Rattle.cql_out.specs.Blocks.{blocks_of}
 use Rattle.cql_core.specs.Relation.{output_at}
 use Rattle.cql_core.specs.Planned.{reading, plan_of}
 use Rattle.cql_core.specs.Told.{Blocks, Refused, is_accepted, Says, Pinned, reads}

@@ -1,9 +1,6 @@
 mod Alone
-mod Blocks
 mod Columns
 mod Cuts
-mod Every
-mod Extend
 mod Fetches
 mod Finds
 mod Histories
@@ -21,4 +18,3 @@ mod Schemas
 mod Serving
 mod Sound
 mod Stretches
-mod Ties

@@ -7,12 +7,14 @@ use Rattle.std.proofs.lemmas.List.Elements.{recursion_from_All, All-weaker}
 use Rattle.cql_value.specs.Element.{Element}
 use Rattle.cql_window.specs.declared.window.Window.{Window}
 use Rattle.cql_window.specs.Window.{content}
-use Rattle.cql_core.specs.declared.output.Output.{Output}
-use Rattle.cql_core.specs.declared.plan.OutputKind.{OutputKind}
-use Rattle.cql_bag.specs.Bag.{Counts, bag_of}
-use Rattle.cql_core.specs.Output.{output_of}
-use Rattle.cql_core.specs.Runs.{IsStretch}
-use Rattle.cql_core.specs.Relation.{PinSeen, relation_at, output_at}
+use Rattle.cql_out.specs.declared.told.Output.{Output}
+use Rattle.cql_plan.specs.declared.plan.OutputKind.{OutputKind}
+use Rattle.cql_bag.specs.Bag.{bag_of}
+use Rattle.cql_out.specs.declared.relation.Relation.{Relation}
+use Rattle.cql_out.specs.declared.relation.Relation.TheVariants.{Bag}
+use Rattle.cql_out.specs.ByKind.{output_of}
+use Rattle.cql_out.specs.Runs.{IsStretch}
+use Rattle.cql_core.specs.Relation.{PinSeen, relation_at, value_at, output_at}
 use Rattle.cql_core.specs.Changes.{Has, IsQuiet, IsQuietUntil, HasSameContent}
 
 abbrev pub Rises : List ℕ → Type 0
@@ -34,14 +36,14 @@ stays p n to t quiet ge le =
     let at : t ≡ n + (t - n) = omega arith in ap (relation_at p) at ∙ stays_for p n (t - n) (λ u ge' lt. quiet u ge' (omega arith))
 
 -- the relation at the end of a quiet stretch
-pub still : (p : PinSeen) (n to : ℕ) (before : Counts) → IsQuietUntil p n to → n ≤ to → before ≡ relation_at p n → before ≡ relation_at p to
-still p n to before quiet le is = is ∙ sym (stays p n to to quiet le (omega arith))
+pub still : (p : PinSeen) (n to : ℕ) (before : Relation) → IsQuietUntil p n to → n ≤ to → before ≡ value_at p n → before ≡ value_at p to
+still p n to before quiet le is = is ∙ sym (ap (λ r. Bag r) (stays p n to to quiet le (omega arith)))
 
 -- the output of a quiet stretch
-pub quiet_stretch : (p : PinSeen) (n to : ℕ) (kind : OutputKind) (before : Counts) (o : Output) → kind ≡ p.plan.kind → IsQuietUntil p n to → n < to → before ≡ relation_at p n → o ≡ output_of kind before before → IsStretch (output_at p) n (to - 1) o
+pub quiet_stretch : (p : PinSeen) (n to : ℕ) (kind : OutputKind) (before : Relation) (o : Output) → kind ≡ p.plan.kind → IsQuietUntil p n to → n < to → before ≡ value_at p n → o ≡ output_of kind before before → IsStretch (output_at p) n (to - 1) o
 quiet_stretch p n to kind before o k quiet lt b is u ge le =
-    let now : relation_at p u ≡ before = stays p n to u quiet ge (omega arith) ∙ sym b in
-    let next : relation_at p (u + 1) ≡ before = stays p n to (u + 1) quiet (omega arith) (omega arith) ∙ sym b in
+    let now : value_at p u ≡ before = ap (λ r. Bag r) (stays p n to u quiet ge (omega arith)) ∙ sym b in
+    let next : value_at p (u + 1) ≡ before = ap (λ r. Bag r) (stays p n to (u + 1) quiet (omega arith) (omega arith)) ∙ sym b in
     (λ i. output_of p.plan.kind (now i) (next i)) ∙ ap (λ q. output_of q before before) (sym k) ∙ sym is
 
 unlike : (n t : ℕ) (ts : List ℕ) → AllByRecursion (λ y. n ≤ y) ts → t < n → Has ts t → ⊥

@@ -1,7 +1,7 @@
 -- What an answer is seen as.
 use Rattle.std.specs.Prelude.{◌≤◌, List}
-use Rattle.cql_core.specs.declared.output.Block.{Block}
-use Rattle.cql_core.specs.Blocks.{AreBlocks}
+use Rattle.cql_out.specs.declared.told.Block.{Block}
+use Rattle.cql_out.specs.Blocks.{AreBlocks}
 use Rattle.cql_core.specs.Relation.{PinSeen, output_at}
 
 pub record AnswerSeen : Type 0 where

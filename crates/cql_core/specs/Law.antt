@@ -5,7 +5,7 @@ use Rattle.cql_value.specs.Element.{Element}
 use Rattle.cql_window.specs.declared.window.Window.TheVariants.{Range}
 use Rattle.cql_core.specs.declared.command.Command.{Command}
 use Rattle.cql_core.specs.declared.command.Command.TheVariants.{Stream, Put, Beat, Query, Fetch}
-use Rattle.cql_core.specs.declared.output.Block.{Block}
+use Rattle.cql_out.specs.declared.told.Block.{Block}
 use Rattle.cql_core.specs.declared.plan.Plan.{Plan}
 use Rattle.cql_core.specs.declared.tenants.Tenant.{Tenant}
 use Rattle.cql_bag.specs.Bag.{bag_of}

@@ -1,5 +1,4 @@
 pub mod Answer
-pub mod Blocks
 pub mod Changes
 pub mod Checks
 pub mod Planned
@@ -7,12 +6,10 @@ pub mod History
 pub mod Law
 pub mod Machine
 pub mod Named
-pub mod Output
 pub mod Prepared
 pub mod Refusal
 pub mod Relation
 pub mod Running
-pub mod Runs
 pub mod Solo
 pub mod Sound
 pub mod State

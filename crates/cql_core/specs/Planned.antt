@@ -18,7 +18,7 @@ use Rattle.cql_plan.specs.declared.plan.Planned.{Planned}
 use Rattle.cql_plan.specs.Sources.{Readable}
 use Rattle.cql_plan.specs.Typing.{typing}
 use Rattle.cql_window.specs.declared.window.Window.TheVariants.{Range}
-use Rattle.cql_core.specs.declared.plan.OutputKind.TheVariants.{Istream}
+use Rattle.cql_plan.specs.declared.plan.OutputKind.TheVariants.{Istream}
 use Rattle.cql_core.specs.declared.plan.Plan.{Plan}
 use Rattle.cql_core.specs.declared.refusal.Refusal.{Refusal}
 use Rattle.cql_core.specs.declared.refusal.Refusal.TheVariants.{UnknownStream, UnknownColumn, AmbiguousColumn, TypeMismatch, NotYet}

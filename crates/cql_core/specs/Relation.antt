@@ -4,9 +4,11 @@ use Rattle.cql_value.specs.Element.{Element}
 use Rattle.cql_window.specs.declared.window.Window.{Window}
 use Rattle.cql_window.specs.Window.{IsWindow, content}
 use Rattle.cql_core.specs.declared.plan.Plan.{Plan}
-use Rattle.cql_core.specs.declared.output.Output.{Output}
+use Rattle.cql_out.specs.declared.told.Output.{Output}
 use Rattle.cql_bag.specs.Bag.{Counts, bag_of}
-use Rattle.cql_core.specs.Output.{output_of}
+use Rattle.cql_out.specs.declared.relation.Relation.{Relation}
+use Rattle.cql_out.specs.declared.relation.Relation.TheVariants.{Bag}
+use Rattle.cql_out.specs.ByKind.{output_of}
 
 -- a query over the rows of its input, asked for the instants from one to before another
 pub record PinSeen : Type 0 where
@@ -27,6 +29,10 @@ pub record IsPin (window : Window) (base from next : ℕ) : Type 0 where
 unfoldable pub relation_at : PinSeen → ℕ → Counts
 relation_at p c = if nat_lt p.base c then bag_of (map (λ x. x.row) (content p.plan.window c [] p.rows)) else []
 
+-- the same as what an output is made of; no query that is served has a fault
+abbrev pub value_at : PinSeen → ℕ → Relation
+value_at p c = Bag (relation_at p c)
+
 -- the output at an instant t: by the relation at t - 1, and the one at t
 abbrev pub output_at : PinSeen → ℕ → Output
-output_at p t = output_of p.plan.kind (relation_at p t) (relation_at p (t + 1))
+output_at p t = output_of p.plan.kind (value_at p t) (value_at p (t + 1))

@@ -9,7 +9,7 @@ use Rattle.cql_core.specs.declared.plan.Plan.{Plan}
 use Rattle.cql_core.specs.declared.tenants.Quotas.{Quotas}
 use Rattle.cql_core.specs.declared.tenants.Tenant.{Tenant}
 use Rattle.cql_core.specs.declared.refusal.Refusal.TheVariants.{UnknownTenant, UnknownQuery, Behind}
-use Rattle.cql_core.specs.Blocks.{blocks_of}
+use Rattle.cql_out.specs.Blocks.{blocks_of}
 use Rattle.cql_core.specs.Relation.{output_at}
 use Rattle.cql_plan.specs.Sources.{Readable}
 use Rattle.cql_core.specs.Planned.{own_streams, reading, plan_of}

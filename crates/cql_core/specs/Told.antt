@@ -1,9 +1,9 @@
 -- What the line of a reply shows, and what a step is.
 use Rattle.std.specs.Prelude.{ℕ, Bool, true, false, List}
-use Rattle.cql_core.specs.declared.output.Block.{Block}
+use Rattle.cql_out.specs.declared.told.Block.{Block}
 use Rattle.cql_core.specs.declared.refusal.Refusal.{Refusal}
 use Rattle.cql_core.specs.declared.refusal.Refusal.TheVariants.{NoMemory}
-use Rattle.cql_core.specs.Blocks.{blocks_of}
+use Rattle.cql_out.specs.Blocks.{blocks_of}
 use Rattle.cql_core.specs.Relation.{PinSeen, output_at}
 
 pub data Told : Type 0 where

@@ -3,8 +3,9 @@ ghost use Rattle.std.specs.Prelude.{◌≡◌};
 ghost use Rattle.cql_core.specs.Answer.{IsAnswer, AreBlocksOf};
 ghost use Rattle.cql_core.specs.Told.{Blocks, told_of_pin};
 
-use crate::output::Block;
 use crate::pin::Pin;
+use cql_out::Block;
+use cql_out::law::blocks_law;
 use cql_value::Items;
 use std::marker::Model;
 
@@ -49,6 +50,7 @@ impl Answer {
         ensures are { AreBlocksOf self.now.pin self.now.blocks }
         ensures answers { told_of_pin self.now.pin ≡ Blocks self.now.blocks self.now.pin.next }
     {
+        blocks_law();
         self.blocks.as_slice()
     }
 

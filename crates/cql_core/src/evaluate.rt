@@ -2,17 +2,14 @@
 ghost use Rattle.std.specs.Prelude.{◌≡◌, ◌≤◌, ◌<◌, ◌+◌, ◌^◌, IfOk, OnOk};
 ghost use Rattle.cql_core.specs.Answer.{IsAnswer};
 ghost use Rattle.cql_core.specs.Changes.{IsQuietUntil};
-ghost use Rattle.cql_core.specs.Relation.{relation_at, output_at};
-ghost use Rattle.cql_core.specs.Runs.{StandFor};
+ghost use Rattle.cql_core.specs.Relation.{value_at, output_at};
+ghost use Rattle.cql_out.specs.Runs.{StandFor};
 
 use crate::answer::Answer;
-use crate::by_kind::output;
 use crate::changes::changes;
-use crate::output::Block;
 use crate::pin::Pin;
 use crate::relation::relation;
-use crate::runs::Runs;
-use cql_bag::Bag;
+use cql_out::{Block, Relation, Runs, output};
 use cql_value::Items;
 use std::alloc::{AllocError, Global};
 
@@ -43,11 +40,11 @@ fn evaluate(alloc: Global, pin: &Pin) -> Result<Vec<Block>, AllocError>
 }
 
 // The relation before the first instant that is asked for; at the base there is none, and the base itself comes first.
-fn first(alloc: Global, pin: &Pin, runs: &mut Runs) -> Result<Bag, AllocError>
+fn first(alloc: Global, pin: &Pin, runs: &mut Runs) -> Result<Relation, AllocError>
     requires some { pin.now.from < pin.now.next }
     requires next { runs.old.next ≡ pin.now.from }
     requires stand { StandFor (output_at pin.now) pin.now.from runs.old }
-    ensures relation { IfOk result (λ r. r ≡ relation_at pin.now runs.new.next) }
+    ensures relation { IfOk result (λ r. r ≡ value_at pin.now runs.new.next) }
     ensures stand { OnOk result (StandFor (output_at pin.now) pin.now.from runs.new) }
     ensures base { OnOk result (pin.now.base < runs.new.next) }
     ensures next { OnOk result (runs.new.next ≤ pin.now.next) }
@@ -63,13 +60,19 @@ fn first(alloc: Global, pin: &Pin, runs: &mut Runs) -> Result<Bag, AllocError>
 }
 
 // Nothing changes before an instant.
-fn stay(alloc: Global, pin: &Pin, runs: &mut Runs, before: &Bag, to: u64) -> Result<(), AllocError>
+fn stay(
+    alloc: Global,
+    pin: &Pin,
+    runs: &mut Runs,
+    before: &Relation,
+    to: u64,
+) -> Result<(), AllocError>
     requires forward { runs.old.next ≤ to }
     requires bound { to ≤ 2 ^ 62 }
-    requires relation { before.now ≡ relation_at pin.now runs.old.next }
+    requires relation { before.now ≡ value_at pin.now runs.old.next }
     requires stand { StandFor (output_at pin.now) pin.now.from runs.old }
     requires quiet { IsQuietUntil pin.now runs.old.next to }
-    ensures relation { before.now ≡ relation_at pin.now to }
+    ensures relation { before.now ≡ value_at pin.now to }
     ensures stand { OnOk result (StandFor (output_at pin.now) pin.now.from runs.new) }
     ensures next { OnOk result (runs.new.next ≡ to) }
 {
@@ -89,15 +92,15 @@ fn change(
     alloc: Global,
     pin: &Pin,
     runs: &mut Runs,
-    before: Bag,
+    before: Relation,
     at: u64,
-) -> Result<Bag, AllocError>
+) -> Result<Relation, AllocError>
     requires forward { runs.old.next ≤ at }
     requires bound { at < 2 ^ 62 }
-    requires relation { before ≡ relation_at pin.now runs.old.next }
+    requires relation { before ≡ value_at pin.now runs.old.next }
     requires stand { StandFor (output_at pin.now) pin.now.from runs.old }
     requires quiet { IsQuietUntil pin.now runs.old.next at }
-    ensures relation { IfOk result (λ r. r ≡ relation_at pin.now (at + 1)) }
+    ensures relation { IfOk result (λ r. r ≡ value_at pin.now (at + 1)) }
     ensures stand { OnOk result (StandFor (output_at pin.now) pin.now.from runs.new) }
     ensures next { OnOk result (runs.new.next ≡ at + 1) }
 {

@@ -3,12 +3,10 @@
 #![tactic(auto)]
 
 pub mod answer;
-mod by_kind;
 mod changes;
 mod command;
 pub mod evaluate;
 pub mod law;
-mod output;
 mod pin;
 mod plan;
 mod planned;
@@ -17,7 +15,6 @@ mod refusal;
 mod relation;
 mod reply;
 mod running;
-pub mod runs;
 mod server;
 mod shared;
 mod shelf;
@@ -27,9 +24,10 @@ mod tenants;
 
 pub use answer::Answer;
 pub use command::{ColumnText, Command};
-pub use output::{Block, Output};
+pub use cql_out::{Block, Output};
+pub use cql_plan::OutputKind;
 pub use pin::Pin;
-pub use plan::{OutputKind, Plan};
+pub use plan::Plan;
 pub use ready::{Prepared, prepare};
 pub use refusal::Refusal;
 pub use reply::{Reply, Step};

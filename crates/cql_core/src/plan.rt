@@ -1,14 +1,7 @@
 // What a query computes.
-use cql_plan::Plan as Typed;
+use cql_plan::{OutputKind, Plan as Typed};
 use cql_value::{Name, Text};
 use cql_window::Window;
-
-/// What a query tells of its relation at an instant, beside the relation of the instant before.
-#[derive(Clone, Copy)]
-pub enum OutputKind {
-    /// The rows that are new.
-    Istream,
-}
 
 /// A query: what its typing plans and its canonical text; and of a query that is served the window
 /// through which it looks at a stream of the tenant's own, and what it tells.

@@ -5,11 +5,11 @@ ghost use Rattle.cql_core.specs.Planned.{is_own, schema_in, plain_range, plain_i
 ghost use Rattle.cql_core.specs.Named.{each};
 ghost use Rattle.cql_core.specs.State.{readable_at, clock_of};
 
-use crate::plan::{OutputKind, Plan};
+use crate::plan::Plan;
 use crate::refusal::Refusal;
 use crate::shared::Shared;
 use crate::state::Home;
-use cql_plan::{Lookup, Plan as Typed, PlanError, PlanFault, resolve};
+use cql_plan::{Lookup, OutputKind, Plan as Typed, PlanError, PlanFault, resolve};
 use cql_syntax::syntax::{Input, Query, SelectBlock, Selection, StreamOperator, WrittenWindow};
 use cql_text::Syntax;
 use cql_value::{Schema, Text};

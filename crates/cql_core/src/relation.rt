@@ -1,10 +1,11 @@
 // The relation of a pin at a cursor.
 ghost use Rattle.std.specs.Prelude.{◌≡◌, ◌≤◌, ◌^◌, map, IfOk};
 ghost use Rattle.cql_bag.specs.Bag.{bag_of};
-ghost use Rattle.cql_core.specs.Relation.{relation_at};
+ghost use Rattle.cql_core.specs.Relation.{value_at};
 
 use crate::pin::Pin;
 use cql_bag::Bag;
+use cql_out::Relation;
 use cql_value::Timed;
 use cql_window::content_at;
 use std::alloc::{AllocError, Global};
@@ -22,13 +23,13 @@ fn bag_of_rows(alloc: Global, elements: &[Timed]) -> Result<Bag, AllocError>
 
 /// The relation at the instant before the cursor, in ticks.
 #[tactic(auto, unfolding(crate::specs::Relation::relation_at))]
-pub fn relation(alloc: Global, pin: &Pin, cursor: u64) -> Result<Bag, AllocError>
+pub fn relation(alloc: Global, pin: &Pin, cursor: u64) -> Result<Relation, AllocError>
     requires { cursor ≤ 2 ^ 62 }
-    ensures { IfOk result (λ b. b ≡ relation_at pin.now cursor) }
+    ensures { IfOk result (λ r. r ≡ value_at pin.now cursor) }
 {
     if cursor <= pin.base() {
-        return Ok(Bag::new(alloc));
+        return Ok(Relation::Bag(Bag::new(alloc)));
     }
     let content = content_at(alloc, pin.window(), pin.rows(), cursor - 1)?;
-    bag_of_rows(alloc, &content)
+    Ok(Relation::Bag(bag_of_rows(alloc, &content)?))
 }

@@ -2,7 +2,6 @@
 use cql_core::law::{
     alone_law, fetch_law, history_law, isolation_law, query_law, relation_law, reply_law, solo_law,
 };
-use cql_core::runs::{blocks_are_unique, blocks_law, local_law};
 
 #[test]
 fn laws() {
@@ -14,7 +13,4 @@ fn laws() {
     query_law();
     relation_law();
     alone_law();
-    blocks_are_unique();
-    blocks_law();
-    local_law();
 }

@@ -5,9 +5,11 @@ use Rattle.std.specs.Io.KnownBytes.{Appends}
 use Rattle.json.specs.Print.{quoted}
 use Rattle.cql_value.specs.declared.value.Value.{Value}
 use Rattle.cql_value.specs.declared.value.Value.TheVariants.{Number, Text}
-use Rattle.cql_core.specs.declared.output.Output.{Output}
-use Rattle.cql_core.specs.declared.output.Output.TheVariants.{Rows}
-use Rattle.cql_core.specs.declared.output.Block.{Block}
+use Rattle.cql_plan.specs.declared.fault.Fault.{Fault as ValueFault}
+use Rattle.cql_plan.specs.declared.fault.Fault.TheVariants.{Oversize, Overflow}
+use Rattle.cql_out.specs.declared.told.Output.{Output}
+use Rattle.cql_out.specs.declared.told.Output.TheVariants.{Rows, Signed, Fault}
+use Rattle.cql_out.specs.declared.told.Block.{Block}
 use Rattle.cql_core.specs.declared.refusal.Refusal.{Refusal}
 use Rattle.cql_core.specs.declared.refusal.Refusal.TheVariants.{BadQuery}
 use Rattle.cql_core.specs.Refusal as refusal
@@ -39,11 +41,19 @@ row_text = list_text value_text
 abbrev pub rows_text : List (List Value) → List ℕ
 rows_text = list_text row_text
 
+-- the word of a relation without a value
+abbrev pub fault_word : ValueFault → List ℕ
+fault_word Oversize = codes "oversize"
+fault_word Overflow = codes "overflow"
+
+-- the ends of the run, and between them in the order of the keys what is told at each of its instants
 abbrev pub block_text : Block → List ℕ
 block_text b = with_output b.from b.to b.output
   where
     with_output : ℕ → ℕ → Output → List ℕ
     with_output from to (Rows rows) = codes "{\"from\":" ++ (decimal from ++ (codes ",\"rows\":" ++ (rows_text rows ++ (codes ",\"to\":" ++ (decimal to ++ codes "}")))))
+    with_output from to (Signed plus minus) = codes "{\"from\":" ++ (decimal from ++ (codes ",\"minus\":" ++ (rows_text minus ++ (codes ",\"plus\":" ++ (rows_text plus ++ (codes ",\"to\":" ++ (decimal to ++ codes "}")))))))
+    with_output from to (Fault fault) = codes "{\"fault\":\"" ++ (fault_word fault ++ (codes "\",\"from\":" ++ (decimal from ++ (codes ",\"to\":" ++ (decimal to ++ codes "}")))))
 
 abbrev pub blocks_text : List Block → List ℕ
 blocks_text = list_text block_text

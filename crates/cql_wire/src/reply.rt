@@ -3,12 +3,14 @@ ghost use Rattle.std.specs.Prelude.{◌≡◌, ◌++◌, ◌||◌, is_err, flat_
 ghost use Rattle.std.specs.Io.KnownBytes.{Appends};
 ghost use Rattle.cql_core.specs.Told.{Done, Based, Blocks, Refused};
 ghost use Rattle.cql_wire.specs.Watched.{inner_of, has_failed, Grows};
-ghost use Rattle.cql_wire.specs.Line.{value_text, row_text, rows_text, block_text, blocks_text, refused_line, refused_at_line, told_line, fault_line, AppendsEither, GrowsEither, AppendsReply, GrowsReply};
+ghost use Rattle.cql_wire.specs.Line.{value_text, row_text, rows_text, fault_word, block_text, blocks_text, refused_line, refused_at_line, told_line, fault_line, AppendsEither, GrowsEither, AppendsReply, GrowsReply};
 ghost use Rattle.cql_core.specs.Steps.{told_of};
 
 use crate::fault::LineFault;
 use crate::watched::{Watched, WriteFault};
-use cql_core::{Block, Output, Refusal, Reply};
+use cql_core::{Refusal, Reply};
+use cql_out::{Block, Output};
+use cql_plan::Fault;
 use cql_value::{Row, Value};
 use serde_json::Value as Json;
 use std::alloc::{AllocError, Global};
@@ -67,6 +69,16 @@ fn push_rows(alloc: Global, line: &mut String, rows: &[Row]) -> Result<(), Alloc
     line.push_str("]")
 }
 
+// The word of a relation without a value.
+fn fault_word(fault: Fault) -> &'static str
+    ensures { result.now ≡ fault_word fault }
+{
+    match fault {
+        Fault::Oversize => "oversize",
+        Fault::Overflow => "overflow",
+    }
+}
+
 fn push_block(alloc: Global, line: &mut String, block: &Block) -> Result<(), AllocError>
     ensures { OnOk result (string_bytes line.new ≡ string_bytes line.old ++ block_text block.now) }
 {
@@ -76,11 +88,25 @@ fn push_block(alloc: Global, line: &mut String, block: &Block) -> Result<(), All
             push_number(line, block.from)?;
             line.push_str(",\"rows\":")?;
             push_rows(alloc, line, rows.as_slice())?;
-            line.push_str(",\"to\":")?;
-            push_number(line, block.to)?;
-            line.push_str("}")
+        }
+        Output::Signed { plus, minus } => {
+            line.push_str("{\"from\":")?;
+            push_number(line, block.from)?;
+            line.push_str(",\"minus\":")?;
+            push_rows(alloc, line, minus.as_slice())?;
+            line.push_str(",\"plus\":")?;
+            push_rows(alloc, line, plus.as_slice())?;
+        }
+        Output::Fault(fault) => {
+            line.push_str("{\"fault\":\"")?;
+            line.push_str(fault_word(*fault))?;
+            line.push_str("\",\"from\":")?;
+            push_number(line, block.from)?;
         }
     }
+    line.push_str(",\"to\":")?;
+    push_number(line, block.to)?;
+    line.push_str("}")
 }
 
 fn push_blocks(alloc: Global, line: &mut String, blocks: &[Block]) -> Result<(), AllocError>

@@ -4,7 +4,12 @@ ghost use Rattle.std.specs.Prelude.{◌≡◌, false};
 ghost use Rattle.cql_wire.specs.Watched.{has_failed};
 
 use crate::program::program;
-use cql_wire::{FirstFault, LineFault, Lines, Watched, first_line, write_base, write_fault};
+use cql_out::{Block, Output};
+use cql_plan::Fault;
+use cql_value::{Items, Row, Value};
+use cql_wire::{
+    FirstFault, LineFault, Lines, Watched, first_line, write_base, write_blocks, write_fault,
+};
 use faulty::{NarrowWriter, SlowReader};
 use std::alloc::Global;
 use std::test::Fail;
@@ -216,6 +221,51 @@ fn lines_that_no_command_is_answered_with(rt: HostRuntime) -> Result<(), Fail> {
     let wanted = r#"{"base":18446744073709551615}
 {"name":"NoMemory","refused":70}
 "#;
+    assert!(rt; writer.into_inner().as_slice() == wanted.as_bytes());
+    Ok(())
+}
+
+/// Rows of one number each.
+fn rows(alloc: Global, numbers: &[i64]) -> Result<Items<Row>, Fail> {
+    let mut rows = Vec::new(alloc);
+    for number in numbers {
+        rows.push(Row::new(vec![in alloc; Value::Number(*number)]?))?;
+    }
+    Ok(Items::from_vec(rows))
+}
+
+fn signed(alloc: Global, plus: &[i64], minus: &[i64]) -> Result<Output, Fail> {
+    let plus = rows(alloc, plus)?;
+    let minus = rows(alloc, minus)?;
+    Ok(Output::Signed { plus, minus })
+}
+
+fn push_block(blocks: &mut Vec<Block>, from: u64, to: u64, output: Output) -> Result<(), Fail> {
+    blocks.push(Block { from, to, output })?;
+    Ok(())
+}
+
+/// Blocks of the kinds that no query is served with.
+fn blocks(alloc: Global) -> Result<Vec<Block>, Fail> {
+    let mut blocks = Vec::new(alloc);
+    push_block(&mut blocks, 3, 4, signed(alloc, &[1, 1], &[2])?)?;
+    push_block(&mut blocks, 5, 5, Output::Fault(Fault::Overflow))?;
+    push_block(&mut blocks, 6, 9, Output::Fault(Fault::Oversize))?;
+    push_block(&mut blocks, 11, 11, signed(alloc, &[], &[-1])?)?;
+    Ok(blocks)
+}
+
+#[test]
+fn blocks_that_no_query_tells(rt: HostRuntime) -> Result<(), Fail> {
+    let alloc = rt.alloc();
+    let mut writer = Watched::new(Vec::new(alloc));
+    write_blocks(alloc, &mut writer, &blocks(alloc)?, 12)?;
+    let wanted = concat!(
+        r#"{"blocks":[{"from":3,"minus":[[2]],"plus":[[1],[1]],"to":4},"#,
+        r#"{"fault":"overflow","from":5,"to":5},{"fault":"oversize","from":6,"to":9},"#,
+        r#"{"from":11,"minus":[[-1]],"plus":[],"to":11}],"next":12}"#,
+        "\n",
+    );
     assert!(rt; writer.into_inner().as_slice() == wanted.as_bytes());
     Ok(())
 }

@@ -1,6 +1,6 @@
 use Rattle.std.proofs.Common.{arith, ◌≡◌, ◌≤◌, ◌<◌, ◌+◌, get_or, ℕ, subst, sym, ap, ◌∙◌}
 use Rattle.std.proofs.lemmas.List.{drop_all}
-use Rattle.cql_core.specs.Relation.{relation_at}
+use Rattle.cql_core.specs.Relation.{value_at}
 use Rattle.cql_core.proofs.Quiet.{AreLeft, left_first, left_at, left_after, left_quiet, left_end}
 use Rattle.cql_core.proofs.evaluate.evaluate.Goals as goal
 use Rattle.cql_core.proofs.evaluate.evaluate.Goals.{then-at-next+in_ok-before-2, else-at-next}
@@ -31,7 +31,7 @@ loop-at-preserved c =
           let before : at < c.args.pin.now.next = left.1.0 in
           let forward : c.loop-at.runs.next ≤ at = omega (arith, w.if-at-next.true, c.next-in-loop-at.ensures) in
           rw (w.runs-is, w.before-is) (record {
-            relation = w.in_ok-before-2.ensures.relation ∙ ap (relation_at c.args.pin.now) (sym next);
+            relation = w.in_ok-before-2.ensures.relation ∙ ap (value_at c.args.pin.now) (sym next);
             stand = w.in_ok-before-2.ensures.stand;
             end = omega (arith, next, before);
             left = left_after c.args.pin.now c.loop-at.runs.next w.change.new.runs.next c.loop-at.at-index c.deref-at-items.result.now c.loop-at-test.true (omega (arith, next, forward)) (omega (arith, next)) c.loop-at.invariant.left;

@@ -6,4 +6,4 @@ use Rattle.cql_core.proofs.answer.Answer.blocks.Goals as goal
 
 pub returns-clause-answers : goal.returns-clause-answers
 returns-clause-answers c =
-    subst (λ (a : AnswerSeen). told_of_pin a.pin ≡ Blocks a.blocks a.pin.next) c.self.view_is (told_is _ _ c.self.invariant)
+    subst (λ (a : AnswerSeen). told_of_pin a.pin ≡ Blocks a.blocks a.pin.next) c.self.view_is (told_is c.blocks_law.ensures _ _ c.self.invariant)

@@ -1,0 +1,4 @@
+mod Blocks
+mod Every
+mod Extend
+mod Ties

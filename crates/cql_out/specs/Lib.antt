@@ -1,0 +1,4 @@
+pub mod Blocks
+pub mod ByKind
+pub mod Output
+pub mod Runs

@@ -7,13 +7,13 @@ ghost use Rattle.cql_core.specs.Runs.{StandFor};
 
 use crate::answer::Answer;
 use crate::by_kind::output;
-use crate::changes::changes;
 use crate::output::Block;
 use crate::pin::Pin;
 use crate::relation::relation;
 use crate::runs::Runs;
 use cql_bag::Bag;
 use cql_value::Items;
+use cql_window::changes_of;
 use std::alloc::{AllocError, Global};
 
 /// The blocks of a pin. Relations are computed only where the window's content may change.
@@ -32,7 +32,14 @@ fn evaluate(alloc: Global, pin: &Pin) -> Result<Vec<Block>, AllocError>
         return Ok(runs.finish());
     }
     let mut before = first(alloc, pin, &mut runs)?;
-    let instants = changes(alloc, pin.window(), pin.rows(), runs.next(), pin.next())?;
+    let instants = changes_of(
+        alloc,
+        pin.window(),
+        &[],
+        pin.rows(),
+        runs.next(),
+        pin.next(),
+    )?;
     for at in instants.iter() {
         if *at >= runs.next() {
             before = change(alloc, pin, &mut runs, before, *at)?;

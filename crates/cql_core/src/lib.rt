@@ -4,7 +4,6 @@
 
 pub mod answer;
 mod by_kind;
-mod changes;
 mod command;
 pub mod evaluate;
 pub mod law;

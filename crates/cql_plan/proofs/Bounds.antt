@@ -1,6 +1,6 @@
 -- The numbers of written windows are those that windows may have.
-use Rattle.std.proofs.Common.{◌≡◌, ◌≤◌, ◌<◌, ℕ, ◌*◌, ◌^◌, Bool, true, false, nat_lt, nat_le, List, [], ◌∷◌, refl, sym, subst, ap, ◌∙◌, arith, inl, inr}
-use Rattle.std.specs.Prelude.{Option, Some, None, IfSome, if◌then◌else◌}
+use Rattle.std.proofs.Common.{◌≡◌, ◌≤◌, ◌<◌, ℕ, zero, suc, ◌*◌, ◌^◌, Bool, true, false, nat_lt, nat_le, List, [], ◌∷◌, refl, sym, subst, ap, ◌∙◌, arith, inl, inr}
+use Rattle.std.specs.Prelude.{Option, Some, None, IfSome, if◌then◌else◌, codes}
 use Rattle.std.specs.List.{All, AllByRecursion}
 use Rattle.std.proofs.lemmas.Bool.Decides.{nat_tests}
 use Rattle.std.proofs.lemmas.List.Elements.{All-from_recursion}
@@ -33,7 +33,9 @@ IsUnit unit = IfSome unit (λ u. 1 ≤ u)
 
 named_unit : (w : List ℕ) → IsUnit (unit_named w)
 unfolding unit_named
-named_unit w = at (is_either w _ _) (is_either w _ _) (is_either w _ _) (is_either w _ _)
+named_unit w =
+    at (is_either w (codes "second") (codes "seconds")) (is_either w (codes "minute") (codes "minutes")) (is_either w (codes "hour") (codes "hours"))
+    (is_either w (codes "day") (codes "days"))
   where
     at : (a b c d : Bool) → IsUnit (if a then Some 1 else (if b then Some 60 else (if c then Some 3600 else (if d then Some 86400 else None))))
     at true b c d = omega arith
@@ -53,6 +55,10 @@ token_unit (t.Fixed j) = tt
 token_unit (t.Number n) = tt
 token_unit (t.Text s) = tt
 
+at_least : (n u : ℕ) → 1 ≤ u → n ≤ n * u
+at_least n zero some = absurd (omega arith)
+at_least n (suc u) some = omega arith
+
 times_from : (least n m : ℕ) (unit : Option ℕ) → IsUnit unit → least ≤ 1 → least ≤ n → times n unit ≡ Some m → From least m
 times_from least n m None some small le so = absurd cc
 times_from least n m (Some u) some small le so = at (nat_lt (n * u) (2 ^ 62)) refl so
@@ -64,8 +70,6 @@ times_from least n m (Some u) some small le so = at (nat_lt (n * u) (2 ^ 62)) re
         let low : n ≤ n * u = at_least n u some in
         (omega arith, omega arith)
     at false h same = absurd cc
-    at_least : (n u : ℕ) → 1 ≤ u → n ≤ n * u
-    at_least n u some = grind (arith)
 
 length_from : (least : ℕ) (ts : Tokens) (n : ℕ) (rest : Tokens) → least ≤ 1 → IsLength least ts n rest → From least n
 length_from least ts n rest small (m, us, (u, is, number), (None, vs, none, (same, end))) =

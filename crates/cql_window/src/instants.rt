@@ -19,31 +19,46 @@ pub fn changes(alloc: Global, pin: &WindowPin, from: u64, to: u64) -> Result<Vec
     ensures few { IfOk result (λ v. length v.items ≤ 2 * (length pin.now.content + length pin.now.unseen)) }
     ensures every { IfOk result (λ v. (t : ℕ) → from ≤ t → t < to → Contains v.items t ⊎ HasSameContent pin.now.window t pin.now.content pin.now.unseen) }
 {
-    pin.window().keeps_bounds();
-    let mut instants = candidates(alloc, pin, from, to)?;
+    changes_of(alloc, pin.window(), pin.content(), pin.unseen(), from, to)
+}
+
+/// The same of a window's content and the rows that came after, in whatever order.
+pub fn changes_of(
+    alloc: Global,
+    window: &Window,
+    content: &[Timed],
+    unseen: &[Timed],
+    from: u64,
+    to: u64,
+) -> Result<Vec<u64>, AllocError>
+    ensures rising { IfOk result (λ v. IsStrictlyIncreasing v.items) }
+    ensures within { IfOk result (λ v. All (λ t. (from ≤ t) × (t < to)) v.items) }
+    ensures few { IfOk result (λ v. length v.items ≤ 2 * (length content.now + length unseen.now)) }
+    ensures every { IfOk result (λ v. (t : ℕ) → from ≤ t → t < to → Contains v.items t ⊎ HasSameContent window.now t content.now unseen.now) }
+{
+    window.keeps_bounds();
+    let mut instants = candidates(alloc, window, content, unseen, from, to)?;
     instants.sort()?;
     instants.dedup();
     Ok(instants)
 }
 
 // The instants of [from, to) at which a row comes or goes.
-fn candidates(alloc: Global, pin: &WindowPin, from: u64, to: u64) -> Result<Vec<u64>, AllocError>
-    ensures { IfOk result (λ v. v.items ≡ filter (is_within from to) (moments pin.now.window pin.now.content pin.now.unseen)) }
+fn candidates(
+    alloc: Global,
+    window: &Window,
+    content: &[Timed],
+    unseen: &[Timed],
+    from: u64,
+    to: u64,
+) -> Result<Vec<u64>, AllocError>
+    ensures { IfOk result (λ v. v.items ≡ filter (is_within from to) (moments window.now content.now unseen.now)) }
 {
-    match pin.window() {
+    match window {
         Window::Range { length, slide } => {
-            range_candidates(
-                alloc,
-                *length,
-                *slide,
-                pin.content(),
-                pin.unseen(),
-                from,
-                to,
-            )
+            range_candidates(alloc, *length, *slide, content, unseen, from, to)
         }
-        _ => pin
-            .unseen()
+        _ => unseen
             .iter()
             .map(|row| row.at())
             .filter(|t| from <= *t && *t < to)

@@ -16,6 +16,6 @@ pub mod window;
 
 pub use amount::{Count, Length};
 pub use content::{charge, split};
-pub use instants::changes;
+pub use instants::{changes, changes_of};
 pub use pin::WindowPin;
 pub use window::Window;

@@ -1,10 +1,10 @@
 -- What comes from an instant on isn't seen before it.
-use Rattle.std.proofs.Common.{◌≡◌, ℕ, zero, suc, ◌+◌, ◌-◌, ◌≤◌, ◌<◌, List, [], ◌∷◌, map, take, true, false, cond, nat_lt, refl, sym, ap, ◌∙◌, arith}
+use Rattle.std.proofs.Common.{◌≡◌, ℕ, zero, suc, ◌+◌, ◌-◌, ◌*◌, ◌/◌, ◌≤◌, ◌<◌, List, [], ◌∷◌, map, take, true, false, cond, nat_lt, refl, sym, ap, ◌∙◌, arith}
 use Rattle.std.proofs.lemmas.Bool.Decides.{nat_tests}
 use Rattle.std.proofs.Math.Nat.{div-mul-le_self}
 use Rattle.cql_value.specs.Element.{Element}
 use Rattle.cql_window.specs.declared.window.Window.{Window}
-use Rattle.cql_window.specs.declared.window.Window.TheVariants.{Range}
+use Rattle.cql_window.specs.declared.window.Window.TheVariants.{Range, Rows, All as all, Parts}
 use Rattle.cql_window.specs.Window.{end_of, count_before, kept, content}
 use Rattle.cql_core.specs.declared.plan.Plan.{Plan}
 use Rattle.cql_bag.specs.Bag.{bag_of}
@@ -14,6 +14,7 @@ use Rattle.cql_out.specs.ByKind.{output_of}
 use Rattle.cql_out.specs.Blocks.{extended, blocks_of_many, blocks_of, IsLocalLaw}
 use Rattle.cql_core.specs.Relation.{PinSeen, relation_at, output_at}
 use Rattle.cql_core.specs.Machine.{rows_before}
+use Rattle.cql_window.proofs.Ends.{floor_le, before_mono}
 
 one_add : (n : ℕ) → 1 + n ≡ suc n
 one_add n = omega arith
@@ -43,9 +44,31 @@ end_within slide (suc t) = omega (arith, div-mul-le_self t slide)
 within : (slide c n : ℕ) → c ≤ n → end_of slide c ≤ n
 within slide c n le = omega (arith, end_within slide c)
 
+count_cut : (a b : ℕ) (xs : List Element) → a ≤ b → count_before a (rows_before b xs) ≡ count_before a xs
+count_cut a b [] le = refl
+count_cut a b (x ∷ xs) le =
+    ap (count_before a) (before_cons b x xs)
+    ∙ elim (nat_lt x.at b) as (λ v. nat_lt x.at b ≡ v → count_before a (cond v (x ∷ rows_before b xs) []) ≡ count_before a (x ∷ xs)) [
+      | true ↦ λ h. ap (λ n. cond (nat_lt x.at a) (1 + n) 0) (count_cut a b xs le)
+      | false ↦ λ h. sym (ap (λ v. cond v (1 + count_before a xs) 0) (not_sooner a b x le h))
+    ] refl
+
+take_less : {A : Type 0} (k n : ℕ) (xs : List A) → k ≤ n → take k (take n xs) ≡ take k xs
+take_less zero n xs le = refl
+take_less (suc k) zero xs le = absurd (omega arith)
+take_less (suc k) (suc n) [] le = refl
+take_less (suc k) (suc n) (x ∷ xs) le = ap (λ l. x ∷ l) (take_less k n xs (omega arith))
+
 -- a window at a cursor sees no row from there on
 pub content_cut : (w : Window) (c n : ℕ) (xs : List Element) → c ≤ n → content w c [] (rows_before n xs) ≡ content w c [] xs
 content_cut (Range length slide) c n xs le = ap (λ l. kept (Range length slide) c l) (cut (end_of slide c) n xs (within slide c n le))
+content_cut (Rows count slide) c n xs le =
+    let k : ℕ = count_before c xs / slide * slide in
+    let few : k ≤ count_before n xs = omega (arith, floor_le (count_before c xs) slide, before_mono c n xs le) in
+    ap (λ m. kept (Rows count slide) c (take (m / slide * slide) (rows_before n xs))) (count_cut c n xs le)
+    ∙ ap (λ l. kept (Rows count slide) c l) (take_less k (count_before n xs) xs few)
+content_cut all c n xs le = cut c n xs le
+content_cut (Parts columns count) c n xs le = ap (λ l. kept (Parts columns count) c l) (cut c n xs le)
 
 abbrev pub seen_by : Plan → ℕ → ℕ → ℕ → List Element → PinSeen
 seen_by plan base from next rows = record { plan = plan; base = base; from = from; next = next; rows = rows }

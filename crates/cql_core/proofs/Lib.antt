@@ -7,7 +7,6 @@ mod Histories
 mod Known
 mod Laws
 mod Looks
-mod Moments
 mod Order
 mod Places
 mod Queries

@@ -8,8 +8,8 @@ use Rattle.cql_value.specs.declared.value.Value.{Value}
 use Rattle.cql_value.specs.declared.schema.Column.{Column}
 use Rattle.cql_value.specs.Schema.{is_row_of}
 use Rattle.cql_window.specs.declared.window.Window.TheVariants.{Range}
-use Rattle.cql_window.specs.Window.{content}
-use Rattle.cql_window.specs.Law.{AreAscending, IsRangeLaw}
+use Rattle.cql_window.specs.Window.{AreAscending, content}
+use Rattle.cql_window.specs.Laws.{IsRangeLaw, IsLastMultiple}
 use Rattle.cql_core.specs.declared.command.ColumnText.{ColumnText}
 use Rattle.cql_core.specs.declared.command.Command.{Command}
 use Rattle.cql_core.specs.declared.command.Command.TheVariants.{Stream, Put, Beat, Query, Fetch}
@@ -175,13 +175,17 @@ all_ordered : (k : Known) (seen : List Seen) → IsOrdered k → IsOrdered (know
 all_ordered k [] ordered = ordered
 all_ordered k (e ∷ es) ordered = all_ordered (known_after k e) es (step_ordered k ordered e)
 
+-- without a slide each instant is a multiple
+itself : (t : ℕ) → IsLastMultiple 1 t t
+itself t = ((t, omega arith), omega arith, omega arith)
+
 relation_is : IsRangeLaw → (q : Asked) (from next ticks t : ℕ) → AreAscending q.rows → q.plan.window ≡ Range ticks 1 → q.base ≤ t
     → relation_at (seen_by q.plan q.base from next q.rows) (t + 1) ≡ bag_of (map (λ x. x.row) (filter (λ x. nat_le (t - ticks) x.at && nat_le x.at t) q.rows))
 unfolding relation_at
 relation_is range q from next ticks t ascending window le =
     let begun : nat_lt q.base (t + 1) ≡ true = grind (arith, nat_tests) in
     (λ i. if begun i then bag_of (map (λ x. x.row) (content (window i) (t + 1) [] q.rows)) else [])
-    ∙ ap (λ (xs : List Element). bag_of (map (λ x. x.row) xs)) (range ticks t q.rows ascending)
+    ∙ ap (λ (xs : List Element). bag_of (map (λ x. x.row) xs)) (range ticks 1 t t q.rows ascending (itself t))
 
 pub relation_law : IsRangeLaw → IsRelationLaw
 relation_law range table tenant seen name q from next ticks t found window le =

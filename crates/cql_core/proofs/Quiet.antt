@@ -1,21 +1,31 @@
 -- Where nothing changes.
 use Rattle.std.proofs.Common.{◌≡◌, ℕ, zero, suc, ◌+◌, ◌-◌, ◌≤◌, ◌<◌, List, [], ◌∷◌, map, drop, drop-cons, length, get_or, true, cond, nat_lt, ◌⊎◌, inl, inr, sym, ap, ◌∙◌, subst, arith}
-use Rattle.std.specs.List.{All, AllByRecursion}
-use Rattle.std.specs.List.Sorted.{IsNonDecreasing}
+use Rattle.std.specs.List.{All, AllByRecursion, Contains}
+use Rattle.std.specs.List.Sorted.{IsStrictlyIncreasing}
 use Rattle.std.proofs.lemmas.Bool.Decides.{nat_tests}
 use Rattle.std.proofs.lemmas.List.Elements.{recursion_from_All, All-weaker}
 use Rattle.cql_value.specs.Element.{Element}
 use Rattle.cql_window.specs.declared.window.Window.{Window}
-use Rattle.cql_window.specs.Window.{content}
+use Rattle.cql_window.specs.Window.{content, HasSameContent}
 use Rattle.cql_out.specs.declared.told.Output.{Output}
 use Rattle.cql_plan.specs.declared.plan.OutputKind.{OutputKind}
-use Rattle.cql_bag.specs.Bag.{bag_of}
+use Rattle.cql_bag.specs.Bag.{Counts, bag_of}
 use Rattle.cql_out.specs.declared.relation.Relation.{Relation}
 use Rattle.cql_out.specs.declared.relation.Relation.TheVariants.{Bag}
 use Rattle.cql_out.specs.ByKind.{output_of}
 use Rattle.cql_out.specs.Runs.{IsStretch}
 use Rattle.cql_core.specs.Relation.{PinSeen, relation_at, value_at, output_at}
-use Rattle.cql_core.specs.Changes.{Has, IsQuiet, IsQuietUntil, HasSameContent}
+use Rattle.cql_core.specs.Changes.{IsQuiet, IsQuietUntil}
+
+-- the instant is among them
+abbrev pub Has : List ℕ → ℕ → Type 0
+Has [] t = ⊥
+Has (x ∷ xs) t = (x ≡ t) ⊎ Has xs t
+
+has : (t : ℕ) (xs : List ℕ) (k : ℕ) → k < length xs → get_or xs k t ≡ t → Has xs t
+has t [] k lt e = absurd (omega arith)
+has t (x ∷ xs) zero lt e = inl e
+has t (x ∷ xs) (suc k) lt e = inr (has t xs k (omega arith) e)
 
 abbrev pub Rises : List ℕ → Type 0
 Rises [] = Unit {0}
@@ -64,12 +74,21 @@ pub left_later : (p : PinSeen) (n m a : ℕ) (ts : List ℕ) → n ≤ m → a <
 left_later p n m a ts le past left =
     (left.0.1, left.1.1, (λ t ge lt. elim (left.2 t (omega arith) lt) [ inl (inl e) ↦ absurd (omega (arith, e)) | inl (inr h) ↦ inl h | inr quiet ↦ inr quiet ]))
 
-rises : (ts : List ℕ) → IsNonDecreasing ts → Rises ts
+above : (x y : ℕ) (ys : List ℕ) → x ≤ y → AllByRecursion (λ z. y ≤ z) ys → AllByRecursion (λ z. x ≤ z) ys
+above x y [] le all = tt
+above x y (z ∷ zs) le all = (omega (arith, all.0), above x y zs le all.1)
+
+from_head : (x : ℕ) (xs : List ℕ) → Rises xs → (0 < length xs → x ≤ get_or xs 0 0) → AllByRecursion (λ y. x ≤ y) xs
+from_head x [] rise le = tt
+from_head x (y ∷ ys) rise le = (le (omega arith), above x y ys (le (omega arith)) rise.0)
+
+rises : (ts : List ℕ) → IsStrictlyIncreasing ts → Rises ts
 rises [] order = tt
 rises (x ∷ xs) order =
-    (recursion_from_All (λ y. x ≤ y) xs (λ k d lt. order 0 (suc k) d (omega arith) (omega arith)), rises xs (λ i j d le lt. order (suc i) (suc j) d (omega arith) (omega arith)))
+    let later : Rises xs = rises xs (λ k lt. order (suc k) (omega arith)) in
+    (from_head x xs later (λ some. let lt : x < get_or xs 0 0 = order 0 (omega arith) in omega arith), later)
 
-quiet_at : (p : PinSeen) (t : ℕ) → p.base < t → HasSameContent t p.plan.window p.rows → IsQuiet p t
+quiet_at : (p : PinSeen) (t : ℕ) → p.base < t → HasSameContent p.plan.window t [] p.rows → IsQuiet p t
 unfolding relation_at
 quiet_at p t base same =
     let after : nat_lt p.base t ≡ true = grind (arith, nat_tests) in
@@ -78,16 +97,16 @@ quiet_at p t base same =
     ∙ ap (λ xs. bag_of (map (λ x. x.row) xs)) same
     ∙ ap (λ b. cond b (bag_of (map (λ x. x.row) (content p.plan.window t [] p.rows))) []) (sym after)
 
-pub left_start : (p : PinSeen) (n : ℕ) (ts : List ℕ) → p.base < n → IsNonDecreasing ts → All (λ t. (n ≤ t) × (t < p.next)) ts → ((t : ℕ) → n ≤ t → t < p.next → Has ts t ⊎ HasSameContent t p.plan.window p.rows) → AreLeft p n ts
+pub left_start : (p : PinSeen) (n : ℕ) (ts : List ℕ) → p.base < n → IsStrictlyIncreasing ts → All (λ t. (n ≤ t) × (t < p.next)) ts → ((t : ℕ) → n ≤ t → t < p.next → Contains ts t ⊎ HasSameContent p.plan.window t [] p.rows) → AreLeft p n ts
 left_start p n ts base order within every = (
   rises ts order,
   recursion_from_All (λ a. a < p.next) ts (All-weaker (λ t. (n ≤ t) × (t < p.next)) (λ t. t < p.next) (λ t h. h.1) ts within),
-  (λ t ge lt. elim (every t ge lt) [ inl h ↦ inl h | inr same ↦ inr (quiet_at p t (omega arith) same) ]),
+  (λ t ge lt. elim (every t ge lt) [ inl h ↦ inl (has t ts h.0 h.1 h.2) | inr same ↦ inr (quiet_at p t (omega arith) same) ]),
 )
 
 -- what is left after a look for changes
-pub left_first : (p : PinSeen) (n : ℕ) (ts v : List ℕ) (from to : ℕ) (w : Window) (xs : List Element) → ts ≡ v → from ≡ n → to ≡ p.next → w ≡ p.plan.window → xs ≡ p.rows → p.base < n → IsNonDecreasing v
-    → All (λ t. (from ≤ t) × (t < to)) v → ((t : ℕ) → from ≤ t → t < to → Has v t ⊎ HasSameContent t w xs) → AreLeft p n ts
+pub left_first : (p : PinSeen) (n : ℕ) (ts v : List ℕ) (from to : ℕ) (w : Window) (xs : List Element) → ts ≡ v → from ≡ n → to ≡ p.next → w ≡ p.plan.window → xs ≡ p.rows → p.base < n → IsStrictlyIncreasing v
+    → All (λ t. (from ≤ t) × (t < to)) v → ((t : ℕ) → from ≤ t → t < to → Contains v t ⊎ HasSameContent w t [] xs) → AreLeft p n ts
 left_first p n ts v from to w xs ts_is from_is to_is w_is xs_is base order within every =
     subst (λ l. AreLeft p n l) (sym ts_is)
     (left_start p n v base order

@@ -5,21 +5,13 @@ use Rattle.std.proofs.lemmas.Bool.Decides.{nat_tests}
 use Rattle.cql_value.specs.declared.value.Value.{Value}
 use Rattle.cql_value.specs.declared.schema.Column.{Column}
 use Rattle.cql_value.specs.Schema.{is_row_of}
-use Rattle.cql_window.specs.Window.{IsWindow}
 use Rattle.cql_core.specs.declared.command.Command.{Command}
 use Rattle.cql_core.specs.declared.command.Command.TheVariants.{Stream, Put, Beat, Query, Fetch}
 use Rattle.cql_core.specs.declared.plan.Plan.{Plan}
 use Rattle.cql_core.specs.declared.refusal.Refusal.TheVariants.{AtTooLarge, Late, WrongRow}
 use Rattle.cql_core.specs.declared.state.StreamState.{StreamState}
 use Rattle.cql_core.specs.declared.tenants.Tenant.{Tenant}
-use Rattle.cql_plan.specs.Sources.{Readable}
-use Rattle.cql_plan.specs.Typing.{typing}
-use Rattle.cql_core.specs.declared.refusal.Refusal.{Refusal}
-use Rattle.cql_plan.specs.declared.plan.Planned.{Planned}
-use Rattle.cql_syntax.specs.declared.syntax.Input.{Input}
-use Rattle.cql_syntax.specs.declared.syntax.Query.{Query as Written}
-use Rattle.cql_text.specs.Read.{read_of}
-use Rattle.cql_core.specs.Planned.{plain_range, served_input, plan_with, served_plan, or_refusal, typed_as, planned, or_not_yet, planned_from, plan_in, plan_of}
+use Rattle.cql_core.specs.Planned.{plan_of}
 use Rattle.cql_core.specs.Relation.{IsPin}
 use Rattle.cql_core.specs.Told.{Told, Done, Refused, is_accepted}
 use Rattle.cql_core.specs.Checks.{greatest, next_of, is_behind, time_told, put_told, beat_told, schema_of}
@@ -116,56 +108,28 @@ home_goes home (Beat n at) = choose home _ (is_accepted (beaten_told home n at))
 home_goes home (Query name text) = stays home
 home_goes home (Fetch name until) = stays home
 
--- the window of a plan slides
 some_eq : {A : Type 0} (a b : A) → Some a ≡ Some b → a ≡ b
 some_eq a b e = cc
-
-ticks_slide : (typed : Planned) (q : Written) (input : Input) (plan : Plan) (o : Option ℕ) → option_map (plan_with typed q input) o ≡ Some plan → IsWindow plan.window
-ticks_slide typed q input plan None is = absurd cc
-ticks_slide typed q input plan (Some ticks) is = subst (λ (p : Plan). IsWindow p.window) (some_eq (plan_with typed q input ticks) plan is) (omega arith)
-
-input_slides : (typed : Planned) (q : Written) (plan : Plan) (o : Option Input) → option_and_then (λ input. option_map (plan_with typed q input) (plain_range input.window)) o ≡ Some plan → IsWindow plan.window
-input_slides typed q plan None is = absurd cc
-input_slides typed q plan (Some input) is = ticks_slide typed q input plan (plain_range input.window) is
-
-served_slides : (plan : Plan) (o : Option Plan) → ((p : Plan) → o ≡ Some p → IsWindow p.window) → plan_in (Ok (or_not_yet o)) ≡ Some plan → IsWindow plan.window
-served_slides plan None slides is = absurd cc
-served_slides plan (Some p) slides is = subst (λ (p : Plan). IsWindow p.window) (some_eq p plan is) (slides p refl)
-
-typed_slides : (q : Written) (plan : Plan) (r : Result Planned Refusal) → plan_in (Ok (typed_as q r)) ≡ Some plan → IsWindow plan.window
-typed_slides q plan (Err refusal) is = absurd cc
-typed_slides q plan (Ok typed) is = served_slides plan (served_plan typed q) (λ p is. input_slides typed q p (served_input q) is) is
-
-query_slides : (readable : Readable) (q : Written) (plan : Plan) → plan_in (Ok (planned readable q)) ≡ Some plan → IsWindow plan.window
-unfolding planned
-query_slides readable q plan is = typed_slides q plan (or_refusal (typing readable q)) is
-
-read_slides : (readable : Readable) (plan : Plan) (r : Result Written ℕ) → plan_in (planned_from readable r) ≡ Some plan → IsWindow plan.window
-read_slides readable plan (Err at) is = absurd cc
-read_slides readable plan (Ok q) is = query_slides readable q plan is
-
-pub plan_slides : (readable : Readable) (text : List ℕ) (plan : Plan) → plan_of readable text ≡ Some plan → IsWindow plan.window
-plan_slides readable text plan is = read_slides readable plan (read_of text) is
 
 -- all queries of a home are followed
 abbrev AllFollowed : Home → List (Named QueryState) → Type 0
 AllFollowed home qs = (name : List ℕ) (q : QueryState) → find_named qs name ≡ Some q → IsFollowed home q
 
 goes_followed : (home home' : Home) (q : QueryState) → GoesOn home home' → IsFollowed home q → IsFollowed home' q
-goes_followed home home' q goes followed = record { slides = followed.slides; base = followed.base; limit = omega (arith, followed.limit, goes.rises q.plan.stream) }
+goes_followed home home' q goes followed = record { base = followed.base; limit = omega (arith, followed.limit, goes.rises q.plan.stream) }
 
-new_followed : (home : Home) (plan : Plan) → IsWindow plan.window → IsFollowed home (new_query home plan)
-new_followed home plan slides = record { slides = slides; base = omega arith; limit = omega arith }
+new_followed : (home : Home) (plan : Plan) → IsFollowed home (new_query home plan)
+new_followed home plan = record { base = omega arith; limit = omega arith }
 
 pushed_by : (home : Home) (new q : QueryState) (b : Bool) (o : Option QueryState) → IsFollowed home new → (o ≡ Some q → IsFollowed home q) → or_else o (if b then Some new else None) ≡ Some q → IsFollowed home q
 pushed_by home new q true None is old found = subst (λ (q : QueryState). IsFollowed home q) (some_eq new q found) is
 pushed_by home new q false None is old found = absurd cc
 pushed_by home new q b (Some p) is old found = old found
 
-query_followed : (home : Home) (qs : List (Named QueryState)) (n : List ℕ) (p : Option Plan) → ((plan : Plan) → p ≡ Some plan → IsWindow plan.window) → AllFollowed home qs → AllFollowed home (with_query home n p qs)
-query_followed home qs n None slides all = all
-query_followed home qs n (Some plan) slides all = λ name q found.
-    pushed_by home (new_query home plan) q (same_name name n) (find_named qs name) (new_followed home plan (slides plan refl)) (all name q) (sym (find_push qs n (new_query home plan) name) ∙ found)
+query_followed : (home : Home) (qs : List (Named QueryState)) (n : List ℕ) (p : Option Plan) → AllFollowed home qs → AllFollowed home (with_query home n p qs)
+query_followed home qs n None all = all
+query_followed home qs n (Some plan) all = λ name q found.
+    pushed_by home (new_query home plan) q (same_name name n) (find_named qs name) (new_followed home plan) (all name q) (sym (find_push qs n (new_query home plan) name) ∙ found)
 
 choose_queries : (home : Home) (qs qs' : List (Named QueryState)) (b : Bool) → AllFollowed home qs' → AllFollowed home qs → AllFollowed home (if b then qs' else qs)
 choose_queries home qs qs' true then_it else_it = then_it
@@ -176,7 +140,7 @@ step_followed home qs (Stream name columns) all = λ n q found. goes_followed ho
 step_followed home qs (Put name at row) all = λ n q found. goes_followed home _ q (home_goes home (Put name at row)) (all n q found)
 step_followed home qs (Beat name at) all = λ n q found. goes_followed home _ q (home_goes home (Beat name at)) (all n q found)
 step_followed home qs (Query name text) all =
-    choose_queries home qs _ (is_accepted (registered_told home qs name text)) (query_followed home qs name (plan_of (readable_at home) text) (λ plan is. plan_slides (readable_at home) text plan is) all) all
+    choose_queries home qs _ (is_accepted (registered_told home qs name text)) (query_followed home qs name (plan_of (readable_at home) text) all) all
 step_followed home qs (Fetch name until) all = all
 
 -- the state
@@ -219,14 +183,14 @@ sound_after s tenant command sound = sound_by s tenant command sound _ refl
 
 -- what a fetch pins of a query that is followed is a pin
 pub followed_pin : (home : Home) (q : QueryState) (until : Option ℕ) → limit_of home q ≤ 2 ^ 62 → IsFollowed home q → is_behind q.cursor until ≡ false
-    → IsPin q.plan.window q.base q.cursor (next_of (limit_of home q) until)
-followed_pin home q None bound followed fine = record { slides = followed.slides; begins = followed.base; ends = followed.limit; bound = bound }
+    → IsPin q.base q.cursor (next_of (limit_of home q) until)
+followed_pin home q None bound followed fine = record { begins = followed.base; ends = followed.limit; bound = bound }
 followed_pin home q (Some until) bound followed fine =
     let after : q.cursor ≤ until = not_late until q.cursor fine in
-    record { slides = followed.slides; begins = followed.base; ends = omega (arith, followed.limit); bound = omega arith }
+    record { begins = followed.base; ends = omega (arith, followed.limit); bound = omega arith }
 
 pub sound_pin : (s : State) (tenant : ℕ) (name : List ℕ) (q : QueryState) (until : Option ℕ) → IsSound s → find_named (queries_at s.queries tenant) name ≡ Some q → is_behind q.cursor until ≡ false
-    → IsPin q.plan.window q.base q.cursor (next_of (limit_of (home_at s.homes tenant) q) until)
+    → IsPin q.base q.cursor (next_of (limit_of (home_at s.homes tenant) q) until)
 sound_pin s tenant name q until sound found fine = followed_pin (home_at s.homes tenant) q until (sound.bounded tenant q.plan.stream) (sound.followed tenant name q found) fine
 
 no_streams : (table : List Tenant) (place : ℕ) → (home_at (nothing_made table) place).streams ≡ []

@@ -3,8 +3,6 @@ use Rattle.std.specs.Prelude.{ℕ, Bool, ◌&&◌, ◌==◌, true, false, not, L
 use Rattle.cql_value.specs.declared.schema.Column.{Column}
 use Rattle.cql_syntax.specs.declared.syntax.StreamOperator.{StreamOperator}
 use Rattle.cql_syntax.specs.declared.syntax.StreamOperator.TheVariants as stream
-use Rattle.cql_syntax.specs.declared.syntax.WrittenWindow.{WrittenWindow}
-use Rattle.cql_syntax.specs.declared.syntax.WrittenWindow.TheVariants as written
 use Rattle.cql_syntax.specs.declared.syntax.Input.{Input}
 use Rattle.cql_syntax.specs.declared.syntax.Selection.{Selection}
 use Rattle.cql_syntax.specs.declared.syntax.Selection.TheVariants as selection
@@ -14,10 +12,12 @@ use Rattle.cql_text.specs.Read.{read_of}
 use Rattle.cql_syntax.specs.Spelling.{canonical}
 use Rattle.cql_plan.specs.declared.error.PlanFault.{PlanFault}
 use Rattle.cql_plan.specs.declared.error.PlanFault.TheVariants as fault
+use Rattle.cql_plan.specs.declared.plan.Input.{Input as Read}
 use Rattle.cql_plan.specs.declared.plan.Planned.{Planned}
 use Rattle.cql_plan.specs.Sources.{Readable}
 use Rattle.cql_plan.specs.Typing.{typing}
-use Rattle.cql_window.specs.declared.window.Window.TheVariants.{Range}
+use Rattle.cql_window.specs.declared.window.Window.{Window}
+use Rattle.cql_window.specs.declared.window.Window.TheVariants.{Range, Rows, All as all, Parts}
 use Rattle.cql_plan.specs.declared.plan.OutputKind.TheVariants.{Istream}
 use Rattle.cql_core.specs.declared.plan.Plan.{Plan}
 use Rattle.cql_core.specs.declared.refusal.Refusal.{Refusal}
@@ -41,12 +41,12 @@ own_streams name streams owner stream = if is_own name owner then schema_in stre
 
 -- ---- what is served
 
--- the ticks of a range without a slide
-abbrev pub plain_range : WrittenWindow → Option ℕ
-plain_range (written.Range ticks slide) = if slide == 1 then Some ticks else None
-plain_range (written.Rows count slide) = None
-plain_range written.Unbounded = None
-plain_range (written.Partition columns count) = None
+-- the window, where it is a range without a slide
+abbrev pub plain_range : Window → Option Window
+plain_range (Range ticks slide) = if slide == 1 then Some (Range ticks slide) else None
+plain_range (Rows count slide) = None
+plain_range all = None
+plain_range (Parts columns count) = None
 
 abbrev pub is_all : Selection → Bool
 is_all selection.All = true
@@ -60,6 +60,10 @@ abbrev pub sole : {A : Type 0} → List A → Option A
 sole [] = None
 sole (x ∷ []) = Some x
 sole (x ∷ y ∷ xs) = None
+
+-- the window of a plan's one input, where it is a range without a slide
+abbrev pub plain_window : List Read → Option Window
+plain_window inputs = option_and_then (λ input. plain_range input.window) (sole inputs)
 
 -- the one input of a block that shows all columns of all its rows
 abbrev pub plain_input : SelectBlock → Option Input
@@ -78,12 +82,12 @@ served_input q = if tells_new_rows q.output && not (is_some q.second) then plain
 
 -- ---- plans
 
-abbrev pub plan_with : Planned → Query → Input → ℕ → Plan
-plan_with typed q input ticks = record { typed = typed; text = canonical q; stream = input.stream.name; window = Range ticks 1; kind = Istream }
+abbrev pub plan_with : Planned → Query → Input → Window → Plan
+plan_with typed q input window = record { typed = typed; text = canonical q; stream = input.stream.name; window = window; kind = Istream }
 
 -- the plan of a query over one range without a slide, all of whose new rows are told
 abbrev pub served_plan : Planned → Query → Option Plan
-served_plan typed q = option_and_then (λ input. option_map (plan_with typed q input) (plain_range input.window)) (served_input q)
+served_plan typed q = option_and_then (λ input. option_map (plan_with typed q input) (plain_window typed.inputs)) (served_input q)
 
 -- the refusal that a fault of the typing is
 abbrev pub refusal_of : PlanFault → Refusal

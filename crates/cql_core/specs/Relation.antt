@@ -1,8 +1,7 @@
 -- The relation of a pin at a cursor c, that is at the instant c - 1: before the instant 0 it is at the cursor 0.
 use Rattle.std.specs.Prelude.{ℕ, ◌+◌, ◌≤◌, ◌^◌, List, [], map, nat_lt, if◌then◌else◌}
 use Rattle.cql_value.specs.Element.{Element}
-use Rattle.cql_window.specs.declared.window.Window.{Window}
-use Rattle.cql_window.specs.Window.{IsWindow, content}
+use Rattle.cql_window.specs.Window.{content}
 use Rattle.cql_core.specs.declared.plan.Plan.{Plan}
 use Rattle.cql_out.specs.declared.told.Output.{Output}
 use Rattle.cql_bag.specs.Bag.{Counts, bag_of}
@@ -18,9 +17,8 @@ pub record PinSeen : Type 0 where
   pub next : ℕ
   pub rows : List Element
 
--- its ends are in order, and its window has a slide
-pub record IsPin (window : Window) (base from next : ℕ) : Type 0 where
-  pub slides : IsWindow window
+-- its ends are in order
+pub record IsPin (base from next : ℕ) : Type 0 where
   pub begins : base ≤ from
   pub ends : from ≤ next
   pub bound : next ≤ 2 ^ 62

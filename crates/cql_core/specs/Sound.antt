@@ -1,11 +1,9 @@
 -- What the machine keeps true of its state.
 use Rattle.std.specs.Prelude.{◌≡◌, ℕ, ◌≤◌, ◌^◌, List, length, Some, unwrap_or}
-use Rattle.cql_window.specs.Window.{IsWindow}
 use Rattle.cql_core.specs.State.{Named, Home, QueryState, State, find_named, home_at, queries_at, opened_of, limit_of}
 
 -- a query's cursor lies between its base and its limit
 pub record IsFollowed (home : Home) (q : QueryState) : Type 0 where
-  pub slides : IsWindow q.plan.window
   pub base : q.base ≤ q.cursor
   pub limit : q.cursor ≤ limit_of home q
 

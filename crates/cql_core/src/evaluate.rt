@@ -6,11 +6,11 @@ ghost use Rattle.cql_core.specs.Relation.{value_at, output_at};
 ghost use Rattle.cql_out.specs.Runs.{StandFor};
 
 use crate::answer::Answer;
-use crate::changes::changes;
 use crate::pin::Pin;
 use crate::relation::relation;
 use cql_out::{Block, Relation, Runs, output};
 use cql_value::Items;
+use cql_window::changes_of;
 use std::alloc::{AllocError, Global};
 
 /// The blocks of a pin. Relations are computed only where the window's content may change.
@@ -29,7 +29,14 @@ fn evaluate(alloc: Global, pin: &Pin) -> Result<Vec<Block>, AllocError>
         return Ok(runs.finish());
     }
     let mut before = first(alloc, pin, &mut runs)?;
-    let instants = changes(alloc, pin.window(), pin.rows(), runs.next(), pin.next())?;
+    let instants = changes_of(
+        alloc,
+        pin.window(),
+        &[],
+        pin.rows(),
+        runs.next(),
+        pin.next(),
+    )?;
     for at in instants.iter() {
         if *at >= runs.next() {
             before = change(alloc, pin, &mut runs, before, *at)?;

@@ -10,7 +10,7 @@ ghost use Rattle.cql_core.specs.Law.{
 };
 ghost use Rattle.cql_core.specs.History.{IsHistoryLaw};
 
-use cql_window::law::range_law;
+use cql_window::laws::range_law;
 
 /// Whatever commands any tenants send, in whatever order, the machine tells each tenant what its
 /// own view means.

@@ -3,7 +3,6 @@
 #![tactic(auto)]
 
 pub mod answer;
-mod changes;
 mod command;
 pub mod evaluate;
 pub mod law;

@@ -45,14 +45,14 @@ impl Model for Pin {
 
     ghost view = { λ p. record { plan = arc_value p.plan; base = p.base; from = p.from; next = p.next; rows = p.rows.items } };
 
-    ghost invariant = { λ p. IsPin (arc_value p.plan).window p.base p.from p.next };
+    ghost invariant = { λ p. IsPin p.base p.from p.next };
 }
 
 impl Pin {
     /// The query of this plan over these rows, empty before the instant `base`, asked for the
     /// instants from `from` to before `next`. Instants are in ticks.
     pub fn new(plan: Arc<Plan>, base: u64, from: u64, next: u64, rows: Vec<Timed>) -> Pin
-        requires { IsPin (arc_value plan).window base from next }
+        requires { IsPin base from next }
         ensures { result ≡ record { plan = arc_value plan; base = base; from = from; next = next; rows = rows.items } }
     {
         Pin {
@@ -72,11 +72,12 @@ impl Pin {
     }
 
     /// The window of its plan.
-    pub fn window(&self) -> Window
-        ensures value { result ≡ self.now.plan.window }
-        ensures slides { IsWindow result }
+    pub fn window(&self) -> &Window
+        ensures value { result.now ≡ self.now.plan.window }
+        ensures bounds { IsWindow result.now }
     {
-        self.plan.window
+        self.plan.window.keeps_bounds();
+        &self.plan.window
     }
 
     /// The first instant of the query's relation, in ticks.
@@ -89,7 +90,7 @@ impl Pin {
     /// The first instant that is asked for, in ticks.
     pub fn from(&self) -> u64
         ensures value { result ≡ self.now.from }
-        ensures pin { IsPin self.now.plan.window self.now.base self.now.from self.now.next }
+        ensures pin { IsPin self.now.base self.now.from self.now.next }
     {
         self.from
     }

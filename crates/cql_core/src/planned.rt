@@ -1,7 +1,7 @@
 // The plan of a query, where it is served.
 ghost use Rattle.std.specs.Prelude.{◌≡◌, IfOk, option_copied};
 ghost use Rattle.cql_plan.specs.Typing.{typing};
-ghost use Rattle.cql_core.specs.Planned.{is_own, schema_in, plain_range, plain_input, served_input, served_plan, refusal_of, or_refusal, planned};
+ghost use Rattle.cql_core.specs.Planned.{is_own, schema_in, plain_range, plain_window, plain_input, served_input, served_plan, refusal_of, or_refusal, planned};
 ghost use Rattle.cql_core.specs.Named.{each};
 ghost use Rattle.cql_core.specs.State.{readable_at, clock_of};
 
@@ -9,10 +9,10 @@ use crate::plan::Plan;
 use crate::refusal::Refusal;
 use crate::shared::Shared;
 use crate::state::Home;
-use cql_plan::{Lookup, OutputKind, Plan as Typed, PlanError, PlanFault, resolve};
-use cql_syntax::syntax::{Input, Query, SelectBlock, Selection, StreamOperator, WrittenWindow};
+use cql_plan::{Input as Read, Lookup, OutputKind, Plan as Typed, PlanError, PlanFault, resolve};
+use cql_syntax::syntax::{Input, Query, SelectBlock, Selection, StreamOperator};
 use cql_text::Syntax;
-use cql_value::{Schema, Text};
+use cql_value::{Schema, Text, TryClone};
 use cql_window::Window;
 use std::alloc::{AllocError, Global};
 use std::sync::Arc;
@@ -59,12 +59,22 @@ impl Lookup for Reader<'_> {
     }
 }
 
-// The ticks of a range without a slide.
-fn plain_range(window: &WrittenWindow) -> Option<u64>
-    ensures { result ≡ plain_range window.now }
+// The window, where it is a range without a slide.
+fn plain_range(window: &Window) -> Option<&Window>
+    ensures { option_copied result ≡ plain_range window.now }
 {
     match window {
-        WrittenWindow::Range(ticks, 1) => Some(*ticks),
+        Window::Range { slide, .. } if slide.get() == 1 => Some(window),
+        _ => None,
+    }
+}
+
+// The window of a plan's one input, where it is a range without a slide.
+fn plain_window(inputs: &[Read]) -> Option<&Window>
+    ensures { option_copied result ≡ plain_window inputs.now }
+{
+    match inputs {
+        [input] => plain_range(&input.window),
         _ => None,
     }
 }
@@ -100,17 +110,15 @@ fn served_plan(alloc: Global, typed: Typed, syntax: &Syntax) -> Result<Option<Pl
     let Some(input) = served_input(syntax.query()) else {
         return Ok(None);
     };
-    let Some(ticks) = plain_range(&input.window) else {
+    let Some(window) = plain_window(typed.inputs()) else {
         return Ok(None);
     };
+    let window = window.try_clone(alloc)?;
     Ok(Some(Plan {
         typed,
         text: Text::from_string(syntax.to_text(alloc)?),
         stream: input.stream.name.try_clone()?,
-        window: Window::Range {
-            length: ticks,
-            slide: 1,
-        },
+        window,
         kind: OutputKind::Istream,
     }))
 }

@@ -205,8 +205,8 @@ fn count_before(elements: &[Timed], next: u64) -> usize
         .count()
 }
 
-// The same elements, shared.
-fn shared(alloc: Global, elements: &[Timed]) -> Result<Vec<Timed>, AllocError>
+/// The same elements, shared.
+pub fn shared(alloc: Global, elements: &[Timed]) -> Result<Vec<Timed>, AllocError>
     ensures { IfOk result (λ rows. rows.items ≡ elements.now) }
 {
     let mut rows = Vec::new(alloc);
@@ -245,7 +245,7 @@ fn is_behind(cursor: u64, until: Option<u64>) -> bool
 
 // The pin of a query up to an instant.
 fn pin(alloc: Global, home: &Home, query: &QueryState, next: u64) -> Result<Pin, AllocError>
-    requires pin { IsPin query.now.plan.window query.now.base query.now.cursor next }
+    requires pin { IsPin query.now.base query.now.cursor next }
     ensures { IfOk result (λ pin. pin ≡ pin_of home.now query.now next) }
 {
     let rows = match source(home, &query.plan) {

@@ -1,4 +1,5 @@
 mod Finding
+mod Bounds
 mod Each
 mod Few
 mod Meant

@@ -1,6 +1,6 @@
 -- The inputs of a block.
-use Rattle.std.specs.Prelude.{ℕ, Bool, true, ◌&&◌, not, List, [], ◌∷◌, ◌++◌, map, Option, Some, None, Ok, Err}
-use Rattle.std.specs.List.{list_any}
+use Rattle.std.specs.Prelude.{ℕ, ◌<◌, ◌^◌, Bool, true, ◌&&◌, not, List, [], ◌∷◌, ◌++◌, map, Option, Some, None, Ok, Err}
+use Rattle.std.specs.List.{All, list_any}
 use Rattle.std.specs.Str.{bytes_eq}
 use Rattle.cql_value.specs.declared.schema.Column.{Column}
 use Rattle.cql_value.specs.declared.schema.ColumnType.{ColumnType}
@@ -8,8 +8,8 @@ use Rattle.cql_syntax.specs.declared.syntax.WrittenWindow.{WrittenWindow}
 use Rattle.cql_syntax.specs.declared.syntax.WrittenWindow.TheVariants as written
 use Rattle.cql_syntax.specs.declared.syntax.Input.{Input as WrittenInput}
 use Rattle.cql_plan.specs.declared.error.PlanFault.TheVariants.{UnknownStream}
-use Rattle.cql_plan.specs.declared.plan.Window.{Window}
-use Rattle.cql_plan.specs.declared.plan.Window.TheVariants.{Range, Rows, All, Parts}
+use Rattle.cql_window.specs.declared.window.Window.{Window}
+use Rattle.cql_window.specs.declared.window.Window.TheVariants.{Range, Rows, All as all, Parts}
 use Rattle.cql_plan.specs.declared.plan.Input.{Input}
 use Rattle.cql_plan.specs.declared.row.Field.{Field}
 use Rattle.cql_plan.specs.declared.source.Source.{Source}
@@ -33,11 +33,21 @@ alias_of input = name_or input.alias input.stream.name
 abbrev pub part_column : List Field → List ℕ → Outcome ℕ
 part_column fields name = column_named None name fields >>= (λ found. Ok found.place)
 
+-- the numbers of a written window are those that a window may have
+abbrev pub HasBounds : WrittenWindow → Type 0
+HasBounds (written.Range length slide) = (length < 2 ^ 62) × (0 < slide) × (slide < 2 ^ 62)
+HasBounds (written.Rows count slide) = (0 < count) × (count < 2 ^ 62) × (0 < slide) × (slide < 2 ^ 62)
+HasBounds written.Unbounded = Unit {0}
+HasBounds (written.Partition names count) = (0 < count) × (count < 2 ^ 62)
+
+abbrev pub AreBounded : List WrittenInput → Type 0
+AreBounded inputs = All (λ input. HasBounds input.window) inputs
+
 -- the window, whose columns are those of the stream
 unfoldable pub window_of : List Field → WrittenWindow → Outcome Window
 window_of fields (written.Range length slide) = Ok (Range length slide)
 window_of fields (written.Rows count slide) = Ok (Rows count slide)
-window_of fields written.Unbounded = Ok All
+window_of fields written.Unbounded = Ok all
 window_of fields (written.Partition names count) = each (part_column fields) names >>= (λ columns. Ok (Parts columns count))
 
 -- an input of a stream with these columns, where it can be read

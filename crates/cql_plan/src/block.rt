@@ -2,6 +2,7 @@
 ghost use Rattle.std.specs.Prelude.{◌≡◌, IfOk};
 ghost use Rattle.cql_plan.specs.Outcome.{Answers};
 ghost use Rattle.cql_plan.specs.Plan.{HasKinds};
+ghost use Rattle.cql_plan.specs.Sources.{AreBounded};
 ghost use Rattle.cql_plan.specs.Typing as spec;
 
 use crate::error::{PlanError, PlanFault};
@@ -112,6 +113,7 @@ pub(crate) fn block_of<L: Lookup>(
     lookup: &L,
     block: &SelectBlock,
 ) -> Result<Checked, PlanError>
+    requires { AreBounded block.now.inputs }
     ensures value { Answers (spec.block_of (L.readable lookup.now) block.now) result }
     ensures kinds { IfOk result (λ c. HasKinds c.branch) }
 {

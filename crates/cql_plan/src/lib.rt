@@ -23,5 +23,5 @@ pub use expr::{Expr, evaluate};
 pub use fault::Fault;
 pub use lookup::Lookup;
 pub use node::{Item, Join, Node, OperatorKind, SetOp, Shape};
-pub use plan::{Branch, Input, OutputKind, Plan, Planned, Window};
+pub use plan::{Branch, Input, OutputKind, Plan, Planned};
 pub use resolution::resolve;

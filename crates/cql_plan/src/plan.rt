@@ -4,22 +4,11 @@ ghost use Rattle.cql_plan.specs.Plan as spec;
 
 use crate::node::Node;
 use cql_value::{Items, Name};
+use cql_window::Window;
 use std::marker::Model;
 
-/// Which rows of an input count. A slide of 1 is no slide.
-pub enum Window {
-    /// The last ticks, moved on each so many ticks.
-    Range { length: u64, slide: u64 },
-    /// The last rows, moved on each so many rows.
-    Rows { count: u64, slide: u64 },
-    /// All rows.
-    All,
-    /// The last rows of each combination of values of the columns, which are places in the
-    /// input's own row, counted from 0.
-    Parts { columns: Items<usize>, count: u64 },
-}
-
-/// A stream that a plan reads, of an owner or the caller's own, through a window.
+/// A stream that a plan reads, of an owner or the caller's own, through a window. The columns by
+/// which a window parts are places in the stream's own row, counted from 0.
 pub struct Input {
     pub owner: Option<Name>,
     pub stream: Name,
@@ -77,23 +66,6 @@ impl Model for Plan {
     ghost view = { λ p. p.planned };
 
     ghost invariant = { λ p. IsPlan p.planned };
-}
-
-impl Drop for Window {
-    fn drop(self) {
-        match self {
-            Window::Range {
-                length: _,
-                slide: _,
-            } => {}
-            Window::Rows { count: _, slide: _ } => {}
-            Window::All => {}
-            Window::Parts {
-                columns: _,
-                count: _,
-            } => {}
-        }
-    }
 }
 
 impl Drop for Input {

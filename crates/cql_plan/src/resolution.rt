@@ -1,8 +1,9 @@
 // The plan of a query.
-ghost use Rattle.std.specs.Prelude.{◌≡◌, IfOk, IfErr, Ok};
+ghost use Rattle.std.specs.Prelude.{◌≡◌, IfOk, IfErr, IfSome, Ok};
 ghost use Rattle.std.specs.List.{list_all, zip};
 ghost use Rattle.cql_plan.specs.Outcome.{Answers, Tells};
 ghost use Rattle.cql_plan.specs.Plan.{HasKinds, HasNodes};
+ghost use Rattle.cql_plan.specs.Sources.{AreBounded};
 ghost use Rattle.cql_plan.specs.Typing as spec;
 ghost use Rattle.cql_plan.specs.Typing.{typing};
 
@@ -95,7 +96,8 @@ fn with_second<L: Lookup>(
     first: Checked,
     written: &Option<Second>,
 ) -> Result<Planned, PlanError>
-    requires { HasKinds first.branch }
+    requires first { HasKinds first.branch }
+    requires second { IfSome written.now (λ s. AreBounded s.block.inputs) }
     ensures value { Answers (spec.with_second (L.readable lookup.now) output first written.now) result }
     ensures kinds { IfOk result (λ p. HasNodes p) }
 {
@@ -113,6 +115,8 @@ fn with_second<L: Lookup>(
 
 #[tactic(auto, unfolding(crate::specs::Typing::typing))]
 fn planned<L: Lookup>(alloc: Global, query: &Query, lookup: &L) -> Result<Planned, PlanError>
+    requires first { AreBounded query.now.first.inputs }
+    requires second { IfSome query.now.second (λ s. AreBounded s.block.inputs) }
     ensures value { Answers (typing (L.readable lookup.now) query.now) result }
     ensures kinds { IfOk result (λ p. HasNodes p) }
 {

@@ -1,5 +1,5 @@
 // The inputs of a block.
-ghost use Rattle.std.specs.Prelude.{◌≡◌, IfOk, Some, option_copied};
+ghost use Rattle.std.specs.Prelude.{◌≡◌, ◌<◌, ◌^◌, IfOk, Some, option_copied};
 ghost use Rattle.std.specs.List.{list_any};
 ghost use Rattle.std.specs.Str.{bytes_eq};
 ghost use Rattle.cql_plan.specs.Outcome.{Answers, AnswersList, each};
@@ -7,10 +7,11 @@ ghost use Rattle.cql_plan.specs.Sources as spec;
 
 use crate::error::{PlanError, PlanFault};
 use crate::lookup::Lookup;
-use crate::plan::{Input, Window};
+use crate::plan::Input;
 use crate::row::{Field, column_named, fields_of, kinds_of};
 use cql_syntax::syntax;
 use cql_value::{Column, ColumnType, Items, Name};
+use cql_window::{Count, Length, Window};
 use std::alloc::{AllocError, Global};
 
 /// An input of a block: what the plan keeps of it, its alias and its columns.
@@ -75,29 +76,53 @@ fn part_columns(alloc: Global, fields: &[Field], names: &[Name]) -> Result<Items
     Ok(places)
 }
 
+// The length of so many ticks.
+fn length_of(ticks: u64) -> Length
+    requires { ticks < 2 ^ 62 }
+    ensures { result ≡ ticks }
+{
+    match Length::new(ticks) {
+        Some(length) => length,
+        None => unreachable!(),
+    }
+}
+
+// The count of this number.
+fn count_of(count: u64) -> Count
+    requires some { 0 < count }
+    requires bound { count < 2 ^ 62 }
+    ensures { result ≡ count }
+{
+    match Count::new(count) {
+        Some(count) => count,
+        None => unreachable!(),
+    }
+}
+
 #[tactic(auto, unfolding(crate::specs::Sources::window_of))]
 fn window_of(
     alloc: Global,
     fields: &[Field],
     window: &syntax::WrittenWindow,
 ) -> Result<Window, PlanError>
+    requires { spec.HasBounds window.now }
     ensures { Answers (spec.window_of fields.now window.now) result }
 {
     match window {
         syntax::WrittenWindow::Range(length, slide) => Ok(Window::Range {
-            length: *length,
-            slide: *slide,
+            length: length_of(*length),
+            slide: count_of(*slide),
         }),
         syntax::WrittenWindow::Rows(count, slide) => Ok(Window::Rows {
-            count: *count,
-            slide: *slide,
+            count: count_of(*count),
+            slide: count_of(*slide),
         }),
         syntax::WrittenWindow::Unbounded => Ok(Window::All),
         syntax::WrittenWindow::Partition(names, count) => {
             let columns = part_columns(alloc, fields, names.as_slice())?;
             Ok(Window::Parts {
                 columns,
-                count: *count,
+                count: count_of(*count),
             })
         }
     }
@@ -119,6 +144,7 @@ fn source_with(
     input: &syntax::Input,
     columns: &[Column],
 ) -> Result<Source, PlanError>
+    requires { spec.HasBounds input.now.window }
     ensures { Answers (spec.source_with input.now (Some columns.now)) result }
 {
     let alias = alias_of(input)?;
@@ -159,6 +185,7 @@ fn source_of<L: Lookup>(
     lookup: &L,
     input: &syntax::Input,
 ) -> Result<Source, PlanError>
+    requires { spec.HasBounds input.now.window }
     ensures { Answers (spec.source_of (L.readable lookup.now) input.now) result }
 {
     match lookup.schema(owner_of(input), input.stream.name.as_str()) {
@@ -174,6 +201,7 @@ pub(crate) fn sources<L: Lookup>(
     lookup: &L,
     inputs: &[syntax::Input],
 ) -> Result<Vec<Source>, PlanError>
+    requires { spec.AreBounded inputs.now }
     ensures { AnswersList (each (spec.source_of (L.readable lookup.now)) inputs.now) result }
 {
     let mut sources = Vec::new(alloc);

@@ -1,1 +1,9 @@
-pub mod Range
+pub mod Ends
+pub mod Elements
+pub mod Language
+pub mod Law
+pub mod Moments
+pub mod Multiples
+pub mod Newest
+pub mod Places
+pub mod Used

@@ -1,2 +1,5 @@
-pub mod Law
+pub mod Changes
+pub mod Laws
+pub mod Parts
+pub mod Pin
 pub mod Window

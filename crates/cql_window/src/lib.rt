@@ -1,12 +1,21 @@
 //! Windows over timed rows.
+//!
+//! A window is asked at a cursor c, which stands for the instant c - 1. What it holds is taken
+//! from settled rows and the rows that came after them.
 #![tactic(auto)]
 
+pub mod amount;
 pub mod content;
-pub mod law;
+pub mod instants;
+pub mod laws;
+mod parts;
+pub mod pin;
 #[cfg(test)]
 mod tests;
 pub mod window;
 
-pub use content::content_at;
-pub use law::range_law;
+pub use amount::{Count, Length};
+pub use content::{charge, split};
+pub use instants::{changes, changes_of};
+pub use pin::WindowPin;
 pub use window::Window;

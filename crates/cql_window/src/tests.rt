@@ -1,97 +1,163 @@
-use crate::{Window, content_at};
-use cql_value::{Row, Timed, Value};
+ghost use Rattle.std.specs.Prelude.{◌≡◌, ◌<◌, ◌^◌, [], ◌∷◌, IfOk};
+
+use crate::{Count, Length, Window, WindowPin, changes, charge, split};
+use cql_value::{Items, Row, Text, Timed, Value};
 use std::alloc::Global;
 use std::sync::Arc;
 use std::test::Fail;
 
 const GREATEST: u64 = 4611686018427387903;
 
-// A row for each time, told from the others by its number.
-fn numbered(alloc: Global, times: &[u64]) -> Result<Vec<Timed>, Fail> {
+fn range(length: u64, slide: u64) -> Option<Window> {
+    Some(Window::Range {
+        length: Length::new(length)?,
+        slide: Count::new(slide)?,
+    })
+}
+
+fn rows(count: u64, slide: u64) -> Option<Window> {
+    Some(Window::Rows {
+        count: Count::new(count)?,
+        slide: Count::new(slide)?,
+    })
+}
+
+// A row of its number and its key.
+fn row(alloc: Global, number: i64, key: &str) -> Result<Row, Fail> {
+    let key = Value::Text(Text::new(alloc, key)?);
+    let mut values = Vec::new(alloc);
+    values.push(Value::Number(number))?;
+    values.push(key)?;
+    Ok(Row::new(values))
+}
+
+// A row for each time and key, numbered from 0.
+fn numbered(alloc: Global, elements: &[(u64, &str)]) -> Result<Vec<Timed>, Fail> {
     let mut rows = Vec::new(alloc);
     let mut number = 0i64;
-    for time in times {
-        let row = Row::new(vec![in alloc; Value::Number(number)]?);
-        rows.push(Timed::new(*time, Arc::new(alloc, row)?))?;
+    for (time, key) in elements {
+        let row = Arc::new(alloc, row(alloc, number, key)?)?;
+        rows.push(Timed::new(*time, row))?;
         number = number.saturating_add(1);
     }
     Ok(rows)
 }
 
-// The length and the slide of a window, the times of the rows, an instant, and the numbers of the
-// rows that the window shows then.
-type Case = (u64, u64, &'static [u64], u64, &'static [i64]);
-
-// A row goes after the length; a range of no length is the instant.
-fn ranges() -> &'static [Case] {
-    const TWICE: &[u64] = &[3, 3, 5, 5, 5, 6];
-    const FAR: &[u64] = &[0, 1, 4611686018427387902, GREATEST];
-    &[
-        (2, 1, &[5], 4, &[]),
-        (2, 1, &[5], 5, &[0]),
-        (2, 1, &[5], 7, &[0]),
-        (2, 1, &[5], 8, &[]),
-        (2, 1, &[], 8, &[]),
-        (1, 1, TWICE, 3, &[0, 1]),
-        (1, 1, TWICE, 5, &[2, 3, 4]),
-        (2, 1, TWICE, 5, &[0, 1, 2, 3, 4]),
-        (2, 1, TWICE, 6, &[2, 3, 4, 5]),
-        (0, 1, TWICE, 4, &[]),
-        (0, 1, TWICE, 5, &[2, 3, 4]),
-        (0, 1, FAR, GREATEST, &[3]),
-        (4611686018427387902, 1, FAR, GREATEST, &[1, 2, 3]),
-        (GREATEST, 1, FAR, GREATEST, &[0, 1, 2, 3]),
-        (GREATEST, 1, FAR, 0, &[0]),
-    ]
+// Whether the rows have these numbers, in this order.
+fn are(rows: &[Timed], numbers: &[i64]) -> bool {
+    let mut left = numbers;
+    for row in rows {
+        let Some((number, more)) = left.split_first() else {
+            return false;
+        };
+        match row.row().values().first() {
+            Some(Value::Number(n)) if n == number => {}
+            _ => return false,
+        }
+        left = more;
+    }
+    left.is_empty()
 }
 
-// A slide keeps the content of its last multiple.
-fn slides() -> &'static [Case] {
-    const TIMES: &[u64] = &[1, 4, 6];
-    const FAR: &[u64] = &[0, 1, 4611686018427387902, GREATEST];
-    &[
-        (3, 5, TIMES, 4, &[]),
-        (3, 5, TIMES, 5, &[1]),
-        (3, 5, TIMES, 9, &[1]),
-        (3, 5, TIMES, 10, &[]),
-        (4, 5, TIMES, 9, &[0, 1]),
-        (4, 5, TIMES, 10, &[2]),
-        (4, 5, TIMES, 14, &[2]),
-        (4, 5, TIMES, 15, &[]),
-        (GREATEST, GREATEST, FAR, 4611686018427387902, &[0]),
-        (GREATEST, GREATEST, FAR, GREATEST, &[0, 1, 2, 3]),
-    ]
-}
-
-// The rows that the window of the case shows.
-fn shown(alloc: Global, case: &Case) -> Result<Vec<Timed>, Fail> {
-    let window = Window::Range {
-        length: case.0,
-        slide: case.1.max(1),
+// Whether the window has this content and these rows beyond its front, by their numbers.
+fn splits(
+    alloc: Global,
+    window: Option<Window>,
+    elements: &[(u64, &str)],
+    cursor: u64,
+    content: &[i64],
+    unseen: &[i64],
+) -> Result<bool, Fail> {
+    let Some(window) = window else {
+        return Ok(false);
     };
-    let rows = numbered(alloc, case.2)?;
-    Ok(content_at(alloc, window, &rows, case.3.min(GREATEST))?)
-}
-
-fn is_of(row: &Timed, number: i64) -> bool {
-    matches!(row.row().values(), [Value::Number(n)] if *n == number)
-}
-
-// Whether these are the rows of the numbers, in this order.
-fn are_of(rows: &[Timed], numbers: &[i64]) -> bool {
-    rows.len() == numbers.len()
-        && rows
-            .iter()
-            .zip(numbers)
-            .all(|(row, number)| is_of(row, *number))
+    let rows = numbered(alloc, elements)?;
+    let (held, rest) = split(alloc, &window, Vec::new(alloc), rows, cursor)?;
+    let size = content.len() as u64 + unseen.len() as u64;
+    Ok(are(&held, content) && are(&rest, unseen) && charge(&held, &rest) == size)
 }
 
 #[test]
-fn contents(rt: HostRuntime) -> Result<(), Fail> {
+fn slides_split(rt: HostRuntime) -> Result<(), Fail> {
     let alloc = rt.alloc();
-    for case in ranges().iter().chain(slides()) {
-        let rows = shown(alloc, case)?;
-        assert!(rt; are_of(&rows, case.4), "at {}", case.3);
-    }
+    let elements = [(1, "a"), (4, "a"), (6, "a")];
+    assert!(rt; splits(alloc, range(3, 5), &elements, 10, &[1], &[2])?);
+    let elements = [(1, "a"), (2, "a"), (3, "a")];
+    assert!(rt; splits(alloc, rows(2, 2), &elements, 4, &[0, 1], &[2])?);
+    let elements = [(3, "a"), (3, "a")];
+    assert!(rt; splits(alloc, rows(1, 1), &elements, 4, &[1], &[])?);
+    Ok(())
+}
+
+#[test]
+fn the_greatest_numbers_split(rt: HostRuntime) -> Result<(), Fail> {
+    let alloc = rt.alloc();
+    let end = GREATEST + 1;
+    let elements = [(0, "a"), (GREATEST - 1, "a"), (GREATEST, "a")];
+    assert!(rt; splits(alloc, range(0, 1), &elements, end, &[2], &[])?);
+    assert!(rt;
+        splits(
+            alloc,
+            range(GREATEST, GREATEST),
+            &elements,
+            end,
+            &[0, 1, 2],
+            &[]
+        )?
+    );
+    assert!(rt;
+        splits(
+            alloc,
+            range(GREATEST, GREATEST),
+            &elements,
+            GREATEST,
+            &[0],
+            &[1, 2]
+        )?
+    );
+    assert!(rt;
+        splits(
+            alloc,
+            rows(GREATEST, GREATEST),
+            &elements,
+            end,
+            &[],
+            &[0, 1, 2]
+        )?
+    );
+    assert!(rt; splits(alloc, Some(Window::All), &elements, GREATEST, &[0, 1], &[2])?);
+    Ok(())
+}
+
+#[test]
+fn parts_of_a_text_split(rt: HostRuntime) -> Result<(), Fail> {
+    let alloc = rt.alloc();
+    let elements = [(1, "x"), (1, "y"), (2, "x"), (3, "y")];
+    let columns = Items::from_slice(alloc, &[1])?;
+    let window = Count::new(1).map(|count| Window::Parts { columns, count });
+    assert!(rt; splits(alloc, window, &elements, 3, &[1, 2], &[3])?);
+    Ok(())
+}
+
+// One row of this time, without values.
+fn alone(alloc: Global, at: u64) -> Result<Vec<Timed>, Fail>
+    ensures { IfOk result (λ rows. rows.items ≡ record { at = at; row = [] } ∷ []) }
+{
+    let row = Arc::new(alloc, Row::new(Vec::new(alloc)))?;
+    let mut rows = Vec::new(alloc);
+    rows.push(Timed::new(at, row))?;
+    Ok(rows)
+}
+
+#[test]
+fn a_range_of_the_greatest_slide_changes(rt: HostRuntime) -> Result<(), Fail> {
+    let alloc = rt.alloc();
+    let (Some(length), Some(slide)) = (Length::new(0), Count::new(GREATEST)) else {
+        return Ok(());
+    };
+    let window = Window::Range { length, slide };
+    let pin = WindowPin::new(window, Vec::new(alloc), alone(alloc, 0)?);
+    assert!(rt; changes(alloc, &pin, 0, GREATEST + 1)?.as_slice() == [0, GREATEST].as_slice());
+    assert!(rt; changes(alloc, &pin, 1, GREATEST)?.is_empty());
     Ok(())
 }

@@ -4,11 +4,10 @@ ghost use Rattle.cql_bag.specs.Bag.{bag_of};
 ghost use Rattle.cql_core.specs.Relation.{value_at};
 
 use crate::pin::Pin;
-use crate::steps::shared;
 use cql_bag::Bag;
 use cql_out::Relation;
 use cql_value::Timed;
-use cql_window::split;
+use cql_window::content_at;
 use std::alloc::{AllocError, Global};
 
 // The bag of the elements' rows.
@@ -31,7 +30,6 @@ pub fn relation(alloc: Global, pin: &Pin, cursor: u64) -> Result<Relation, Alloc
     if cursor <= pin.base() {
         return Ok(Relation::Bag(Bag::new(alloc)));
     }
-    let rows = shared(alloc, pin.rows())?;
-    let (content, _later) = split(alloc, pin.window(), Vec::new(alloc), rows, cursor)?;
+    let content = content_at(alloc, pin.window(), pin.rows(), cursor)?;
     Ok(Relation::Bag(bag_of_rows(alloc, &content)?))
 }

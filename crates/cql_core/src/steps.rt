@@ -21,7 +21,7 @@ use crate::shared::Shared;
 use crate::shelf::Shelf;
 use crate::state::{Home, QueryState, StreamState};
 use cql_text::Syntax;
-use cql_value::{Items, Schema, Text, Timed};
+use cql_value::{Items, Schema, Text, Timed, copies_of};
 use std::alloc::{AllocError, Global};
 
 // What is told of a time that comes to a stream which takes none below `opened`.
@@ -205,17 +205,6 @@ fn count_before(elements: &[Timed], next: u64) -> usize
         .count()
 }
 
-/// The same elements, shared.
-pub fn shared(alloc: Global, elements: &[Timed]) -> Result<Vec<Timed>, AllocError>
-    ensures { IfOk result (λ rows. rows.items ≡ elements.now) }
-{
-    let mut rows = Vec::new(alloc);
-    for element in elements {
-        rows.push(element.try_clone()?)?;
-    }
-    Ok(rows)
-}
-
 // The rows from one place on, as far as they come before an instant.
 fn rows_between(
     alloc: Global,
@@ -226,7 +215,7 @@ fn rows_between(
     ensures { IfOk result (λ rows. rows.items ≡ rows_before next (drop skipped elements.now)) }
 {
     let rows = later(elements, skipped);
-    shared(alloc, &rows[..count_before(rows, next)])
+    copies_of(alloc, &rows[..count_before(rows, next)])
 }
 
 // Where a fetch ends.

@@ -1,10 +1,11 @@
 // The content of a window and the rows beyond its front.
-ghost use Rattle.std.specs.Prelude.{◌≡◌, ◌≤◌, ◌<◌, ◌+◌, ◌^◌, nat_lt, length, IfOk};
+ghost use Rattle.std.specs.Prelude.{◌≡◌, ◌≤◌, ◌<◌, ◌+◌, ◌^◌, [], nat_lt, length, IfOk};
+ghost use Rattle.std.specs.List.{filter};
 ghost use Rattle.cql_window.specs.Window.{end_of, count_before, front_len, kept, content, beyond};
 
 use crate::parts::newest_of_parts;
 use crate::window::Window;
-use cql_value::Timed;
+use cql_value::{Timed, copies_of};
 use std::alloc::{AllocError, Global};
 
 // What came before it is seen by a range at the cursor.
@@ -103,6 +104,40 @@ pub fn split(
     settled.append(&mut unseen)?;
     let content = keep(alloc, window, cursor, settled)?;
     Ok((content, rest))
+}
+
+// The rows that a range of this length keeps, seen up to before the end. They are shared.
+fn in_range(alloc: Global, length: u64, end: u64, rows: &[Timed]) -> Result<Vec<Timed>, AllocError>
+    requires { length < 2 ^ 62 }
+    ensures { IfOk result (λ r. r.items ≡ filter (λ x. nat_lt end (x.at + length + 2)) rows.now) }
+{
+    let mut kept = Vec::new(alloc);
+    for row in rows {
+        if is_reached(end, length, row.at()) {
+            kept.push(row.try_clone()?)?;
+        }
+    }
+    Ok(kept)
+}
+
+/// The content of the window at a cursor, of rows that none came before. Its rows are shared, not
+/// copied, and no others.
+pub fn content_at(
+    alloc: Global,
+    window: &Window,
+    rows: &[Timed],
+    cursor: u64,
+) -> Result<Vec<Timed>, AllocError>
+    ensures { IfOk result (λ r. r.items ≡ content window.now cursor [] rows.now) }
+{
+    let seen = &rows[..front(window, rows, cursor)];
+    match window {
+        Window::Range { length, slide } => {
+            let end = end_at(slide.get(), cursor);
+            in_range(alloc, length.get(), end, seen)
+        }
+        _ => keep(alloc, window, cursor, copies_of(alloc, seen)?),
+    }
 }
 
 /// The charge of a window: the number of rows of its content and of those beyond its front.

@@ -15,7 +15,7 @@ mod tests;
 pub mod window;
 
 pub use amount::{Count, Length};
-pub use content::{charge, split};
+pub use content::{charge, content_at, split};
 pub use instants::{changes, changes_of};
 pub use pin::WindowPin;
 pub use window::Window;

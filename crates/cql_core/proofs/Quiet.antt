@@ -85,7 +85,8 @@ from_head x (y ∷ ys) rise le = (le (omega arith), above x y ys (le (omega arit
 rises : (ts : List ℕ) → IsStrictlyIncreasing ts → Rises ts
 rises [] order = tt
 rises (x ∷ xs) order =
-    let later : Rises xs = rises xs (λ k lt. order (suc k) (omega arith)) in
+    let later : Rises xs
+    = rises xs (λ k lt. let e : suc k + 1 ≡ suc (k + 1) = omega arith in subst (λ i. get_or xs k 0 < get_or (x ∷ xs) i 0) e (order (suc k) (omega arith))) in
     (from_head x xs later (λ some. let lt : x < get_or xs 0 0 = order 0 (omega arith) in omega arith), later)
 
 quiet_at : (p : PinSeen) (t : ℕ) → p.base < t → HasSameContent p.plan.window t [] p.rows → IsQuiet p t

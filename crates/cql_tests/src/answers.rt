@@ -1,8 +1,5 @@
 // Answers of pins that no script of lines reaches: windows with a slide, rows from before the
 // base, and a cursor behind the base.
-ghost use Rattle.std.specs.Prelude.{◌≡◌, IfOk};
-ghost use Rattle.std.specs.Arc.{arc_value};
-
 use crate::outputs::{Told, are_blocks};
 use cql_core::evaluate::answer;
 use cql_core::{Answer, OutputKind, Pin, Plan};
@@ -11,7 +8,7 @@ use cql_plan::plan::Plan as Typed;
 use cql_plan::resolve;
 use cql_text::read;
 use cql_value::{Column, ColumnType, Name, Row, Schema, Text, Timed, Value};
-use cql_window::Window;
+use cql_window::{Count, Length, Window};
 use std::alloc::Global;
 use std::sync::Arc;
 use std::test::Fail;
@@ -116,9 +113,14 @@ fn typed(alloc: Global, text: &str) -> Result<Typed, Fail> {
     Ok(resolve(alloc, &syntax, &OneStream { schema })?)
 }
 
-fn plan(alloc: Global, window: Window) -> Result<Arc<Plan>, Fail>
-    ensures { IfOk result (λ plan. (arc_value plan).window ≡ window) }
-{
+fn window(case: &Case) -> Option<Window> {
+    Some(Window::Range {
+        length: Length::new(case.length)?,
+        slide: Count::new(case.slide)?,
+    })
+}
+
+fn plan(alloc: Global, window: Window) -> Result<Arc<Plan>, Fail> {
     let stream = Name::read(alloc, "s")?;
     let text = Text::new(alloc, "ISTREAM(SELECT * FROM s [NOW])")?;
     let typed = typed(alloc, text.as_str())?;
@@ -145,11 +147,7 @@ fn timed_rows(alloc: Global, rows: &[(u64, i64)]) -> Result<Vec<Timed>, Fail> {
     Ok(all)
 }
 
-fn answered(alloc: Global, case: &Case) -> Result<Answer, Fail> {
-    let window = Window::Range {
-        length: case.length,
-        slide: case.slide.max(1),
-    };
+fn answered(alloc: Global, case: &Case, window: Window) -> Result<Answer, Fail> {
     let plan = plan(alloc, window)?;
     let rows = timed_rows(alloc, case.rows)?;
     let next = case.next.min(1_000);
@@ -159,7 +157,10 @@ fn answered(alloc: Global, case: &Case) -> Result<Answer, Fail> {
 }
 
 fn is_told(alloc: Global, case: &Case) -> Result<bool, Fail> {
-    let answer = answered(alloc, case)?;
+    let Some(window) = window(case) else {
+        return Ok(false);
+    };
+    let answer = answered(alloc, case, window)?;
     Ok(answer.next() == case.next && are_blocks(alloc, answer.blocks(), case.blocks)?)
 }
 

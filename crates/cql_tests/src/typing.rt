@@ -4,11 +4,12 @@ mod values;
 use crate::typing::streams::Streams;
 use cql_plan::{
     Branch, Input, Item, Join, Node, OperatorKind, OutputKind, Plan, PlanError, PlanFault, SetOp,
-    Shape, Window, evaluate, meets, resolve,
+    Shape, evaluate, meets, resolve,
 };
 use cql_syntax::syntax::SetOperator;
 use cql_text::{Syntax, read};
 use cql_value::{ColumnType, Text, Value};
+use cql_window::Window;
 use std::alloc::{AllocError, Global};
 use std::test::Fail;
 
@@ -49,6 +50,27 @@ fn reads(input: &Input, owner: Option<&str>, stream: &str) -> bool {
     input.owner.as_ref().map(|owner| owner.as_str()) == owner && input.stream.as_str() == stream
 }
 
+fn is_range(window: &Window, ticks: u64, by: u64) -> bool {
+    match window {
+        Window::Range { length, slide } => length.get() == ticks && slide.get() == by,
+        _ => false,
+    }
+}
+
+fn is_rows(window: &Window, number: u64, by: u64) -> bool {
+    match window {
+        Window::Rows { count, slide } => count.get() == number && slide.get() == by,
+        _ => false,
+    }
+}
+
+fn parts_by(window: &Window, places: &[usize], number: u64) -> bool {
+    match window {
+        Window::Parts { columns, count } => columns.as_slice() == places && count.get() == number,
+        _ => false,
+    }
+}
+
 fn row_of(alloc: Global, number: i64) -> Result<[Value; 4], AllocError> {
     let text = Text::new(alloc, "a")?;
     let other = Text::new(alloc, "b")?;
@@ -84,18 +106,10 @@ fn inputs_of_a_join(rt: HostRuntime) -> Result<(), Fail> {
     assert_eq!(rt; plan.inputs().len(), 2);
     let granted = &plan.inputs()[0];
     assert!(rt; reads(granted, Some("b"), "g"));
-    assert!(rt;
-        matches!(
-            granted.window,
-            Window::Range {
-                length: 5,
-                slide: 2
-            }
-        )
-    );
+    assert!(rt; is_range(&granted.window, 5, 2));
     let own = &plan.inputs()[1];
     assert!(rt; reads(own, None, "p"));
-    assert!(rt; matches!(own.window, Window::Rows { count: 3, slide: 1 }));
+    assert!(rt; is_rows(&own.window, 3, 1));
     Ok(())
 }
 
@@ -124,9 +138,8 @@ fn parts_of_two_blocks(rt: HostRuntime) -> Result<(), Fail> {
                 Except All Select * From p x";
     let plan = plan_of(rt.alloc(), text)?;
     assert!(rt; plan.output() == OutputKind::Signed && plan.inputs().len() == 2);
-    if let Window::Parts { columns, count } = &plan.inputs()[0].window {
-        assert!(rt; columns.as_slice() == [1, 0].as_slice() && *count == 4);
-    }
+    let parted = &plan.inputs()[0];
+    assert!(rt; parts_by(&parted.window, &[1, 0], 4));
     assert!(rt; shape_of(plan.first()).is_some_and(sums_by_first));
     assert!(rt; matches!(&plan.first().distinct, Some(Node::Distinct(_))));
     let second = plan.second().and_then(shape_of);

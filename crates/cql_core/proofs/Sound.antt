@@ -1,6 +1,6 @@
 -- The machine keeps what is true of its state.
 use Rattle.std.proofs.Common.{◌≡◌, ℕ, zero, suc, ◌+◌, ◌^◌, ◌≤◌, ◌<◌, Bool, true, false, eqb, List, [], ◌∷◌, length, set, refl, ap, subst, ◌∙◌, sym, arith, length-set}
-use Rattle.std.specs.Prelude.{Option, Some, None, option_map, option_and_then, Result, Ok, Err, unwrap_or, if◌then◌else◌, nat_lt}
+use Rattle.std.specs.Prelude.{Option, Some, None, option_map, unwrap_or, if◌then◌else◌, nat_lt}
 use Rattle.std.proofs.lemmas.Bool.Decides.{nat_tests}
 use Rattle.cql_value.specs.declared.value.Value.{Value}
 use Rattle.cql_value.specs.declared.schema.Column.{Column}

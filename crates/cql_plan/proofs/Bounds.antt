@@ -1,5 +1,5 @@
 -- The numbers of written windows are those that windows may have.
-use Rattle.std.proofs.Common.{◌≡◌, ◌≤◌, ◌<◌, ℕ, zero, suc, ◌*◌, ◌^◌, Bool, true, false, nat_lt, nat_le, List, [], ◌∷◌, refl, sym, subst, ap, ◌∙◌, arith, inl, inr}
+use Rattle.std.proofs.Common.{◌≡◌, ◌≤◌, ◌<◌, ℕ, zero, suc, ◌*◌, ◌^◌, Bool, true, false, nat_lt, List, [], refl, subst, arith, inl, inr}
 use Rattle.std.specs.Prelude.{Option, Some, None, IfSome, if◌then◌else◌, codes}
 use Rattle.std.specs.List.{All, AllByRecursion}
 use Rattle.std.proofs.lemmas.Bool.Decides.{nat_tests}
@@ -8,15 +8,14 @@ use Rattle.cql_value.specs.Name.{is_name}
 use Rattle.cql_syntax.specs.declared.token.Token.{Token}
 use Rattle.cql_syntax.specs.declared.token.Token.TheVariants as t
 use Rattle.cql_syntax.specs.declared.syntax.WrittenWindow.{WrittenWindow}
-use Rattle.cql_syntax.specs.declared.syntax.WrittenWindow.TheVariants as window
 use Rattle.cql_syntax.specs.declared.syntax.Input.{Input}
 use Rattle.cql_syntax.specs.declared.syntax.SelectBlock.{SelectBlock}
 use Rattle.cql_syntax.specs.declared.syntax.Second.{Second}
 use Rattle.cql_syntax.specs.declared.syntax.Selection.{Selection}
 use Rattle.cql_syntax.specs.declared.syntax.Query.{Query}
 use Rattle.cql_syntax.specs.Tokens.{Tokens}
-use Rattle.cql_text.specs.Meaning.{number_from, unit_of, unit_named, is_either, times, ticks_of, or_else, or_unbounded}
-use Rattle.cql_text.specs.Rules.{optional, one, word, ◌>>◌}
+use Rattle.cql_text.specs.Meaning.{number_from, unit_of, unit_named, is_either, times}
+use Rattle.cql_text.specs.Rules.{optional, one}
 use Rattle.cql_text.specs.Grammar.{IsLength, IsRange, IsRows, IsPartition, IsWindow, IsInput, IsInputs, IsRest, IsSelected, IsBlock, IsSecond, IsOuter, IsInner, IsWhole, IsQuery}
 use Rattle.cql_text.specs.Read.{IsSyntax}
 use Rattle.cql_text.proofs.WindowLaws.{number_facts}

@@ -9,7 +9,7 @@ use Rattle.cql_window.specs.declared.window.Window.{Window}
 use Rattle.cql_window.specs.Window.{content, HasSameContent}
 use Rattle.cql_out.specs.declared.told.Output.{Output}
 use Rattle.cql_plan.specs.declared.plan.OutputKind.{OutputKind}
-use Rattle.cql_bag.specs.Bag.{Counts, bag_of}
+use Rattle.cql_bag.specs.Bag.{bag_of}
 use Rattle.cql_out.specs.declared.relation.Relation.{Relation}
 use Rattle.cql_out.specs.declared.relation.Relation.TheVariants.{Bag}
 use Rattle.cql_out.specs.ByKind.{output_of}

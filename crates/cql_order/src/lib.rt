@@ -1,0 +1,10 @@
+//! The order of times: a stream's clock, and the least of many.
+#![tactic(auto)]
+
+mod clock;
+mod least;
+#[cfg(test)]
+mod tests;
+
+pub use clock::{Clock, ClockError};
+pub use least::limit;

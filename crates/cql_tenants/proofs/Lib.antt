@@ -1,0 +1,5 @@
+pub mod Looks
+pub mod Laws
+pub mod Shows
+pub mod Kept
+pub mod Grants

@@ -1,0 +1,59 @@
+-- The directory: what each command on streams is told, and the homes after it. No query and no element is in it.
+use Rattle.std.specs.Prelude.{ℕ, ◌+◌, List, [], ◌∷◌, ◌++◌, Option, Some, None, option_map, unwrap_or, is_none, if◌then◌else◌}
+use Rattle.cql_value.specs.declared.value.Value.{Value}
+use Rattle.cql_value.specs.declared.schema.Column.{Column}
+use Rattle.cql_tenants.specs.declared.refusal.StreamRefusal.{StreamRefusal}
+use Rattle.cql_tenants.specs.declared.refusal.StreamRefusal.TheVariants.{UnknownTenant}
+use Rattle.cql_tenants.specs.Named.{change_named}
+use Rattle.cql_tenants.specs.Home.{Home, Stream, Grant, is_place, home_at, change_home, tenant_named, stream_at}
+use Rattle.cql_tenants.specs.Checks.{make_refused, grant_refused, put_refused, beat_refused}
+
+-- a command on streams; the columns of a new stream are its schema where they have one
+pub data StreamCommand : Type 0 where
+  Make : (name : List ℕ) → (schema : Option (List Column)) → StreamCommand
+  Share : (stream : List ℕ) → (to : List ℕ) → StreamCommand
+  Put : (stream : List ℕ) → (at : ℕ) → (row : List Value) → StreamCommand
+  Beat : (stream : List ℕ) → (at : ℕ) → StreamCommand
+
+-- why a command of the tenant at a place is refused, if it is; 31 comes before all else
+abbrev pub refused_at : List Home → ℕ → StreamCommand → Option StreamRefusal
+refused_at homes user (Make name schema) = make_refused (home_at homes user) name schema
+refused_at homes user (Share stream to) = grant_refused homes user stream to
+refused_at homes user (Put stream at row) = put_refused (stream_at homes user stream) at row
+refused_at homes user (Beat stream at) = beat_refused (stream_at homes user stream) at
+
+abbrev pub refused : List Home → ℕ → StreamCommand → Option StreamRefusal
+refused homes user command = if is_place homes user then refused_at homes user command else Some UnknownTenant
+
+-- a new stream takes all times
+abbrev pub with_stream : List ℕ → List Column → Home → Home
+with_stream name schema home = record home { streams = home.streams ++ record { name = name; item = record { schema = schema; clock = 0 } } ∷ [] }
+
+-- a stream takes nothing below a time any more
+abbrev pub opens : ℕ → Stream → Stream
+opens at s = record s { clock = at }
+
+abbrev pub with_time : List ℕ → ℕ → Home → Home
+with_time stream at home = record home { streams = change_named (opens at) stream home.streams }
+
+abbrev pub with_grant : Grant → Home → Home
+with_grant grant home = record home { granted = home.granted ++ grant ∷ [] }
+
+-- a grant shows all columns of the stream
+abbrev pub new_grant : List Home → ℕ → List ℕ → Grant
+new_grant homes user stream = record { owner = user; stream = stream; schema = unwrap_or (option_map (λ s. s.schema) (stream_at homes user stream)) [] }
+
+abbrev pub grant_to : List Home → Grant → Option ℕ → List Home
+grant_to homes grant None = homes
+grant_to homes grant (Some place) = change_home (with_grant grant) homes place
+
+-- the homes after a command that is accepted
+abbrev pub done : List Home → ℕ → StreamCommand → List Home
+done homes user (Make name schema) = change_home (with_stream name (unwrap_or schema [])) homes user
+done homes user (Share stream to) = grant_to homes (new_grant homes user stream) (tenant_named homes user to)
+done homes user (Put stream at row) = change_home (with_time stream at) homes user
+done homes user (Beat stream at) = change_home (with_time stream (at + 1)) homes user
+
+-- the homes after a command; one that is refused changes nothing
+abbrev pub directory_after : List Home → ℕ → StreamCommand → List Home
+directory_after homes user command = if is_none (refused homes user command) then done homes user command else homes

@@ -1,0 +1,31 @@
+-- The directory after many commands is what the accepted ones among them make.
+use Rattle.std.specs.Prelude.{◌≡◌, ℕ, List, [], ◌∷◌, Some, is_none, if◌then◌else◌}
+use Rattle.cql_tenants.specs.declared.tenants.Tenant.{Tenant}
+use Rattle.cql_tenants.specs.Home.{Home, Stream, Grant, nothing_made, home_at, stream_at, grant_of}
+use Rattle.cql_tenants.specs.Directory.{StreamCommand, refused, done, directory_after}
+
+abbrev pub directory_from : List Home → List (ℕ × StreamCommand) → List Home
+directory_from homes [] = homes
+directory_from homes (call ∷ calls) = directory_from (directory_after homes call.0 call.1) calls
+
+-- the calls that are accepted, each from the directory before it
+abbrev pub accepted : List Home → List (ℕ × StreamCommand) → List (ℕ × StreamCommand)
+accepted homes [] = []
+accepted homes (call ∷ calls) = if is_none (refused homes call.0 call.1) then call ∷ accepted (done homes call.0 call.1) calls else accepted homes calls
+
+-- what calls make where none is refused
+abbrev pub all_done : List Home → List (ℕ × StreamCommand) → List Home
+all_done homes [] = homes
+all_done homes (call ∷ calls) = all_done (done homes call.0 call.1) calls
+
+abbrev pub IsDirectoryLaw : Type 0
+IsDirectoryLaw = (homes : List Home) (calls : List (ℕ × StreamCommand)) → directory_from homes calls ≡ all_done homes (accepted homes calls)
+
+-- each grant that a tenant has is of a stream that is there, with the columns of the grant
+abbrev pub AreOfStreams : List Home → Type 0
+AreOfStreams homes =
+    (place owner : ℕ) (name : List ℕ) (g : Grant) → grant_of (home_at homes place) owner name ≡ Some g
+    → (s : Stream) × (stream_at homes owner name ≡ Some s) × (s.schema ≡ g.schema)
+
+abbrev pub IsGrantLaw : Type 0
+IsGrantLaw = (table : List Tenant) (calls : List (ℕ × StreamCommand)) → AreOfStreams (directory_from (nothing_made table) calls)

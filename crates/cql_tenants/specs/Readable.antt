@@ -1,0 +1,52 @@
+-- What a tenant reads: its own streams, and those granted to it.
+use Rattle.std.specs.Prelude.{ℕ, ◌==◌, List, map, ◌++◌, Option, Some, None, option_map, Result, Ok, Err, if◌then◌else◌}
+use Rattle.cql_value.specs.declared.schema.Column.{Column}
+use Rattle.cql_tenants.specs.declared.refusal.StreamRefusal.{StreamRefusal}
+use Rattle.cql_tenants.specs.declared.refusal.StreamRefusal.TheVariants.{UnknownTenant}
+use Rattle.cql_tenants.specs.declared.readable.Readable.{Readable}
+use Rattle.cql_tenants.specs.declared.readable.Found.{Found}
+use Rattle.cql_tenants.specs.Named.{Named}
+use Rattle.cql_tenants.specs.Home.{Home, Stream, Grant, is_place, home_at, tenant_named, stream_at, opened_at, grant_of}
+
+-- a stream of the tenant's own goes by its name
+abbrev pub own_readable : Named Stream → Readable
+own_readable s = record { owner = None; name = s.name; schema = s.item.schema; opened = s.item.clock }
+
+-- one of another's goes by owner and name, and has the columns of the grant
+abbrev pub granted_readable : List Home → Grant → Readable
+granted_readable homes g = record { owner = Some (home_at homes g.owner).name; name = g.stream; schema = g.schema; opened = opened_at homes g.owner g.stream }
+
+-- own streams in order of making, then the others in order of the grants
+abbrev pub all_readable : List Home → Home → List Readable
+all_readable homes home = map own_readable home.streams ++ map (granted_readable homes) home.granted
+
+abbrev pub readable_to : List Home → ℕ → Result (List Readable) StreamRefusal
+readable_to homes user = if is_place homes user then Ok (all_readable homes (home_at homes user)) else Err UnknownTenant
+
+-- a stream that a tenant reads: its owner's place, its columns there, and the least time that it still takes
+pub record StreamSeen : Type 0 where
+  pub owner : ℕ
+  pub schema : List Column
+  pub opened : ℕ
+
+abbrev pub seen_of : Found → StreamSeen
+seen_of f = record { owner = f.owner; schema = f.schema.now; opened = f.opened }
+
+abbrev pub own_found : List Home → ℕ → List ℕ → Option StreamSeen
+own_found homes user name = option_map (λ s. record { owner = user; schema = s.schema; opened = s.clock }) (stream_at homes user name)
+
+abbrev pub granted_found : List Home → ℕ → ℕ → List ℕ → Option StreamSeen
+granted_found homes user owner name = option_map (λ g. record { owner = g.owner; schema = g.schema; opened = opened_at homes g.owner g.stream }) (grant_of (home_at homes user) owner name)
+
+-- the tenant that is meant by what stands before the dot: with no dot the caller itself
+abbrev pub owner_meant : List Home → ℕ → Option (List ℕ) → Option ℕ
+owner_meant homes user None = Some user
+owner_meant homes user (Some name) = tenant_named homes user name
+
+abbrev pub found_of : List Home → ℕ → Option ℕ → List ℕ → Option StreamSeen
+found_of homes user None name = None
+found_of homes user (Some owner) name = if owner == user then own_found homes user name else granted_found homes user owner name
+
+-- a stream that isn't granted is found as little as one that isn't there
+abbrev pub found : List Home → ℕ → Option (List ℕ) → List ℕ → Option StreamSeen
+found homes user owner name = if is_place homes user then found_of homes user (owner_meant homes user owner) name else None

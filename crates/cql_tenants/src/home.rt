@@ -1,0 +1,143 @@
+// What there is of one tenant.
+ghost use Rattle.std.specs.Prelude.{◌≡◌, ◌&&◌, ◌==◌, IfOk, OnOk, OnErr, option_copied, unwrap_or, []};
+ghost use Rattle.std.specs.Result.{result_err};
+ghost use Rattle.cql_tenants.specs.Home.{empty_home, is_of, grant_of};
+ghost use Rattle.cql_tenants.specs.Checks.{make_refused, room_refused};
+ghost use Rattle.cql_tenants.specs.Directory.{with_stream, with_grant};
+
+use crate::refusal::StreamRefusal;
+use crate::shelf::Shelf;
+use crate::stream::Stream;
+use crate::tenants::{Quotas, Tenant, TenantId};
+use cql_order::Clock;
+use cql_value::name::is_name;
+use cql_value::{Items, Name, Schema, Text};
+use std::alloc::{AllocError, Global};
+
+/// A stream that another tenant granted: its owner, its name, and the columns that the reader sees.
+pub struct Grant {
+    pub owner: TenantId,
+    pub stream: Text,
+    pub schema: Schema,
+}
+
+impl Drop for Grant {
+    fn drop(self) {
+        let Grant {
+            owner: _,
+            stream: _,
+            schema: _,
+        } = self;
+    }
+}
+
+impl Grant {
+    // Whether it is a grant of that stream.
+    #[tactic(auto, unfolding(crate::specs::Named::same_name))]
+    fn is_of(&self, owner: usize, stream: &str) -> bool
+        ensures { result ≡ is_of owner stream.now self.now }
+    {
+        owner == self.owner.place() && stream == self.stream.as_str()
+    }
+}
+
+/// A tenant's name and quotas, its streams in order of making, and the streams that were granted to
+/// it, in order of the grants.
+pub struct Home {
+    pub name: Name,
+    pub quotas: Quotas,
+    pub streams: Shelf<Stream>,
+    pub granted: Items<Grant>,
+}
+
+impl Drop for Home {
+    fn drop(self) {
+        let Home {
+            name: _,
+            quotas: _,
+            streams: _,
+            granted: _,
+        } = self;
+    }
+}
+
+impl Home {
+    /// A home with no stream.
+    pub fn new(alloc: Global, tenant: &Tenant) -> Result<Home, AllocError>
+        ensures { IfOk result (λ home. home ≡ empty_home tenant.now.name tenant.now.quotas) }
+    {
+        let name = tenant.name.try_clone()?;
+        Ok(Home {
+            name,
+            quotas: tenant.quotas,
+            streams: Shelf::new(alloc),
+            granted: Items::new(alloc),
+        })
+    }
+
+    /// The grant of that stream to this tenant. Takes no memory.
+    pub fn grant_of(&self, owner: usize, stream: &str) -> Option<&Grant>
+        ensures { option_copied result ≡ grant_of self.now owner stream.now }
+    {
+        self.granted
+            .as_slice()
+            .iter()
+            .find(|grant| grant.is_of(owner, stream))
+    }
+
+    // Whether there is a stream of the name, or no room for one more.
+    fn room(&self, name: &str) -> Result<(), StreamRefusal>
+        ensures { result_err result ≡ room_refused self.now name.now }
+    {
+        if self.streams.get(name).is_some() {
+            return Err(StreamRefusal::StreamExists);
+        }
+        if self.streams.len() as u64 >= self.quotas.streams {
+            return Err(StreamRefusal::TooManyStreams);
+        }
+        Ok(())
+    }
+
+    // The schema of a stream that may be made.
+    fn new_schema<'a>(
+        &self,
+        name: &str,
+        schema: Option<&'a Schema>,
+    ) -> Result<&'a Schema, StreamRefusal>
+        ensures refused { result_err result ≡ make_refused self.now name.now (option_copied schema.entry) }
+        ensures schema { IfOk result (λ s. s.now ≡ unwrap_or (option_copied schema.entry) []) }
+    {
+        if !is_name(name) {
+            return Err(StreamRefusal::BadName);
+        }
+        let Some(schema) = schema else {
+            return Err(StreamRefusal::BadColumns);
+        };
+        self.room(name)?;
+        Ok(schema)
+    }
+
+    /// Makes a stream.
+    pub fn make(
+        &mut self,
+        alloc: Global,
+        name: &str,
+        schema: Option<&Schema>,
+    ) -> Result<Result<(), StreamRefusal>, AllocError>
+        ensures refused { IfOk result (λ told. result_err told ≡ make_refused self.old name.now (option_copied schema.entry)) }
+        ensures ok { IfOk result (λ told. OnOk told (self.new ≡ with_stream name.now (unwrap_or (option_copied schema.entry) []) self.old)) }
+        ensures unchanged { IfOk result (λ told. OnErr told (self.new ≡ self.old)) }
+        ensures err { OnErr result (self.new ≡ self.old) }
+    {
+        let schema = match self.new_schema(name, schema) {
+            Ok(schema) => schema.try_clone(alloc)?,
+            Err(refusal) => return Ok(Err(refusal)),
+        };
+        let stream = Stream {
+            schema,
+            clock: Clock::new(),
+        };
+        self.streams.push(String::from_str(alloc, name)?, stream)?;
+        Ok(Ok(()))
+    }
+}

@@ -1,0 +1,100 @@
+// Streams as their readers see them.
+ghost use Rattle.std.specs.Prelude.{◌≡◌, IfOk, map};
+ghost use Rattle.cql_tenants.specs.Readable.{own_readable, granted_readable};
+
+use crate::home::{Grant, Home};
+use crate::homes::{opened_at, owner_name};
+use crate::shelf::Shelf;
+use crate::stream::Stream;
+use crate::tenants::TenantId;
+use cql_value::{Items, Schema, Text};
+use std::alloc::{AllocError, Global};
+
+/// A stream that a tenant reads: under its name alone where it is the tenant's own, else under its
+/// owner's and its name.
+pub struct Readable {
+    pub owner: Option<Text>,
+    pub name: Text,
+    /// The columns that the tenant sees.
+    pub schema: Schema,
+    /// The least time, in ticks, that the stream still takes.
+    pub opened: u64,
+}
+
+impl Drop for Readable {
+    fn drop(self) {
+        let Readable {
+            owner: _,
+            name: _,
+            schema: _,
+            opened: _,
+        } = self;
+    }
+}
+
+/// A stream that a tenant reads, as a look-up finds it.
+#[derive(Clone, Copy)]
+pub struct Found<'a> {
+    pub owner: TenantId,
+    /// The columns that the tenant sees.
+    pub schema: &'a Schema,
+    /// The least time, in ticks, that the stream still takes.
+    pub opened: u64,
+}
+
+// A stream of the tenant's own.
+fn own_readable(alloc: Global, name: &str, stream: &Stream) -> Result<Readable, AllocError>
+    ensures { IfOk result (λ r. r ≡ own_readable (record { name = name.now; item = stream.now })) }
+{
+    let name = Text::new(alloc, name)?;
+    let schema = stream.schema.try_clone(alloc)?;
+    Ok(Readable {
+        owner: None,
+        name,
+        schema,
+        opened: stream.clock.opened(),
+    })
+}
+
+// A stream of another's.
+fn granted_readable(alloc: Global, homes: &[Home], grant: &Grant) -> Result<Readable, AllocError>
+    ensures { IfOk result (λ r. r ≡ granted_readable homes.now grant.now) }
+{
+    let owner = grant.owner.place();
+    let owner_text = Text::new(alloc, owner_name(homes, owner))?;
+    let name = grant.stream.try_clone(alloc)?;
+    let schema = grant.schema.try_clone(alloc)?;
+    Ok(Readable {
+        owner: Some(owner_text),
+        name,
+        schema,
+        opened: opened_at(homes, owner, grant.stream.as_str()),
+    })
+}
+
+/// A tenant's own streams, in order of making.
+pub fn own_shown(alloc: Global, streams: &Shelf<Stream>) -> Result<Items<Readable>, AllocError>
+    ensures { IfOk result (λ all. all ≡ map own_readable streams.now) }
+{
+    let mut all = Items::new(alloc);
+    for i in 0..streams.len() {
+        let (name, stream) = streams.entry(i);
+        all.push(own_readable(alloc, name, stream)?)?;
+    }
+    Ok(all)
+}
+
+/// The streams of these grants, in order.
+pub fn granted_shown(
+    alloc: Global,
+    homes: &[Home],
+    grants: &[Grant],
+) -> Result<Items<Readable>, AllocError>
+    ensures { IfOk result (λ all. all ≡ map (granted_readable homes.now) grants.now) }
+{
+    let mut all = Items::new(alloc);
+    for grant in grants {
+        all.push(granted_readable(alloc, homes, grant)?)?;
+    }
+    Ok(all)
+}

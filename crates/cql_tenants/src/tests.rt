@@ -1,0 +1,213 @@
+// Each public call, once, with ample memory; and what no script can reach.
+use crate::law::{directory_law, grant_law};
+use crate::{Directory, Quotas, Shelf, StreamRefusal, Tenant, TenantId, TenantTable};
+use cql_value::{Column, ColumnType, Name, Row, Schema, Text, Value};
+use std::alloc::{AllocError, Global};
+use std::test::Fail;
+
+fn tenant(alloc: Global, name: &str) -> Result<Tenant, Fail> {
+    let name = Name::read(alloc, name)?;
+    let key = Text::new(alloc, "key")?;
+    let quotas = Quotas {
+        streams: 1,
+        queries: 1,
+        hold: 1,
+        result: 1,
+    };
+    Ok(Tenant { name, key, quotas })
+}
+
+fn table(alloc: Global, names: &[&str]) -> Result<TenantTable, Fail> {
+    let mut tenants = Vec::new(alloc);
+    for name in names {
+        tenants.push(tenant(alloc, name)?)?;
+    }
+    Ok(TenantTable::new(tenants)?)
+}
+
+fn place(table: &TenantTable, name: &str) -> Result<TenantId, Fail> {
+    match table.find(name) {
+        Some(place) => Ok(place),
+        None => Err(Fail::new("no such tenant")),
+    }
+}
+
+fn schema(alloc: Global) -> Result<Schema, Fail> {
+    let name = Name::read(alloc, "v")?;
+    let mut columns = Vec::new(alloc);
+    columns.push(Column {
+        name,
+        kind: ColumnType::Number,
+    })?;
+    Ok(Schema::new(columns)?)
+}
+
+fn row(alloc: Global, value: Value) -> Result<Row, Fail> {
+    let mut values = Vec::new(alloc);
+    values.push(value)?;
+    Ok(Row::new(values))
+}
+
+#[test]
+fn tables(rt: HostRuntime) -> Result<(), Fail> {
+    let alloc = rt.alloc();
+    let table = table(alloc, &["a", "b"])?;
+    let copy = table.try_clone(alloc)?;
+    assert_eq!(rt; copy.tenants().len(), 2);
+    assert_eq!(rt; place(&copy, "b")?.place(), 1);
+    assert!(rt; copy.find("c").is_none());
+    assert!(rt; TenantTable::new(Vec::new(alloc)).is_err());
+    Ok(())
+}
+
+// A directory of `a` and `b`, with a stream `s` of `a`.
+fn directory(alloc: Global) -> Result<Directory, Fail> {
+    let table = table(alloc, &["a", "b"])?;
+    let a = place(&table, "a")?;
+    let mut directory = Directory::new(alloc, &table)?;
+    directory.make_stream(alloc, a, "s", Some(&schema(alloc)?))??;
+    Ok(directory)
+}
+
+// The places of these two tenants, and of one that the directory lacks.
+fn places(alloc: Global) -> Result<(TenantId, TenantId, TenantId), Fail> {
+    let table = table(alloc, &["a", "b", "c"])?;
+    Ok((
+        place(&table, "a")?,
+        place(&table, "b")?,
+        place(&table, "c")?,
+    ))
+}
+
+// The number of a refusal, 0 where there is none, 70 without memory.
+fn number(told: Result<Result<(), StreamRefusal>, AllocError>) -> u64 {
+    match told {
+        Ok(Ok(())) => 0,
+        Ok(Err(refusal)) => refusal.number(),
+        Err(AllocError) => 70,
+    }
+}
+
+#[test]
+fn makes(rt: HostRuntime) -> Result<(), Fail> {
+    let alloc = rt.alloc();
+    let (a, b, stranger) = places(alloc)?;
+    let columns = schema(alloc)?;
+    let mut directory = directory(alloc)?;
+    assert_eq!(rt;
+        number(directory.make_stream(alloc, stranger, "1", None)),
+        31
+    );
+    assert_eq!(rt; number(directory.make_stream(alloc, a, "1", None)), 21);
+    assert_eq!(rt; number(directory.make_stream(alloc, a, "s", None)), 22);
+    assert_eq!(rt;
+        number(directory.make_stream(alloc, a, "s", Some(&columns))),
+        20
+    );
+    assert_eq!(rt;
+        number(directory.make_stream(alloc, a, "t", Some(&columns))),
+        23
+    );
+    assert_eq!(rt;
+        number(directory.make_stream(alloc, b, "s", Some(&columns))),
+        0
+    );
+    Ok(())
+}
+
+#[test]
+fn puts(rt: HostRuntime) -> Result<(), Fail> {
+    let alloc = rt.alloc();
+    let (a, b, stranger) = places(alloc)?;
+    let row = row(alloc, Value::Number(1))?;
+    let mut directory = directory(alloc)?;
+    assert_eq!(rt; number(Ok(directory.put(stranger, "s", 5, &row))), 31);
+    assert_eq!(rt; number(Ok(directory.put(b, "s", 5, &row))), 30);
+    assert_eq!(rt; number(Ok(directory.put(a, "s", 5, &row))), 0);
+    assert_eq!(rt; number(Ok(directory.put(a, "s", 4, &row))), 41);
+    assert_eq!(rt; number(Ok(directory.put(a, "s", u64::MAX, &row))), 42);
+    Ok(())
+}
+
+#[test]
+fn wrong_rows(rt: HostRuntime) -> Result<(), Fail> {
+    let alloc = rt.alloc();
+    let (a, _b, _stranger) = places(alloc)?;
+    let row = row(alloc, Value::Text(Text::new(alloc, "x")?))?;
+    let mut directory = directory(alloc)?;
+    assert_eq!(rt; number(Ok(directory.put(a, "s", u64::MAX, &row))), 40);
+    Ok(())
+}
+
+// The time from which a tenant reads the stream `s`.
+fn opened(directory: &Directory, tenant: TenantId, owner: Option<&str>) -> Option<u64> {
+    match directory.find(tenant, owner, "s") {
+        Some(found) => Some(found.opened),
+        None => None,
+    }
+}
+
+#[test]
+fn beats(rt: HostRuntime) -> Result<(), Fail> {
+    let alloc = rt.alloc();
+    let (a, b, stranger) = places(alloc)?;
+    let mut directory = directory(alloc)?;
+    assert_eq!(rt; number(Ok(directory.beat(stranger, "s", 5))), 31);
+    assert_eq!(rt; number(Ok(directory.beat(b, "s", 5))), 30);
+    assert_eq!(rt; number(Ok(directory.beat(a, "s", 5))), 0);
+    assert_eq!(rt; opened(&directory, a, None), Some(6));
+    Ok(())
+}
+
+#[test]
+fn grants(rt: HostRuntime) -> Result<(), Fail> {
+    let alloc = rt.alloc();
+    let (a, b, stranger) = places(alloc)?;
+    let mut directory = directory(alloc)?;
+    assert_eq!(rt; number(directory.grant(alloc, stranger, "t", "d")), 31);
+    assert_eq!(rt; number(directory.grant(alloc, b, "s", "d")), 30);
+    assert_eq!(rt; number(directory.grant(alloc, a, "s", "d")), 31);
+    assert_eq!(rt; number(directory.grant(alloc, a, "s", "a")), 33);
+    assert_eq!(rt; number(directory.grant(alloc, a, "s", "b")), 0);
+    assert_eq!(rt; number(directory.grant(alloc, a, "s", "b")), 32);
+    Ok(())
+}
+
+#[test]
+fn finds(rt: HostRuntime) -> Result<(), Fail> {
+    let alloc = rt.alloc();
+    let (a, b, stranger) = places(alloc)?;
+    let mut directory = directory(alloc)?;
+    assert_eq!(rt; opened(&directory, b, Some("a")), None);
+    directory.grant(alloc, a, "s", "b")??;
+    assert_eq!(rt; opened(&directory, b, Some("a")), Some(0));
+    assert_eq!(rt; opened(&directory, a, Some("a")), Some(0));
+    assert_eq!(rt; opened(&directory, b, None), None);
+    assert_eq!(rt; opened(&directory, stranger, None), None);
+    Ok(())
+}
+
+#[test]
+fn reads(rt: HostRuntime) -> Result<(), Fail> {
+    let alloc = rt.alloc();
+    let (a, b, stranger) = places(alloc)?;
+    let mut directory = directory(alloc)?;
+    directory.grant(alloc, a, "s", "b")??;
+    assert_eq!(rt; directory.readable(alloc, a)??.len(), 1);
+    assert_eq!(rt; directory.readable(alloc, b)??.len(), 1);
+    assert!(rt; directory.readable(alloc, stranger)?.is_err());
+    directory_law();
+    grant_law();
+    Ok(())
+}
+
+#[test]
+fn shelves(rt: HostRuntime) -> Result<(), Fail> {
+    let alloc = rt.alloc();
+    let mut shelf: Shelf<u64> = Shelf::new(alloc);
+    shelf.push(String::from_str(alloc, "x")?, 7)?;
+    assert_eq!(rt; shelf.len(), 1);
+    assert_eq!(rt; shelf.get("x").copied(), Some(7));
+    assert_eq!(rt; *shelf.entry(0).1, 7);
+    Ok(())
+}

@@ -11,7 +11,7 @@ help:
 	@echo 'make run     the replies to $(FIRST), from a run that is checked and not proved (a minute)'
 	@echo 'make build   proves and builds $(RUNNER) ($(BUILD_TIME))'
 	@echo 'make test    the gate, and then the built program as users run it (half an hour)'
-	@echo 'make bench   builds the program, and times puts and query texts'
+	@echo 'make bench   builds the programs, and times puts, query texts and fetches'
 
 # runs the first script with no proof
 run:
@@ -28,7 +28,8 @@ build:
 test:
 	.ci/run
 
-# times puts, and texts of two lengths, through the built cqlrun
+# times puts, texts of two lengths, and fetches over many rows, through the built cqlrun
 bench: build
 	bench/puts $(RUNNER)
 	bench/texts $(RUNNER)
+	bench/fetches $(RUNNER)

@@ -6,14 +6,17 @@ use Rattle.cql_value.specs.Element.{Element}
 use Rattle.cql_window.specs.declared.window.Window.{Window}
 use Rattle.cql_window.specs.declared.window.Window.TheVariants.{Range, Rows, All as all, Parts}
 use Rattle.cql_window.specs.Window.{end_of, count_before, kept, content}
-use Rattle.cql_core.specs.declared.plan.Plan.{Plan}
+use Rattle.cql_plan.specs.declared.plan.Input.{Input}
+use Rattle.cql_plan.specs.declared.plan.Planned.{Planned}
 use Rattle.cql_bag.specs.Bag.{bag_of}
 use Rattle.cql_out.specs.declared.relation.Relation.TheVariants.{Bag}
 use Rattle.cql_out.specs.declared.told.Output.{Output}
 use Rattle.cql_out.specs.ByKind.{output_of}
 use Rattle.cql_out.specs.Blocks.{extended, blocks_of_many, blocks_of, IsLocalLaw}
-use Rattle.cql_core.specs.Relation.{PinSeen, relation_at, output_at}
+use Rattle.cql_eval.specs.Pin.{PinSeen}
+use Rattle.cql_eval.specs.Relation.{shown_at, relation_at, output_at}
 use Rattle.cql_core.specs.Machine.{rows_before}
+use Rattle.cql_core.specs.Pins.{windows_over}
 use Rattle.cql_window.proofs.Ends.{floor_le, before_mono}
 
 one_add : (n : ℕ) → 1 + n ≡ suc n
@@ -70,13 +73,17 @@ content_cut (Rows count slide) c n xs le =
 content_cut all c n xs le = cut c n xs le
 content_cut (Parts columns count) c n xs le = ap (λ l. kept (Parts columns count) c l) (cut c n xs le)
 
-abbrev pub seen_by : Plan → ℕ → ℕ → ℕ → List Element → PinSeen
-seen_by plan base from next rows = record { plan = plan; base = base; from = from; next = next; rows = rows }
+abbrev pub seen_by : Planned → ℕ → ℕ → ℕ → ℕ → List Element → PinSeen
+seen_by plan base from next limit rows = record { plan = plan; base = base; from = from; next = next; limit = limit; windows = windows_over plan.inputs rows }
 
-same_relation : (plan : Plan) (base from next c : ℕ) (rows : List Element) → c ≤ next → relation_at (seen_by plan base from next (rows_before next rows)) c ≡ relation_at (seen_by plan base from next rows) c
+shown_cut : (inputs : List Input) (c n : ℕ) (rows : List Element) → c ≤ n → shown_at c (windows_over inputs (rows_before n rows)) ≡ shown_at c (windows_over inputs rows)
+shown_cut [] c n rows le = refl
+shown_cut (i ∷ is) c n rows le = ap (map (λ x. x.row)) (content_cut i.window c n rows le)
+
+same_relation : (plan : Planned) (base from next limit c : ℕ) (rows : List Element) → c ≤ next → relation_at (seen_by plan base from next limit (rows_before next rows)) c ≡ relation_at (seen_by plan base from next limit rows) c
 unfolding relation_at
-same_relation plan base from next c rows le =
-    ap (λ l. cond (nat_lt base c) (bag_of (map (λ x. x.row) l)) []) (content_cut plan.window c next rows le)
+same_relation plan base from next limit c rows le =
+    ap (λ l. cond (nat_lt base c) (bag_of l) []) (shown_cut plan.inputs c next rows le)
 
 same_many : (O P : ℕ → Output) (c n : ℕ) → ((t : ℕ) → c ≤ t → t < c + n → O t ≡ P t) → blocks_of_many O c n ≡ blocks_of_many P c n
 unfolding blocks_of_many
@@ -90,8 +97,8 @@ unfolding blocks_of
 local_law O P c l same = same_many O P c (l - c) (λ t ge lt. same t ge (omega arith))
 
 -- the rows before the end of a fetch tell what all rows tell
-pub same_blocks : (plan : Plan) (base from next : ℕ) (rows : List Element)
-    → blocks_of (output_at (seen_by plan base from next (rows_before next rows))) from next ≡ blocks_of (output_at (seen_by plan base from next rows)) from next
-same_blocks plan base from next rows =
-    local_law (output_at (seen_by plan base from next (rows_before next rows))) (output_at (seen_by plan base from next rows)) from next
-    (λ t ge lt i. output_of plan.kind (Bag (same_relation plan base from next t rows (omega arith) i)) (Bag (same_relation plan base from next (t + 1) rows (omega arith) i)))
+pub same_blocks : (plan : Planned) (base from next limit : ℕ) (rows : List Element)
+    → blocks_of (output_at (seen_by plan base from next limit (rows_before next rows))) from next ≡ blocks_of (output_at (seen_by plan base from next limit rows)) from next
+same_blocks plan base from next limit rows =
+    local_law (output_at (seen_by plan base from next limit (rows_before next rows))) (output_at (seen_by plan base from next limit rows)) from next
+    (λ t ge lt i. output_of plan.output (Bag (same_relation plan base from next limit t rows (omega arith) i)) (Bag (same_relation plan base from next limit (t + 1) rows (omega arith) i)))

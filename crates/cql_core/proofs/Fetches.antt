@@ -7,10 +7,10 @@ use Rattle.cql_value.specs.declared.value.Value.{Value}
 use Rattle.cql_core.specs.declared.command.Command.{Command}
 use Rattle.cql_core.specs.declared.command.Command.TheVariants.{Stream, Put, Beat, Query, Fetch}
 use Rattle.cql_out.specs.declared.told.Block.{Block}
-use Rattle.cql_core.specs.declared.plan.Plan.{Plan}
+use Rattle.cql_core.specs.declared.planned.Served.{Served}
 use Rattle.cql_core.specs.declared.refusal.Refusal.{Refusal}
 use Rattle.cql_core.specs.declared.refusal.Refusal.TheVariants.{UnknownTenant}
-use Rattle.cql_core.specs.declared.tenants.Quotas.{Quotas}
+use Rattle.cql_tenants.specs.declared.tenants.Quotas.{Quotas}
 use Rattle.cql_core.specs.Checks.{Clocked, schema_of, time_told, put_told, beat_told, stream_told, base_told, plan_told, query_told}
 use Rattle.cql_core.specs.Planned.{reading, plan_of}
 use Rattle.cql_core.specs.Law.{IsFetchLaw}
@@ -47,11 +47,11 @@ base_short : (opened : Option ℕ) → are_blocks (base_told opened) ≡ false
 base_short None = refl
 base_short (Some opened) = refl
 
-plan_short : (planned : Result Plan Refusal) (opened : Option ℕ) → are_blocks (plan_told planned opened) ≡ false
+plan_short : (planned : Result Served Refusal) (opened : Option ℕ) → are_blocks (plan_told planned opened) ≡ false
 plan_short (Err refusal) opened = refl
-plan_short (Ok plan) opened = base_short opened
+plan_short (Ok served) opened = base_short opened
 
-query_short : (quotas : Quotas) (many : ℕ) (exists : Bool) (name : List ℕ) (read : Result (Result Plan Refusal) ℕ) (opened : Option ℕ) → are_blocks (query_told quotas many exists name read opened) ≡ false
+query_short : (quotas : Quotas) (many : ℕ) (exists : Bool) (name : List ℕ) (read : Result (Result Served Refusal) ℕ) (opened : Option ℕ) → are_blocks (query_told quotas many exists name read opened) ≡ false
 query_short quotas many exists name (Err at) opened = search (rules, either_short)
 query_short quotas many exists name (Ok planned) opened = search (rules, either_short, plan_short)
 

@@ -9,12 +9,13 @@ use Rattle.cql_value.specs.declared.schema.Column.{Column}
 use Rattle.cql_core.specs.declared.command.ColumnText.{ColumnText}
 use Rattle.cql_core.specs.declared.command.Command.{Command}
 use Rattle.cql_core.specs.declared.command.Command.TheVariants.{Stream, Put, Beat, Query, Fetch}
-use Rattle.cql_core.specs.declared.plan.Plan.{Plan}
+use Rattle.cql_core.specs.declared.planned.Served.{Served}
 use Rattle.cql_core.specs.declared.refusal.Refusal.TheVariants.{Behind}
 use Rattle.cql_core.specs.declared.state.StreamState.{StreamState}
 use Rattle.cql_out.specs.Blocks.{blocks_of}
-use Rattle.cql_core.specs.Relation.{output_at}
-use Rattle.cql_core.specs.Planned.{reading, plan_of}
+use Rattle.cql_eval.specs.Relation.{output_at}
+use Rattle.cql_core.specs.Planned.{stream_of, reading, plan_of}
+use Rattle.cql_core.specs.Pins.{windows_over}
 use Rattle.cql_core.specs.Told.{Blocks, Refused, is_accepted, Says, Pinned, reads}
 use Rattle.cql_core.specs.Checks.{Clocked, schema_of, stream_told, put_told, beat_told, query_told, next_of, is_behind}
 use Rattle.cql_core.specs.Named.{Named, same_name, find_named, set_named, each_named}
@@ -26,7 +27,7 @@ use Rattle.cql_core.proofs.Cuts.{same_blocks}
 
 -- a query as its tenant knows it
 abbrev pub asked_of : Home → QueryState → Asked
-asked_of home q = record { plan = q.plan; base = q.base; cursor = q.cursor; rows = input_rows home q }
+asked_of home q = record { plan = q.plan; text = q.text; base = q.base; cursor = q.cursor; rows = input_rows home q }
 
 -- all that the tenant of a home knows
 abbrev pub known_at : Home → List (Named QueryState) → Known
@@ -35,7 +36,7 @@ known_at home queries = record { name = home.name; quotas = Some home.quotas; st
 -- the queries skip elements that are there
 abbrev pub AllFit : Home → List (Named QueryState) → Type 0
 AllFit home [] = Unit {0}
-AllFit home (q ∷ qs) = (q.item.skipped ≤ length (elements_of home q.item.plan.stream)) × AllFit home qs
+AllFit home (q ∷ qs) = (q.item.skipped ≤ length (elements_of home (stream_of q.item.plan))) × AllFit home qs
 
 -- the tenant of the home knows this
 pub record Knows (home : Home) (queries : List (Named QueryState)) (k : Known) : Type 0 where
@@ -52,14 +53,14 @@ opened_known home queries n = same_opened (find_named home.streams n) ∙ ap (op
 -- the replies
 module _ (home : Home) (queries : List (Named QueryState)) where
   fetch_over : (q : QueryState) (next : ℕ) (b : Bool) → reads (if b then Says (Refused Behind) else Pinned (pin_of home q next))
-      ≡ (if b then Refused Behind else Blocks (blocks_of (output_at (record { plan = q.plan; base = q.base; from = q.cursor; next = next; rows = input_rows home q })) q.cursor next) next)
+      ≡ (if b then Refused Behind else Blocks (blocks_of (output_at (record { plan = q.plan; base = q.base; from = q.cursor; next = next; limit = home.quotas.result; windows = windows_over q.plan.inputs (input_rows home q) })) q.cursor next) next)
   fetch_over q next true = refl
-  fetch_over q next false = ap (λ bs. Blocks bs next) (same_blocks q.plan q.base q.cursor next (input_rows home q))
+  fetch_over q next false = ap (λ bs. Blocks bs next) (same_blocks q.plan q.base q.cursor next home.quotas.result (input_rows home q))
 
-  fetch_by : (until : Option ℕ) (o : Option QueryState) → reads (fetch_step home o until) ≡ fetched_meant (known_at home queries) (option_map (asked_of home) o) until
+  fetch_by : (until : Option ℕ) (o : Option QueryState) → reads (fetch_step home o until) ≡ fetched_meant home.quotas (known_at home queries) (option_map (asked_of home) o) until
   fetch_by until None = refl
   fetch_by until (Some q) =
-      (λ i. reads (if is_behind q.cursor until then Says (Refused Behind) else Pinned (pin_of home q (next_of (unwrap_or (opened_known home queries q.plan.stream i) 0) until))))
+      (λ i. reads (if is_behind q.cursor until then Says (Refused Behind) else Pinned (pin_of home q (next_of (unwrap_or (opened_known home queries (stream_of q.plan) i) 0) until))))
       ∙ fetch_over q (next_of (limit_in (known_at home queries) (asked_of home q)) until) (is_behind q.cursor until)
 
   pub same_told : (c : Command) → reads (step_at home queries c) ≡ own_meant home.quotas (known_at home queries) c
@@ -69,9 +70,9 @@ module _ (home : Home) (queries : List (Named QueryState)) where
   same_told (Beat stream at) = λ i. beat_told (sym (find_each clock_of home.streams stream) i) at
   same_told (Query name text) =
       λ i. query_told home.quotas (sym (length_each (asked_of home) queries) i) (sym (some_each (asked_of home) queries name) i) name (reading (readable_at home) text)
-      (option_and_then (λ p. opened_known home queries p.stream i) (plan_of (readable_at home) text))
+      (option_and_then (λ s. opened_known home queries (stream_of s.plan) i) (plan_of (readable_at home) text))
   same_told (Fetch name until) =
-      fetch_by until (find_named queries name) ∙ ap (λ o. fetched_meant (known_at home queries) o until) (sym (find_each (asked_of home) queries name))
+      fetch_by until (find_named queries name) ∙ ap (λ o. fetched_meant home.quotas (known_at home queries) o until) (sym (find_each (asked_of home) queries name))
 
 -- both sides ask the same
 choose_home : (b c : Bool) → b ≡ c → (h h' : Home) (q : List (Named QueryState)) (k k' : Known)
@@ -97,25 +98,25 @@ module _ (home home' : Home) (same : (m : List ℕ) → elements_of home' m ≡ 
   stay_asked : (qs : List (Named QueryState)) → each (asked_of home') qs ≡ each (asked_of home) qs
   stay_asked [] = refl
   stay_asked (q ∷ qs) =
-      λ i. record { name = q.name; item = record { plan = q.item.plan; base = q.item.base; cursor = q.item.cursor; rows = drop q.item.skipped (same q.item.plan.stream i) } } ∷ stay_asked qs i
+      λ i. record { name = q.name; item = record { plan = q.item.plan; text = q.item.text; base = q.item.base; cursor = q.item.cursor; rows = drop q.item.skipped (same (stream_of q.item.plan) i) } } ∷ stay_asked qs i
 
   stay_fit : (qs : List (Named QueryState)) → AllFit home qs → AllFit home' qs
   stay_fit [] fits = tt
-  stay_fit (q ∷ qs) fits = (subst (λ (xs : List Element). q.item.skipped ≤ length xs) (sym (same q.item.plan.stream)) fits.0, stay_fit qs fits.1)
+  stay_fit (q ∷ qs) fits = (subst (λ (xs : List Element). q.item.skipped ≤ length xs) (sym (same (stream_of q.item.plan))) fits.0, stay_fit qs fits.1)
 
 -- an element more on one stream
 module _ (home home' : Home) (n : List ℕ) (x : Element)
     (grown : (m : List ℕ) → elements_of home' m ≡ (if same_name m n then elements_of home m ++ x ∷ [] else elements_of home m)) where
   grow_by : (q : QueryState) (xs ys : List Element) (b : Bool) → q.skipped ≤ length xs → ys ≡ (if b then xs ++ x ∷ [] else xs)
-      → ◌≡◌ {A = Asked} (record { plan = q.plan; base = q.base; cursor = q.cursor; rows = drop q.skipped ys })
-      (if b then record { plan = q.plan; base = q.base; cursor = q.cursor; rows = drop q.skipped xs ++ x ∷ [] } else record { plan = q.plan; base = q.base; cursor = q.cursor; rows = drop q.skipped xs })
-  grow_by q xs ys true fit is = λ i. record { plan = q.plan; base = q.base; cursor = q.cursor; rows = (ap (drop q.skipped) is ∙ drop-append-le q.skipped xs (x ∷ []) fit) i }
-  grow_by q xs ys false fit is = λ i. record { plan = q.plan; base = q.base; cursor = q.cursor; rows = drop q.skipped (is i) }
+      → ◌≡◌ {A = Asked} (record { plan = q.plan; text = q.text; base = q.base; cursor = q.cursor; rows = drop q.skipped ys })
+      (if b then record { plan = q.plan; text = q.text; base = q.base; cursor = q.cursor; rows = drop q.skipped xs ++ x ∷ [] } else record { plan = q.plan; text = q.text; base = q.base; cursor = q.cursor; rows = drop q.skipped xs })
+  grow_by q xs ys true fit is = λ i. record { plan = q.plan; text = q.text; base = q.base; cursor = q.cursor; rows = (ap (drop q.skipped) is ∙ drop-append-le q.skipped xs (x ∷ []) fit) i }
+  grow_by q xs ys false fit is = λ i. record { plan = q.plan; text = q.text; base = q.base; cursor = q.cursor; rows = drop q.skipped (is i) }
 
   grow_asked : (qs : List (Named QueryState)) → AllFit home qs → each (asked_of home') qs ≡ each_named (joined_rows n x) (each (asked_of home) qs)
   grow_asked [] fits = refl
   grow_asked (q ∷ qs) fits =
-      λ i. record { name = q.name; item = grow_by q.item (elements_of home q.item.plan.stream) (elements_of home' q.item.plan.stream) (same_name q.item.plan.stream n) fits.0 (grown q.item.plan.stream) i }
+      λ i. record { name = q.name; item = grow_by q.item (elements_of home (stream_of q.item.plan)) (elements_of home' (stream_of q.item.plan)) (same_name (stream_of q.item.plan) n) fits.0 (grown (stream_of q.item.plan)) i }
       ∷ grow_asked qs fits.1 i
 
   longer : (s : ℕ) (xs ys : List Element) (b : Bool) → s ≤ length xs → ys ≡ (if b then xs ++ x ∷ [] else xs) → s ≤ length ys
@@ -124,9 +125,9 @@ module _ (home home' : Home) (n : List ℕ) (x : Element)
 
   grow_fit : (qs : List (Named QueryState)) → AllFit home qs → AllFit home' qs
   grow_fit [] fits = tt
-  grow_fit (q ∷ qs) fits = (longer q.item.skipped (elements_of home q.item.plan.stream) _ (same_name q.item.plan.stream n) fits.0 (grown q.item.plan.stream), grow_fit qs fits.1)
+  grow_fit (q ∷ qs) fits = (longer q.item.skipped (elements_of home (stream_of q.item.plan)) _ (same_name (stream_of q.item.plan) n) fits.0 (grown (stream_of q.item.plan)), grow_fit qs fits.1)
 
-push_fit : (home : Home) (q : Named QueryState) → q.item.skipped ≤ length (elements_of home q.item.plan.stream) → (qs : List (Named QueryState)) → AllFit home qs → AllFit home (qs ++ q ∷ [])
+push_fit : (home : Home) (q : Named QueryState) → q.item.skipped ≤ length (elements_of home (stream_of q.item.plan)) → (qs : List (Named QueryState)) → AllFit home qs → AllFit home (qs ++ q ∷ [])
 push_fit home q fit [] fits = (fit, fits)
 push_fit home q fit (x ∷ qs) fits = (fits.0, push_fit home q fit qs fits.1)
 
@@ -224,24 +225,25 @@ module _ (home : Home) (qs : List (Named QueryState)) (fits : AllFit home qs) wh
       }
 
   -- a query is registered
-  new_known : (plan : Plan) → asked_of home (new_query home plan) ≡ new_asked (known_at home qs) plan
-  new_known plan = λ i. record {
-    plan = plan;
-    base = unwrap_or (opened_known home qs plan.stream i) 0;
-    cursor = unwrap_or (opened_known home qs plan.stream i) 0;
-    rows = drop-length (elements_of home plan.stream) i;
+  new_known : (served : Served) → asked_of home (new_query home served) ≡ new_asked (known_at home qs) served
+  new_known served = λ i. record {
+    plan = served.plan;
+    text = served.text;
+    base = unwrap_or (opened_known home qs (stream_of served.plan) i) 0;
+    cursor = unwrap_or (opened_known home qs (stream_of served.plan) i) 0;
+    rows = drop-length (elements_of home (stream_of served.plan)) i;
   }
 
-  own_query : (name : List ℕ) (p : Option Plan) → Knows home (with_query home name p qs) (record (known_at home qs) { queries = with_asked (known_at home qs) name p })
+  own_query : (name : List ℕ) (p : Option Served) → Knows home (with_query home name p qs) (record (known_at home qs) { queries = with_asked (known_at home qs) name p })
   own_query name None = record { known = refl; fits = fits }
-  own_query name (Some plan) =
-      let new : Named QueryState = record { name = name; item = new_query home plan } in
+  own_query name (Some served) =
+      let new : Named QueryState = record { name = name; item = new_query home served } in
       record {
         known = λ i. record {
           name = home.name;
           quotas = Some home.quotas;
           streams = each clock_of home.streams;
-          queries = (each_push (asked_of home) qs new ∙ ap (λ a. each (asked_of home) qs ++ record { name = name; item = a } ∷ []) (new_known plan)) i;
+          queries = (each_push (asked_of home) qs new ∙ ap (λ a. each (asked_of home) qs ++ record { name = name; item = a } ∷ []) (new_known served)) i;
         };
         fits = push_fit home new (omega arith) qs fits;
       }

@@ -4,8 +4,8 @@ use Rattle.std.specs.Prelude.{Option, Some, None, if◌then◌else◌, nat_lt}
 use Rattle.std.proofs.lemmas.Bool.Decides.{nat_tests}
 use Rattle.cql_core.specs.declared.command.Command.{Command}
 use Rattle.cql_core.specs.declared.refusal.Refusal.TheVariants.{UnknownTenant}
-use Rattle.cql_core.specs.declared.tenants.Quotas.{Quotas}
-use Rattle.cql_core.specs.declared.tenants.Tenant.{Tenant}
+use Rattle.cql_tenants.specs.declared.tenants.Quotas.{Quotas}
+use Rattle.cql_tenants.specs.declared.tenants.Tenant.{Tenant}
 use Rattle.cql_core.specs.Told.{Refused, Says, reads}
 use Rattle.cql_core.specs.State.{Named, Home, QueryState, State, no_home, nothing_made, no_queries, opening, is_place, home_at, queries_at}
 use Rattle.cql_core.specs.Machine.{home_after, directory_after, queries_after, step_at, reply_to, state_after}

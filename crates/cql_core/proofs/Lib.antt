@@ -1,6 +1,7 @@
 mod Alone
 mod Columns
 mod Cuts
+mod Elements
 mod Fetches
 mod Finds
 mod Histories
@@ -8,12 +9,12 @@ mod Known
 mod Laws
 mod Looks
 mod Order
+mod Pinning
 mod Places
+mod Plans
 mod Queries
-mod Quiet
 mod Registers
 mod Replies
 mod Schemas
 mod Serving
 mod Sound
-mod Stretches

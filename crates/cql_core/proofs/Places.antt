@@ -4,6 +4,7 @@ use Rattle.std.specs.Prelude.{Result, Ok, Err, IfOk, OnOk, OnErr, IsOk, MatchRes
 use Rattle.std.proofs.Common.{inl, inr}
 use Rattle.std.proofs.lemmas.Bool.Decides.{nat_tests}
 use Rattle.std.proofs.lemmas.List.{get_or_default, set-get_or}
+use Rattle.cql_plan.specs.Ports.{IsPortsLaw, IsPlainLaw}
 use Rattle.cql_core.specs.declared.command.Command.{Command}
 use Rattle.cql_core.specs.declared.refusal.Refusal.TheVariants.{UnknownTenant}
 use Rattle.cql_core.specs.Told.{Says, Refused, no_memory}
@@ -25,7 +26,7 @@ there xs i x d within is = is ∙ get_or_default xs i x d within
 pub sound_at : (homes : List Home) (queries : List (List (Named QueryState))) (place : ℕ) (home : Home) (asked : List (Named QueryState))
     → IsSound (state_with homes queries) → home ≡ home_at homes place → asked ≡ queries_at queries place → IsHomeSound home asked
 sound_at homes queries place home asked sound is are =
-    let here : IsHomeSound (home_at homes place) (queries_at queries place) = record { bounded = λ name. sound.bounded place name; followed = λ name q found. sound.followed place name q found } in
+    let here : IsHomeSound (home_at homes place) (queries_at queries place) = record { bounded = λ name. sound.bounded place name; streams = sound.streams place; followed = λ name q found. sound.followed place name q found } in
     let P : Home → Type 0 = λ h. IsHomeSound h asked in
     let Q : List (Named QueryState) → Type 0 = λ a. IsHomeSound (home_at homes place) a in
     subst P (sym is) (subst Q (sym are) here)
@@ -71,11 +72,11 @@ pub record Stepping {E : Type 0} (homes : List Home) (queries : List (List (Name
   pub asked_same : OnErr r (asked' ≡ asked)
 
 -- the state after it is sound
-pub sound_then : {E : Type 0} (homes : List Home) (queries : List (List (Named QueryState))) (place : ℕ) (home home' : Home) (asked asked' : List (Named QueryState)) (command : Command) (r : Result Step E)
+pub sound_then : {E : Type 0} → IsPortsLaw → IsPlainLaw → (homes : List Home) (queries : List (List (Named QueryState))) (place : ℕ) (home home' : Home) (asked asked' : List (Named QueryState)) (command : Command) (r : Result Step E)
     → Stepping homes queries place home home' asked asked' command r → IsSound (state_with homes queries) → IsSound (state_with (set homes place home') (set queries place asked'))
-sound_then homes queries place home home' asked asked' command (Ok step) s sound =
-    subst IsSound (sym (after_there homes queries place home home' asked asked' command s.within s.home_is s.asked_is s.home_after s.asked_after)) (sound_after (state_with homes queries) place command sound)
-sound_then homes queries place home home' asked asked' command (Err e) s sound =
+sound_then ports_law plain_law homes queries place home home' asked asked' command (Ok step) s sound =
+    subst IsSound (sym (after_there homes queries place home home' asked asked' command s.within s.home_is s.asked_is s.home_after s.asked_after)) (sound_after ports_law plain_law (state_with homes queries) place command sound)
+sound_then ports_law plain_law homes queries place home home' asked asked' command (Err e) s sound =
     subst IsSound (sym (same_there homes queries place home home' asked asked' s.home_is s.asked_is s.home_same s.asked_same)) sound
 
 -- it is the machine's, or there was no memory

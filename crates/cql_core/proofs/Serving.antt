@@ -4,25 +4,26 @@ use Rattle.std.specs.Prelude.{is_some, Option, Some, None, Result, Ok, Err, if�
 use Rattle.std.proofs.lemmas.List.{set-get_or, reverse-append}
 use Rattle.cql_core.specs.declared.command.Command.{Command}
 use Rattle.cql_core.specs.declared.command.Command.TheVariants.{Stream, Put, Beat, Query, Fetch}
-use Rattle.cql_core.specs.declared.refusal.Refusal.TheVariants.{UnknownTenant}
+use Rattle.cql_core.specs.declared.refusal.Refusal.TheVariants.{UnknownTenant, NotYet}
 use Rattle.cql_core.specs.declared.reply.Reply.{Reply}
 use Rattle.cql_core.specs.declared.reply.Step.{Step}
 use Rattle.cql_core.specs.declared.reply.Step.TheVariants.{Done as says, Pinned as pinned}
 use Rattle.cql_value.specs.declared.value.Value.{Value}
 use Rattle.cql_value.specs.declared.schema.Column.{Column}
-use Rattle.cql_core.specs.declared.plan.Plan.{Plan}
-use Rattle.cql_core.specs.declared.tenants.Quotas.{Quotas}
+use Rattle.cql_core.specs.declared.planned.Served.{Served as Kept}
+use Rattle.cql_tenants.specs.declared.tenants.Quotas.{Quotas}
 use Rattle.cql_plan.specs.declared.error.PlanFault.{PlanFault}
 use Rattle.cql_plan.specs.declared.error.PlanFault.TheVariants as fault
 use Rattle.cql_plan.specs.declared.plan.Planned.{Planned}
 use Rattle.cql_plan.specs.Sources.{Readable}
 use Rattle.cql_plan.specs.Typing.{typing}
 use Rattle.cql_syntax.specs.declared.syntax.Query.{Query as Written}
+use Rattle.cql_syntax.specs.Spelling.{canonical}
 use Rattle.cql_text.specs.Read.{read_of}
-use Rattle.cql_core.specs.Planned.{refusal_of, served_plan, or_not_yet, or_refusal, typed_as, planned, planned_from, plan_of}
+use Rattle.cql_core.specs.Planned.{is_plain, refusal_of, or_refusal, typed_as, planned, planned_from, plan_of}
 use Rattle.cql_core.specs.Checks.{schema_of, Clocked, time_told, put_told, beat_told, stream_told, base_told, plan_told, query_told}
 use Rattle.cql_core.specs.Told.{Told, Refused, Stepped, Says, Pinned, reads, no_memory}
-use Rattle.cql_core.specs.Relation.{PinSeen}
+use Rattle.cql_eval.specs.Pin.{PinSeen}
 use Rattle.cql_core.specs.State.{Named, Home, QueryState, State, find_named, clocked, readable_at, is_place, home_at, queries_at}
 use Rattle.cql_core.specs.Machine.{input_opened, step_at, step_of, fetch_step, reply_to, state_after, home_after, queries_after}
 use Rattle.cql_core.specs.Steps.{told_of, stepped_of, IsPinned, Steps}
@@ -112,9 +113,9 @@ base_has : (opened : Option ℕ) → is_no_memory (base_told opened) ≡ false
 base_has None = refl
 base_has (Some opened) = refl
 
-plan_has : (plan : Option Plan) (opened : Option ℕ) → is_no_memory (plan_told (or_not_yet plan) opened) ≡ false
-plan_has None opened = refl
-plan_has (Some plan) opened = base_has opened
+plan_has : (kept : Kept) (b : Bool) (opened : Option ℕ) → is_no_memory (plan_told (if b then Ok kept else Err NotYet) opened) ≡ false
+plan_has kept true opened = base_has opened
+plan_has kept false opened = refl
 
 error_has : (error : PlanFault) (opened : Option ℕ) → is_no_memory (plan_told (Err (refusal_of error)) opened) ≡ false
 error_has fault.UnknownStream opened = refl
@@ -124,7 +125,7 @@ error_has fault.TypeMismatch opened = refl
 
 typed_has : (q : Written) (r : Result Planned PlanFault) (opened : Option ℕ) → is_no_memory (plan_told (typed_as q (or_refusal r)) opened) ≡ false
 typed_has q (Err error) opened = error_has error opened
-typed_has q (Ok typed) opened = plan_has (served_plan typed q) opened
+typed_has q (Ok plan) opened = plan_has (record { plan = plan; text = canonical q }) (is_plain q) opened
 
 planned_has : (readable : Readable) (q : Written) (opened : Option ℕ) → is_no_memory (plan_told (planned readable q) opened) ≡ false
 unfolding planned

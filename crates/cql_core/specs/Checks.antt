@@ -5,8 +5,8 @@ use Rattle.cql_value.specs.declared.schema.Column.{Column}
 use Rattle.cql_value.specs.Name.{is_name}
 use Rattle.cql_value.specs.Schema.{type_named, is_schema, is_row_of}
 use Rattle.cql_core.specs.declared.command.ColumnText.{ColumnText}
-use Rattle.cql_core.specs.declared.plan.Plan.{Plan}
-use Rattle.cql_core.specs.declared.tenants.Quotas.{Quotas}
+use Rattle.cql_core.specs.declared.planned.Served.{Served}
+use Rattle.cql_tenants.specs.declared.tenants.Quotas.{Quotas}
 use Rattle.cql_core.specs.declared.refusal.Refusal.{Refusal}
 use Rattle.cql_core.specs.declared.refusal.Refusal.TheVariants.{StreamExists, BadName, BadColumns, TooManyStreams, UnknownStream, WrongRow, Late, AtTooLarge, BadQuery, TooManyQueries, QueryExists}
 use Rattle.cql_core.specs.Told.{Told, Done, Based, Refused}
@@ -55,13 +55,13 @@ abbrev pub base_told : Option ℕ → Told
 base_told None = Refused UnknownStream
 base_told (Some opened) = Based opened
 
--- a query that has a plan is told its base
-abbrev pub plan_told : Result Plan Refusal → Option ℕ → Told
+-- a query that is served is told its base
+abbrev pub plan_told : Result Served Refusal → Option ℕ → Told
 plan_told (Err refusal) opened = Refused refusal
-plan_told (Ok plan) opened = base_told opened
+plan_told (Ok served) opened = base_told opened
 
--- A query is registered, where there are so many and maybe one of the name. Its text is refused at a byte, or has a plan or a refusal; with the least time that the plan's input still takes.
-abbrev pub query_told : Quotas → ℕ → Bool → List ℕ → Result (Result Plan Refusal) ℕ → Option ℕ → Told
+-- A query is registered, where there are so many and maybe one of the name. Its text is refused at a byte, or is served or refused; with the least time that the plan's input still takes.
+abbrev pub query_told : Quotas → ℕ → Bool → List ℕ → Result (Result Served Refusal) ℕ → Option ℕ → Told
 query_told quotas many exists name (Err at) opened = if is_name name then Refused (BadQuery at) else Refused BadName
 query_told quotas many exists name (Ok planned) opened =
     if is_name name then (if exists then Refused QueryExists else (if nat_lt many quotas.queries then plan_told planned opened else Refused TooManyQueries)) else Refused BadName

@@ -2,7 +2,7 @@
 use Rattle.std.specs.Prelude.{◌≡◌, ℕ, Bool, false, ◌==◌, List, [], ◌∷◌, ◌++◌, if◌then◌else◌}
 use Rattle.cql_core.specs.declared.command.Command.{Command}
 use Rattle.cql_core.specs.Refusal.{number_of}
-use Rattle.cql_core.specs.declared.tenants.Tenant.{Tenant}
+use Rattle.cql_tenants.specs.declared.tenants.Tenant.{Tenant}
 use Rattle.cql_core.specs.Told.{Told, Done, Based, Blocks, Refused}
 use Rattle.cql_core.specs.State.{State, opening, nothing_made}
 use Rattle.cql_core.specs.Machine.{reply_to, state_after}

@@ -1,16 +1,18 @@
 -- The laws of the core.
-use Rattle.std.specs.Prelude.{◌≡◌, ℕ, ◌+◌, ◌-◌, ◌≤◌, Bool, true, false, ◌==◌, ◌&&◌, ◌||◌, List, [], ◌∷◌, ◌++◌, map, nat_le, Some, unwrap_or, if◌then◌else◌}
-use Rattle.std.specs.List.{filter}
+use Rattle.std.specs.Prelude.{◌≡◌, ℕ, ◌+◌, ◌≤◌, Bool, true, false, ◌==◌, ◌&&◌, ◌||◌, List, [], ◌∷◌, ◌++◌, map, Some, unwrap_or, if◌then◌else◌}
 use Rattle.cql_value.specs.Element.{Element}
-use Rattle.cql_window.specs.declared.window.Window.TheVariants.{Range}
+use Rattle.cql_window.specs.declared.window.Window.{Window}
+use Rattle.cql_window.specs.Laws.{IsHeldAt}
 use Rattle.cql_core.specs.declared.command.Command.{Command}
 use Rattle.cql_core.specs.declared.command.Command.TheVariants.{Stream, Put, Beat, Query, Fetch}
 use Rattle.cql_out.specs.declared.told.Block.{Block}
-use Rattle.cql_core.specs.declared.plan.Plan.{Plan}
-use Rattle.cql_core.specs.declared.tenants.Tenant.{Tenant}
-use Rattle.cql_bag.specs.Bag.{bag_of}
-use Rattle.cql_core.specs.Planned.{plan_of}
-use Rattle.cql_core.specs.Relation.{relation_at}
+use Rattle.cql_plan.specs.declared.plan.Input.{Input}
+use Rattle.cql_core.specs.declared.planned.Served.{Served}
+use Rattle.cql_tenants.specs.declared.tenants.Tenant.{Tenant}
+use Rattle.cql_bag.specs.Bag.{Counts, bag_of}
+use Rattle.cql_eval.specs.Relation.{relation_at}
+use Rattle.cql_core.specs.Planned.{stream_of, plan_of}
+use Rattle.cql_core.specs.Pins.{windows_over}
 use Rattle.cql_core.specs.Told.{Told, Blocks, is_accepted}
 use Rattle.cql_core.specs.State.{State, same_name, find_named, nothing_made, opening}
 use Rattle.cql_core.specs.Machine.{reply_to, state_after}
@@ -63,25 +65,31 @@ elements_accepted k stream (e ∷ es) = element_of k stream e ++ elements_accept
 
 -- a registered query's base is the least time that its input took at its registration, and its rows are the elements accepted on its input after it
 abbrev pub IsQueryLaw : Type 0
-IsQueryLaw = (table : List Tenant) (tenant : ℕ) (before after : List Seen) (name text : List ℕ) (plan : Plan)
-    → plan_of (readable_in (known_from (nothing_known table tenant) before)) text ≡ Some plan
+IsQueryLaw = (table : List Tenant) (tenant : ℕ) (before after : List Seen) (name text : List ℕ) (served : Served)
+    → plan_of (readable_in (known_from (nothing_known table tenant) before)) text ≡ Some served
     → is_accepted (meant (known_from (nothing_known table tenant) before) (Query name text)) ≡ true
     → find_named (known_from (nothing_known table tenant) (before ++ Own (Query name text) ∷ after)).queries name
     ≡ Some (record {
-      plan = plan;
-      base = unwrap_or (opened_in (known_from (nothing_known table tenant) before) plan.stream) 0;
-      cursor = unwrap_or (opened_in (known_from (nothing_known table tenant) before) plan.stream) 0;
-      rows = elements_accepted (known_from (nothing_known table tenant) (before ++ Own (Query name text) ∷ [])) plan.stream after;
+      plan = served.plan;
+      text = served.text;
+      base = unwrap_or (opened_in (known_from (nothing_known table tenant) before) (stream_of served.plan)) 0;
+      cursor = unwrap_or (opened_in (known_from (nothing_known table tenant) before) (stream_of served.plan)) 0;
+      rows = elements_accepted (known_from (nothing_known table tenant) (before ++ Own (Query name text) ∷ [])) (stream_of served.plan) after;
     })
 
--- at an instant t from its base on, the relation of a query over a range of T ticks is the bag of its rows with times from max(t - T, 0) to t
+-- a bag is that of those of the rows that a window holds at an instant
+pub record IsBagHeld (w : Window) (t : ℕ) (rows : List Element) (bag : Counts) : Type 0 where
+  pub held : List Element
+  pub holds : IsHeldAt w t rows held
+  pub is : bag ≡ bag_of (map (λ x. x.row) held)
+
+-- at an instant t from its base on, the relation of a query is the bag of those of its rows that its window holds then
 abbrev pub IsRelationLaw : Type 0
-IsRelationLaw = (table : List Tenant) (tenant : ℕ) (seen : List Seen) (name : List ℕ) (q : Asked) (from next ticks t : ℕ)
+IsRelationLaw = (table : List Tenant) (tenant : ℕ) (seen : List Seen) (name : List ℕ) (q : Asked) (input : Input) (others : List Input) (from next limit t : ℕ)
     → find_named (known_from (nothing_known table tenant) seen).queries name ≡ Some q
-    → q.plan.window ≡ Range ticks 1
+    → q.plan.inputs ≡ input ∷ others
     → q.base ≤ t
-    → relation_at (record { plan = q.plan; base = q.base; from = from; next = next; rows = q.rows }) (t + 1)
-    ≡ bag_of (map (λ x. x.row) (filter (λ x. nat_le (t - ticks) x.at && nat_le x.at t) q.rows))
+    → IsBagHeld input.window t q.rows (relation_at (record { plan = q.plan; base = q.base; from = from; next = next; limit = limit; windows = windows_over q.plan.inputs q.rows }) (t + 1))
 
 -- the command is on a stream, and on no query
 abbrev pub is_on_stream : Command → Bool

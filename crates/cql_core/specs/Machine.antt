@@ -7,11 +7,12 @@ use Rattle.cql_window.specs.Window.{count_before}
 use Rattle.cql_core.specs.declared.command.ColumnText.{ColumnText}
 use Rattle.cql_core.specs.declared.command.Command.{Command}
 use Rattle.cql_core.specs.declared.command.Command.TheVariants.{Stream, Put, Beat, Query, Fetch}
-use Rattle.cql_core.specs.declared.plan.Plan.{Plan}
+use Rattle.cql_core.specs.declared.planned.Served.{Served}
 use Rattle.cql_core.specs.declared.state.StreamState.{StreamState}
 use Rattle.cql_core.specs.declared.refusal.Refusal.TheVariants.{UnknownTenant, UnknownQuery, Behind}
-use Rattle.cql_core.specs.Planned.{reading, plan_of}
-use Rattle.cql_core.specs.Relation.{PinSeen}
+use Rattle.cql_eval.specs.Pin.{PinSeen}
+use Rattle.cql_core.specs.Planned.{stream_of, reading, plan_of}
+use Rattle.cql_core.specs.Pins.{windows_over}
 use Rattle.cql_core.specs.Told.{Told, Refused, is_accepted, Stepped, Says, Pinned, reads}
 use Rattle.cql_core.specs.Checks.{schema_of, stream_told, put_told, beat_told, query_told, next_of, is_behind}
 use Rattle.cql_core.specs.State.{Named, Home, QueryState, State, find_named, set_named, is_place, home_at, queries_at, clocked, readable_at, opened_of, elements_of, limit_of, input_rows}
@@ -59,20 +60,21 @@ abbrev pub directory_after : List Home → ℕ → Command → List Home
 directory_after homes tenant command = if is_place homes tenant then set homes tenant (home_after (home_at homes tenant) command) else homes
 
 -- the least time that the input of a plan still takes
-abbrev pub input_opened : Home → Option Plan → Option ℕ
-input_opened home plan = option_and_then (λ p. opened_of home p.stream) plan
+abbrev pub input_opened : Home → Option Served → Option ℕ
+input_opened home served = option_and_then (λ s. opened_of home (stream_of s.plan)) served
 
 abbrev pub registered_told : Home → List (Named QueryState) → List ℕ → List ℕ → Told
 registered_told home queries name text =
     query_told home.quotas (length queries) (is_some (find_named queries name)) name (reading (readable_at home) text) (input_opened home (plan_of (readable_at home) text))
 
 -- a query that is registered now; it skips the elements that are there
-abbrev pub new_query : Home → Plan → QueryState
-new_query home plan = record {
-  plan = plan;
-  base = unwrap_or (opened_of home plan.stream) 0;
-  cursor = unwrap_or (opened_of home plan.stream) 0;
-  skipped = length (elements_of home plan.stream);
+abbrev pub new_query : Home → Served → QueryState
+new_query home served = record {
+  plan = served.plan;
+  text = served.text;
+  base = unwrap_or (opened_of home (stream_of served.plan)) 0;
+  cursor = unwrap_or (opened_of home (stream_of served.plan)) 0;
+  skipped = length (elements_of home (stream_of served.plan));
 }
 
 -- the rows before an instant
@@ -81,7 +83,7 @@ rows_before n xs = take (count_before n xs) xs
 
 -- what a fetch needs of a query up to an instant
 abbrev pub pin_of : Home → QueryState → ℕ → PinSeen
-pin_of home q next = record { plan = q.plan; base = q.base; from = q.cursor; next = next; rows = rows_before next (input_rows home q) }
+pin_of home q next = record { plan = q.plan; base = q.base; from = q.cursor; next = next; limit = home.quotas.result; windows = windows_over q.plan.inputs (rows_before next (input_rows home q)) }
 
 abbrev pub fetch_step : Home → Option QueryState → Option ℕ → Stepped
 fetch_step home None until = Says (Refused UnknownQuery)
@@ -95,9 +97,9 @@ step_at home queries (Beat stream at) = Says (beaten_told home stream at)
 step_at home queries (Query name text) = Says (registered_told home queries name text)
 step_at home queries (Fetch name until) = fetch_step home (find_named queries name) until
 
-abbrev pub with_query : Home → List ℕ → Option Plan → List (Named QueryState) → List (Named QueryState)
+abbrev pub with_query : Home → List ℕ → Option Served → List (Named QueryState) → List (Named QueryState)
 with_query home name None queries = queries
-with_query home name (Some plan) queries = queries ++ record { name = name; item = new_query home plan } ∷ []
+with_query home name (Some served) queries = queries ++ record { name = name; item = new_query home served } ∷ []
 
 -- the queries after a command; a fetch moves nothing
 abbrev pub queries_after : Home → List (Named QueryState) → Command → List (Named QueryState)

@@ -5,14 +5,16 @@ use Rattle.cql_value.specs.declared.value.Value.{Value}
 use Rattle.cql_core.specs.declared.command.ColumnText.{ColumnText}
 use Rattle.cql_core.specs.declared.command.Command.{Command}
 use Rattle.cql_core.specs.declared.command.Command.TheVariants.{Stream, Put, Beat, Query, Fetch}
-use Rattle.cql_core.specs.declared.plan.Plan.{Plan}
-use Rattle.cql_core.specs.declared.tenants.Quotas.{Quotas}
-use Rattle.cql_core.specs.declared.tenants.Tenant.{Tenant}
+use Rattle.cql_plan.specs.declared.plan.Planned.{Planned}
+use Rattle.cql_core.specs.declared.planned.Served.{Served}
+use Rattle.cql_tenants.specs.declared.tenants.Quotas.{Quotas}
+use Rattle.cql_tenants.specs.declared.tenants.Tenant.{Tenant}
 use Rattle.cql_core.specs.declared.refusal.Refusal.TheVariants.{UnknownTenant, UnknownQuery, Behind}
 use Rattle.cql_out.specs.Blocks.{blocks_of}
-use Rattle.cql_core.specs.Relation.{output_at}
+use Rattle.cql_eval.specs.Relation.{output_at}
 use Rattle.cql_plan.specs.Sources.{Readable}
-use Rattle.cql_core.specs.Planned.{own_streams, reading, plan_of}
+use Rattle.cql_core.specs.Planned.{own_streams, stream_of, reading, plan_of}
+use Rattle.cql_core.specs.Pins.{windows_over}
 use Rattle.cql_core.specs.Told.{Told, Blocks, Refused, is_accepted}
 use Rattle.cql_core.specs.Checks.{Clocked, schema_of, stream_told, put_told, beat_told, query_told, next_of, is_behind}
 use Rattle.cql_core.specs.Named.{Named, same_name, find_named, set_named, each_named}
@@ -20,7 +22,8 @@ use Rattle.cql_core.specs.View.{Seen, Own}
 
 -- a live query, with all rows of its input since its registration
 pub record Asked : Type 0 where
-  pub plan : Plan
+  pub plan : Planned
+  pub text : List ℕ
   pub base : ℕ
   pub cursor : ℕ
   pub rows : List Element
@@ -44,11 +47,12 @@ opened_in k stream = option_map (λ s. s.opened) (find_named k.streams stream)
 
 -- how far a query may look: the least time that its input still takes
 abbrev pub limit_in : Known → Asked → ℕ
-limit_in k q = unwrap_or (opened_in k q.plan.stream) 0
+limit_in k q = unwrap_or (opened_in k (stream_of q.plan)) 0
 
 -- the blocks of a query over all its rows, on an interval
-abbrev pub blocks_over : Asked → ℕ → ℕ → Told
-blocks_over q from next = Blocks (blocks_of (output_at (record { plan = q.plan; base = q.base; from = from; next = next; rows = q.rows })) from next) next
+abbrev pub blocks_over : Quotas → Asked → ℕ → ℕ → Told
+blocks_over quotas q from next =
+    Blocks (blocks_of (output_at (record { plan = q.plan; base = q.base; from = from; next = next; limit = quotas.result; windows = windows_over q.plan.inputs q.rows })) from next) next
 
 abbrev pub made_meant : Quotas → Known → List ℕ → List ColumnText → Told
 made_meant quotas k name columns = stream_told quotas (length k.streams) (is_some (find_named k.streams name)) name (schema_of columns)
@@ -61,18 +65,18 @@ beaten_meant k stream at = beat_told (find_named k.streams stream) at
 
 abbrev pub registered_meant : Quotas → Known → List ℕ → List ℕ → Told
 registered_meant quotas k name text =
-    query_told quotas (length k.queries) (is_some (find_named k.queries name)) name (reading (readable_in k) text) (option_and_then (λ p. opened_in k p.stream) (plan_of (readable_in k) text))
+    query_told quotas (length k.queries) (is_some (find_named k.queries name)) name (reading (readable_in k) text) (option_and_then (λ s. opened_in k (stream_of s.plan)) (plan_of (readable_in k) text))
 
-abbrev pub fetched_meant : Known → Option Asked → Option ℕ → Told
-fetched_meant k None until = Refused UnknownQuery
-fetched_meant k (Some q) until = if is_behind q.cursor until then Refused Behind else blocks_over q q.cursor (next_of (limit_in k q) until)
+abbrev pub fetched_meant : Quotas → Known → Option Asked → Option ℕ → Told
+fetched_meant quotas k None until = Refused UnknownQuery
+fetched_meant quotas k (Some q) until = if is_behind q.cursor until then Refused Behind else blocks_over quotas q q.cursor (next_of (limit_in k q) until)
 
 abbrev pub own_meant : Quotas → Known → Command → Told
 own_meant quotas k (Stream name columns) = made_meant quotas k name columns
 own_meant quotas k (Put stream at row) = fed_meant k stream at row
 own_meant quotas k (Beat stream at) = beaten_meant k stream at
 own_meant quotas k (Query name text) = registered_meant quotas k name text
-own_meant quotas k (Fetch name until) = fetched_meant k (find_named k.queries name) until
+own_meant quotas k (Fetch name until) = fetched_meant quotas k (find_named k.queries name) until
 
 -- the reply to a command of the tenant's own; 31 for a place outside the table
 abbrev pub meant : Known → Command → Told
@@ -91,14 +95,20 @@ time_known opened stream streams = timed (find_named streams stream)
 
 -- an element that came joins the rows of a query over its stream
 abbrev pub joined_rows : List ℕ → Element → Asked → Asked
-joined_rows stream element q = if same_name q.plan.stream stream then record q { rows = q.rows ++ element ∷ [] } else q
+joined_rows stream element q = if same_name (stream_of q.plan) stream then record q { rows = q.rows ++ element ∷ [] } else q
 
-abbrev pub new_asked : Known → Plan → Asked
-new_asked k plan = record { plan = plan; base = unwrap_or (opened_in k plan.stream) 0; cursor = unwrap_or (opened_in k plan.stream) 0; rows = [] }
+abbrev pub new_asked : Known → Served → Asked
+new_asked k served = record {
+  plan = served.plan;
+  text = served.text;
+  base = unwrap_or (opened_in k (stream_of served.plan)) 0;
+  cursor = unwrap_or (opened_in k (stream_of served.plan)) 0;
+  rows = [];
+}
 
-abbrev pub with_asked : Known → List ℕ → Option Plan → List (Named Asked)
+abbrev pub with_asked : Known → List ℕ → Option Served → List (Named Asked)
 with_asked k name None = k.queries
-with_asked k name (Some plan) = k.queries ++ record { name = name; item = new_asked k plan } ∷ []
+with_asked k name (Some served) = k.queries ++ record { name = name; item = new_asked k served } ∷ []
 
 -- what is known after a command of the tenant's own that was accepted
 abbrev pub known_done : Known → Command → Known

@@ -1,14 +1,14 @@
 -- What the core holds, by the places of the tenants.
 use Rattle.std.specs.Prelude.{ℕ, Bool, List, [], map, length, get_or, drop, Option, option_map, unwrap_or, nat_lt}
 use Rattle.cql_value.specs.Element.{Element}
-use Rattle.cql_core.specs.declared.tenants.Quotas.{Quotas}
-use Rattle.cql_core.specs.declared.tenants.Tenant.{Tenant}
+use Rattle.cql_tenants.specs.declared.tenants.Quotas.{Quotas}
+use Rattle.cql_tenants.specs.declared.tenants.Tenant.{Tenant}
 use Rattle.cql_core.specs.declared.state.StreamState.{StreamState}
 pub use Rattle.cql_core.specs.declared.state.Home.{Home}
 pub use Rattle.cql_core.specs.declared.state.QueryState.{QueryState}
 use Rattle.cql_core.specs.Checks.{Clocked}
 use Rattle.cql_plan.specs.Sources.{Readable}
-use Rattle.cql_core.specs.Planned.{own_streams}
+use Rattle.cql_core.specs.Planned.{own_streams, stream_of}
 use Rattle.cql_core.specs.Named.{each}
 pub use Rattle.cql_core.specs.Named.{Named, same_name, find_named, set_named}
 
@@ -61,8 +61,8 @@ elements_of home name = unwrap_or (option_map (λ s. s.elements) (find_named hom
 
 -- how far a query may look: the least time that its input still takes
 abbrev pub limit_of : Home → QueryState → ℕ
-limit_of home q = unwrap_or (opened_of home q.plan.stream) 0
+limit_of home q = unwrap_or (opened_of home (stream_of q.plan)) 0
 
 -- the rows of a query's input: the elements that came after its registration
 abbrev pub input_rows : Home → QueryState → List Element
-input_rows home q = drop q.skipped (elements_of home q.plan.stream)
+input_rows home q = drop q.skipped (elements_of home (stream_of q.plan))

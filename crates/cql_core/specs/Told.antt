@@ -4,7 +4,8 @@ use Rattle.cql_out.specs.declared.told.Block.{Block}
 use Rattle.cql_core.specs.declared.refusal.Refusal.{Refusal}
 use Rattle.cql_core.specs.declared.refusal.Refusal.TheVariants.{NoMemory}
 use Rattle.cql_out.specs.Blocks.{blocks_of}
-use Rattle.cql_core.specs.Relation.{PinSeen, output_at}
+use Rattle.cql_eval.specs.Pin.{PinSeen}
+use Rattle.cql_eval.specs.Relation.{output_at}
 
 pub data Told : Type 0 where
   Done : Told

@@ -10,7 +10,7 @@ ghost use Rattle.cql_core.specs.Law.{
 };
 ghost use Rattle.cql_core.specs.History.{IsHistoryLaw};
 
-use cql_window::laws::range_law;
+use cql_window::laws::held_law;
 
 /// Whatever commands any tenants send, in whatever order, the machine tells each tenant what its
 /// own view means.
@@ -46,12 +46,12 @@ pub fn query_law()
     ensures { IsQueryLaw }
 {}
 
-/// At each instant t from its base on, the relation of a query over a range of T ticks is the bag
-/// of its rows with times from max(t - T, 0) to t.
+/// At each instant from its base on, the relation of a query is the bag of those of its rows that
+/// its window holds then, in the language's words.
 pub fn relation_law()
     ensures { IsRelationLaw }
 {
-    range_law();
+    held_law();
 }
 
 /// What a tenant is told is what it would be told on a server on which no other tenant has a query.

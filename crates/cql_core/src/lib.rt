@@ -1,17 +1,12 @@
-//! The core: the streams and queries of all tenants, the answers to fetches, and the law of what
-//! each tenant is told.
+//! The core: the streams and queries of all tenants, what a fetch of a query takes out of them,
+//! and the law of what each tenant is told. Fetches are answered by `cql_eval`.
 #![tactic(auto)]
 
-pub mod answer;
 mod command;
-pub mod evaluate;
 pub mod law;
-mod pin;
-mod plan;
 mod planned;
 mod ready;
 mod refusal;
-mod relation;
 mod reply;
 mod running;
 mod server;
@@ -19,17 +14,13 @@ mod shared;
 mod shelf;
 mod state;
 mod steps;
-mod tenants;
 
-pub use answer::Answer;
 pub use command::{ColumnText, Command};
+pub use cql_eval::{Answer, Pin, answer};
 pub use cql_out::{Block, Output};
-pub use cql_plan::OutputKind;
-pub use pin::Pin;
-pub use plan::Plan;
+pub use cql_tenants::{BadTenants, Quotas, Tenant, TenantId, TenantTable};
 pub use ready::{Prepared, prepare};
 pub use refusal::Refusal;
 pub use reply::{Reply, Step};
 pub use running::{finish, run, serve};
 pub use server::Core;
-pub use tenants::{BadTenants, Quotas, Tenant, TenantId, TenantTable};

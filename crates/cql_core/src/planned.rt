@@ -1,21 +1,26 @@
-// The plan of a query, where it is served.
+// What is kept of a query, where it is served.
 ghost use Rattle.std.specs.Prelude.{◌≡◌, IfOk, option_copied};
 ghost use Rattle.cql_plan.specs.Typing.{typing};
-ghost use Rattle.cql_core.specs.Planned.{is_own, schema_in, plain_range, plain_window, plain_input, served_input, served_plan, refusal_of, or_refusal, planned};
+ghost use Rattle.cql_core.specs.Planned.{is_own, schema_in, is_plain_block, is_plain, served_plan, refusal_of, or_refusal, planned};
 ghost use Rattle.cql_core.specs.Named.{each};
 ghost use Rattle.cql_core.specs.State.{readable_at, clock_of};
 
-use crate::plan::Plan;
 use crate::refusal::Refusal;
 use crate::shared::Shared;
 use crate::state::Home;
-use cql_plan::{Input as Read, Lookup, OutputKind, Plan as Typed, PlanError, PlanFault, resolve};
-use cql_syntax::syntax::{Input, Query, SelectBlock, Selection, StreamOperator};
+use cql_plan::{Lookup, Plan, PlanError, PlanFault, resolve};
+use cql_syntax::syntax::{Query, SelectBlock, Selection};
 use cql_text::Syntax;
-use cql_value::{Schema, Text, TryClone};
-use cql_window::Window;
+use cql_value::{Schema, Text};
 use std::alloc::{AllocError, Global};
 use std::sync::Arc;
+
+/// What is kept of a query that is served: its plan and its canonical text.
+#[derive(Drop)]
+pub struct Served {
+    pub plan: Shared<Plan>,
+    pub text: Text,
+}
 
 // What the tenant of a home reads: its own streams.
 #[derive(Drop)]
@@ -59,68 +64,38 @@ impl Lookup for Reader<'_> {
     }
 }
 
-// The window, where it is a range without a slide.
-fn plain_range(window: &Window) -> Option<&Window>
-    ensures { option_copied result ≡ plain_range window.now }
+// Whether a block shows all columns of all rows of its one input.
+fn is_plain_block(block: &SelectBlock) -> bool
+    ensures { result ≡ is_plain_block block.now }
 {
-    match window {
-        Window::Range { slide, .. } if slide.get() == 1 => Some(window),
-        _ => None,
-    }
+    matches!(block.selection, Selection::All)
+        && !block.distinct
+        && block.condition.is_none()
+        && block.groups.is_empty()
+        && block.inputs.len() == 1
 }
 
-// The window of a plan's one input, where it is a range without a slide.
-fn plain_window(inputs: &[Read]) -> Option<&Window>
-    ensures { option_copied result ≡ plain_window inputs.now }
+// Whether a query is one block that shows all columns of all rows of its one input.
+fn is_plain(query: &Query) -> bool
+    ensures { result ≡ is_plain query.now }
 {
-    match inputs {
-        [input] => plain_range(&input.window),
-        _ => None,
-    }
+    query.second.is_none() && is_plain_block(&query.first)
 }
 
-// The one input of a block that shows all columns of all its rows.
-fn plain_input(block: &SelectBlock) -> Option<&Input>
-    ensures { option_copied result ≡ plain_input block.now }
+// What is kept of a query with this plan, where it is served.
+fn served_plan(
+    alloc: Global,
+    plan: Plan,
+    syntax: &Syntax,
+) -> Result<Result<Served, Refusal>, AllocError>
+    ensures { IfOk result (λ served. served ≡ served_plan plan syntax.now) }
 {
-    let shows_all = matches!(block.selection, Selection::All) && !block.distinct;
-    if !shows_all || block.condition.is_some() || !block.groups.is_empty() {
-        return None;
+    if !is_plain(syntax.query()) {
+        return Ok(Err(Refusal::NotYet));
     }
-    match block.inputs.as_slice() {
-        [input] => Some(input),
-        _ => None,
-    }
-}
-
-// The one input of a query that tells which of its input's rows are new.
-fn served_input(query: &Query) -> Option<&Input>
-    ensures { option_copied result ≡ served_input query.now }
-{
-    if query.output != Some(StreamOperator::Istream) || query.second.is_some() {
-        return None;
-    }
-    plain_input(&query.first)
-}
-
-// The plan of a query over one range without a slide, all of whose new rows are told.
-fn served_plan(alloc: Global, typed: Typed, syntax: &Syntax) -> Result<Option<Plan>, AllocError>
-    ensures { IfOk result (λ plan. plan ≡ served_plan typed syntax.now) }
-{
-    let Some(input) = served_input(syntax.query()) else {
-        return Ok(None);
-    };
-    let Some(window) = plain_window(typed.inputs()) else {
-        return Ok(None);
-    };
-    let window = window.try_clone(alloc)?;
-    Ok(Some(Plan {
-        typed,
-        text: Text::from_string(syntax.to_text(alloc)?),
-        stream: input.stream.name.try_clone()?,
-        window,
-        kind: OutputKind::Istream,
-    }))
+    let text = Text::from_string(syntax.to_text(alloc)?);
+    let plan = Shared::new(Arc::new(alloc, plan)?);
+    Ok(Ok(Served { plan, text }))
 }
 
 // The refusal that a fault of the typing is.
@@ -136,31 +111,28 @@ fn refusal_of(fault: PlanFault) -> Refusal
 }
 
 // What the typing makes of a query of the tenant of a home.
-fn typed(alloc: Global, home: &Home, syntax: &Syntax) -> Result<Result<Typed, Refusal>, AllocError>
-    ensures { IfOk result (λ typed. typed ≡ or_refusal (typing (readable_at home.now) syntax.now)) }
+fn typed(alloc: Global, home: &Home, syntax: &Syntax) -> Result<Result<Plan, Refusal>, AllocError>
+    ensures { IfOk result (λ plan. plan ≡ or_refusal (typing (readable_at home.now) syntax.now)) }
 {
     match resolve(alloc, syntax, &Reader { home }) {
-        Ok(typed) => Ok(Ok(typed)),
+        Ok(plan) => Ok(Ok(plan)),
         Err(PlanError::Refused(fault)) => Ok(Err(refusal_of(fault))),
         Err(PlanError::NoMemory) => Err(AllocError),
     }
 }
 
-/// The plan of a query to the tenant of a home, or why there is none.
+/// What is kept of a query of the tenant of a home, or why it isn't served.
 #[tactic(auto, unfolding(crate::specs::Planned::planned))]
 pub fn planned(
     alloc: Global,
     home: &Home,
     syntax: &Syntax,
-) -> Result<Result<Shared<Plan>, Refusal>, AllocError>
-    ensures { IfOk result (λ plan. plan ≡ planned (readable_at home.now) syntax.now) }
+) -> Result<Result<Served, Refusal>, AllocError>
+    ensures { IfOk result (λ served. served ≡ planned (readable_at home.now) syntax.now) }
 {
-    let typed = match typed(alloc, home, syntax)? {
-        Ok(typed) => typed,
+    let plan = match typed(alloc, home, syntax)? {
+        Ok(plan) => plan,
         Err(refusal) => return Ok(Err(refusal)),
     };
-    match served_plan(alloc, typed, syntax)? {
-        Some(plan) => Ok(Ok(Shared::new(Arc::new(alloc, plan)?))),
-        None => Ok(Err(Refusal::NotYet)),
-    }
+    served_plan(alloc, plan, syntax)
 }

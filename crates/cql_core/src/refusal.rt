@@ -39,7 +39,8 @@ pub enum Refusal {
     QueryExists,
     /// The tenant has no query of that name (57).
     UnknownQuery,
-    /// The query is right, and can't be evaluated yet (58).
+    /// The query is right, and can't be evaluated yet: it isn't one block over one input that
+    /// says `*` and has no DISTINCT, WHERE and GROUP BY (58).
     NotYet,
     /// The instant is below the query's cursor (62).
     Behind,

@@ -1,7 +1,6 @@
 // Replies and steps.
-use crate::answer::Answer;
-use crate::pin::Pin;
 use crate::refusal::Refusal;
+use cql_eval::{Answer, Pin};
 
 /// The reply to a command.
 pub enum Reply {
@@ -31,6 +30,6 @@ impl Drop for Reply {
 pub enum Step {
     /// The reply.
     Done(Reply),
-    /// What a fetch needs; its answer is made by `evaluate::answer`.
+    /// What a fetch needs; its answer is made by `answer`.
     Pinned(Pin),
 }

@@ -7,13 +7,13 @@ ghost use Rattle.cql_core.specs.History.{IsLegal, IsSolo};
 ghost use Rattle.cql_core.specs.Running.{history_of, Serves};
 
 use crate::command::Command;
-use crate::evaluate::answer;
 use crate::law::history_law;
 use crate::ready::prepare;
 use crate::refusal::Refusal;
 use crate::reply::{Reply, Step};
 use crate::server::Core;
-use crate::tenants::{TenantId, TenantTable};
+use cql_eval::answer;
+use cql_tenants::{TenantId, TenantTable};
 use std::alloc::{AllocError, Global};
 
 /// The reply of a step: a pin is answered. Where that finds no memory the reply is 70.

@@ -10,7 +10,8 @@ use crate::reply::{Reply, Step};
 use crate::shelf::Shelf;
 use crate::state::{Home, QueryState};
 use crate::steps::step_at;
-use crate::tenants::{Tenant, TenantId, TenantTable};
+use cql_plan::law::{plain_law, ports_law};
+use cql_tenants::{Tenant, TenantId, TenantTable};
 use std::alloc::{AllocError, Global};
 use std::marker::Model;
 
@@ -104,6 +105,9 @@ impl Core {
         }
         let home = &mut self.homes[place];
         let queries = &mut self.queries[place];
+        // A plan that is registered reads its tenant's streams, and shows all their rows.
+        ports_law();
+        plain_law();
         let outcome = step_at(alloc, home, queries, prepared.ready());
         step_or_no_memory(outcome)
     }

@@ -2,11 +2,11 @@
 ghost use Rattle.std.specs.Prelude.{◌≡◌, OnOk, OnErr};
 ghost use Rattle.cql_core.specs.Machine.{fed};
 
-use crate::plan::Plan;
 use crate::shared::Shared;
 use crate::shelf::Shelf;
-use crate::tenants::Quotas;
-use cql_value::{Items, Name, Schema, Timed};
+use cql_plan::Plan;
+use cql_tenants::Quotas;
+use cql_value::{Items, Name, Schema, Text, Timed};
 use std::alloc::AllocError;
 
 /// A stream: its columns, the least time in ticks that it still takes, and its elements in order
@@ -57,11 +57,12 @@ impl Drop for Home {
     }
 }
 
-/// A live query: its plan, its base and cursor in ticks, and how many elements its stream had
-/// when it was registered, which it doesn't see.
+/// A live query: its plan, its canonical text, its base and cursor in ticks, and how many elements
+/// its stream had when it was registered, which it doesn't see.
 #[derive(Drop)]
 pub struct QueryState {
     pub plan: Shared<Plan>,
+    pub text: Text,
     pub base: u64,
     pub cursor: u64,
     pub skipped: usize,

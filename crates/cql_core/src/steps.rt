@@ -1,27 +1,32 @@
 // The steps of the commands, each over one tenant's home and queries.
-ghost use Rattle.std.specs.Prelude.{◌≡◌, ◌≤◌, IfOk, IsOk, OnOk, OnErr, length, drop, is_some, option_copied};
+ghost use Rattle.std.specs.Prelude.{◌≡◌, ◌≤◌, ◌^◌, IfOk, IsOk, OnOk, OnErr, length, drop, is_some, option_copied};
+ghost use Rattle.std.specs.List.{AllByRecursion};
 ghost use Rattle.cql_core.specs.declared.command.Command.TheVariants as command;
 ghost use Rattle.cql_core.specs.Checks.{time_told, next_of, is_behind};
 ghost use Rattle.cql_core.specs.Steps.{told_of, stepped_of, TakesNoMemory};
 ghost use Rattle.cql_core.specs.Prepared.{schema_checked, query_checked, command_of, IsReady};
-ghost use Rattle.cql_core.specs.State.{find_named, limit_of};
+ghost use Rattle.cql_core.specs.State.{find_named, limit_of, input_rows};
 ghost use Rattle.cql_core.specs.Machine.{made_told, fed_told, beaten_told, home_after, registered_told, queries_after, fetch_step, step_at, rows_before, pin_of};
-ghost use Rattle.cql_core.specs.Sound.{IsHomeSound};
-ghost use Rattle.cql_core.specs.Relation.{IsPin};
+ghost use Rattle.cql_core.specs.Pins.{windows_over};
+ghost use Rattle.cql_core.specs.Planned.{stream_of};
+ghost use Rattle.cql_core.specs.Sound.{AreStreams, IsFollowed, IsHomeSound};
+ghost use Rattle.cql_window.specs.Pin.{AreRows};
 ghost use Rattle.cql_window.specs.Window.{count_before};
 
 use crate::command::{ColumnText, GREATEST};
-use crate::pin::Pin;
-use crate::plan::Plan;
-use crate::planned::planned;
+use crate::planned::{Served, planned};
 use crate::ready::Ready;
 use crate::refusal::Refusal;
 use crate::reply::{Reply, Step};
 use crate::shared::Shared;
 use crate::shelf::Shelf;
 use crate::state::{Home, QueryState, StreamState};
+use cql_eval::Pin;
+use cql_plan::{Input, Plan};
 use cql_text::Syntax;
-use cql_value::{Items, Schema, Text, Timed, copies_of};
+use cql_value::law::types_law;
+use cql_value::{Items, Schema, Text, Timed, TryClone, copies_of};
+use cql_window::WindowPin;
 use std::alloc::{AllocError, Global};
 
 // What is told of a time that comes to a stream which takes none below `opened`.
@@ -127,22 +132,23 @@ fn is_taken(queries: &Shelf<QueryState>, name: &Text) -> bool
 
 // The stream that a plan looks at, if there is one.
 fn source<'a>(home: &'a Home, plan: &Shared<Plan>) -> Option<&'a StreamState>
-    ensures { option_copied result ≡ find_named home.now.streams plan.now.stream }
+    ensures { option_copied result ≡ find_named home.now.streams (stream_of plan.now) }
 {
-    let plan = plan.get();
-    home.streams.get(plan.stream.as_str())
+    let inputs = plan.get().inputs();
+    home.streams.get(inputs[0].stream.as_str())
 }
 
 // A query that is registered now: it skips the elements that are there.
-fn new_query(plan: &Shared<Plan>, stream: &StreamState) -> Result<QueryState, AllocError>
-    ensures { IfOk result (λ query. query ≡ record { plan = plan.now; base = stream.now.opened; cursor = stream.now.opened; skipped = length stream.now.elements }) }
+fn new_query(served: Served, stream: &StreamState) -> QueryState
+    ensures { result ≡ record { plan = served.plan; text = served.text; base = stream.now.opened; cursor = stream.now.opened; skipped = length stream.now.elements } }
 {
-    Ok(QueryState {
-        plan: Shared::new(plan.to_arc()?),
+    QueryState {
+        plan: served.plan,
+        text: served.text,
         base: stream.opened,
         cursor: stream.opened,
         skipped: stream.elements.len(),
-    })
+    }
 }
 
 /// Registers a query.
@@ -169,17 +175,16 @@ pub fn register(
     if queries.len() as u64 >= home.quotas.queries {
         return Ok(Reply::Refused(Refusal::TooManyQueries));
     }
-    let plan = match planned(alloc, home, syntax)? {
-        Ok(plan) => plan,
+    let served = match planned(alloc, home, syntax)? {
+        Ok(served) => served,
         Err(refusal) => return Ok(Reply::Refused(refusal)),
     };
-    let Some(stream) = source(home, &plan) else {
+    let Some(stream) = source(home, &served.plan) else {
         return Ok(Reply::Refused(Refusal::UnknownStream));
     };
-    let base = stream.opened;
-    let query = new_query(&plan, stream)?;
     let name = String::from_str(alloc, name.as_str())?;
-    queries.push(name, query)?;
+    let base = stream.opened;
+    queries.push(name, new_query(served, stream))?;
     Ok(Reply::Base(base))
 }
 
@@ -206,16 +211,39 @@ fn count_before(elements: &[Timed], next: u64) -> usize
 }
 
 // The rows from one place on, as far as they come before an instant.
-fn rows_between(
-    alloc: Global,
-    elements: &[Timed],
-    skipped: usize,
-    next: u64,
-) -> Result<Vec<Timed>, AllocError>
-    ensures { IfOk result (λ rows. rows.items ≡ rows_before next (drop skipped elements.now)) }
+fn rows_between(elements: &[Timed], skipped: usize, next: u64) -> &[Timed]
+    ensures { result.now ≡ rows_before next (drop skipped elements.now) }
 {
     let rows = later(elements, skipped);
-    copies_of(alloc, &rows[..count_before(rows, next)])
+    &rows[..count_before(rows, next)]
+}
+
+// The rows of a query's input before an instant.
+fn rows_of<'a>(home: &'a Home, query: &QueryState, next: u64) -> &'a [Timed]
+    ensures { result.now ≡ rows_before next (input_rows home.now query.now) }
+{
+    match source(home, &query.plan) {
+        None => &[],
+        Some(stream) => rows_between(stream.elements.as_slice(), query.skipped, next),
+    }
+}
+
+// The windows of some inputs over these rows.
+fn windows_over(
+    alloc: Global,
+    inputs: &[Input],
+    rows: &[Timed],
+) -> Result<Vec<WindowPin>, AllocError>
+    requires { AllByRecursion (λ i. AreRows i.window rows.now) inputs.now }
+    ensures { IfOk result (λ windows. windows.items ≡ windows_over inputs.now rows.now) }
+{
+    let mut windows = Vec::new(alloc);
+    for input in inputs {
+        let window = input.window.try_clone(alloc)?;
+        let unseen = copies_of(alloc, rows)?;
+        windows.push(WindowPin::new(window, Vec::new(alloc), unseen))?;
+    }
+    Ok(windows)
 }
 
 // Where a fetch ends.
@@ -234,14 +262,19 @@ fn is_behind(cursor: u64, until: Option<u64>) -> bool
 
 // The pin of a query up to an instant.
 fn pin(alloc: Global, home: &Home, query: &QueryState, next: u64) -> Result<Pin, AllocError>
-    requires pin { IsPin query.now.base query.now.cursor next }
+    requires streams { AreStreams home.now }
+    requires followed { IsFollowed home.now query.now }
+    requires forward { query.now.cursor ≤ next }
+    requires bound { next ≤ 2 ^ 62 }
     ensures { IfOk result (λ pin. pin ≡ pin_of home.now query.now next) }
 {
-    let rows = match source(home, &query.plan) {
-        None => Vec::new(alloc),
-        Some(stream) => rows_between(alloc, stream.elements.as_slice(), query.skipped, next)?,
-    };
-    Ok(Pin::new(query.plan.to_arc()?, query.base, query.cursor, next, rows))
+    // A row of a stream has the types of the port that reads it.
+    types_law();
+    let inputs = query.plan.get().inputs();
+    let windows = windows_over(alloc, inputs, rows_of(home, query, next))?;
+    let plan = query.plan.to_arc()?;
+    let limit = home.quotas.result;
+    Ok(Pin::new(plan, query.base, query.cursor, next, limit, windows))
 }
 
 // How far a query may look.

@@ -197,7 +197,8 @@ body_typed sources block c h =
     let n = passes (items_of fields grouped groups block.selection) (λ items. Ok (checked_of block.distinct (inputs_of sources) (join_of sources w.0) fields groups items)) c g.2 in
     let zip = each_ok (group_of fields) block.groups groups g.1 in
     let fit = selection_fits fields grouped groups block.selection n.0 n.1 in
-    subst IsTypedChecked (ok_is (checked_of block.distinct (inputs_of sources) (join_of sources w.0) fields groups n.0) c n.2) (record {
+    let made : Checked = checked_of block.distinct (inputs_of sources) (join_of sources w.0) fields groups n.0 in
+    subst IsTypedChecked {x = made} (ok_is made c n.2) (record {
       join = record { ports = ports_of sources; condition = w.0 };
       shape = record { columns = kinds_of fields; items = shown_in n.0; groups = groups };
       is_join = refl;

@@ -8,3 +8,5 @@ mod FitExpressions
 mod Fits
 mod Joined
 mod Qualified
+mod Ports
+mod PlainPlans

@@ -1,8 +1,7 @@
 -- Expressions and shapes that fit columns of given types.
 use Rattle.std.specs.Prelude.{◌≡◌, ℕ, List, [], ◌∷◌, ◌++◌, Option, Some, None, Ok, IfSome, Bool, true, false, not, ◌||◌, slice_get}
 use Rattle.std.specs.List.{AllByRecursion, Contains, list_any}
-use Rattle.cql_value.specs.declared.value.Value.{Value}
-use Rattle.cql_value.specs.declared.value.Value.TheVariants as value
+pub use Rattle.cql_value.specs.Schema.{type_of}
 use Rattle.cql_value.specs.declared.schema.ColumnType.{ColumnType}
 use Rattle.cql_value.specs.declared.schema.ColumnType.TheVariants.{Number, Text}
 use Rattle.cql_syntax.specs.declared.syntax.Query.{Query}
@@ -20,10 +19,6 @@ use Rattle.cql_plan.specs.Sources.{Readable}
 use Rattle.cql_plan.specs.Typing.{typing, is_empty}
 
 -- ---- expressions
-
-abbrev pub type_of : Value → ColumnType
-type_of (value.Number n) = Number
-type_of (value.Text t) = Text
 
 -- operations take numbers
 abbrev pub number_type : Option ColumnType → Option ColumnType → Option ColumnType

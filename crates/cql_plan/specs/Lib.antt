@@ -8,3 +8,4 @@ pub mod Sources
 pub mod Typing
 pub mod Law
 pub mod Fit
+pub mod Ports

@@ -4,6 +4,7 @@ use Rattle.cql_plan.specs.declared.node.OperatorKind.TheVariants.{Join, Shape, D
 use Rattle.cql_plan.specs.declared.plan.Branch.{Branch}
 use Rattle.cql_plan.specs.declared.plan.Planned.{Planned}
 use Rattle.cql_plan.specs.Node.{kind_of_node}
+use Rattle.cql_plan.specs.Ports.{ports, HavePorts}
 
 -- the nodes of a block are of the kinds of their places
 abbrev pub HasKinds : Branch → Type 0
@@ -18,4 +19,4 @@ abbrev pub IsFew : Planned → Type 0
 IsFew p = (1 ≤ length p.inputs) × (length p.inputs ≤ 6)
 
 abbrev pub IsPlan : Planned → Type 0
-IsPlan p = HasNodes p × IsFew p
+IsPlan p = HasNodes p × IsFew p × HavePorts p.inputs (ports p)

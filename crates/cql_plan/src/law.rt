@@ -4,6 +4,7 @@ ghost use Rattle.cql_plan.specs.Law.{
   IsFirstFaultLaw,
   IsQualifiedLaw,
 };
+ghost use Rattle.cql_plan.specs.Ports.{IsPortsLaw, IsPlainLaw};
 
 /// A written column means the one column of the joined row that it may mean; it is unknown where
 /// there is none, and ambiguous where there are two.
@@ -21,4 +22,16 @@ pub fn first_fault_law()
 /// alias before the dot is never ambiguous.
 pub fn qualified_law()
     ensures { IsQualifiedLaw }
+{}
+
+/// The inputs of a plan are streams that can be read, and each has a port of its own, with the
+/// types of the stream's columns.
+pub fn ports_law()
+    ensures { IsPortsLaw }
+{}
+
+/// The plan of a query of one block over one input, which says `*` and has no DISTINCT, WHERE and
+/// GROUP BY, shows all columns of all its input's rows.
+pub fn plain_law()
+    ensures { IsPlainLaw }
 {}

@@ -14,6 +14,7 @@ pub mod node;
 pub mod plan;
 mod resolution;
 mod row;
+mod same;
 mod source;
 mod typed;
 

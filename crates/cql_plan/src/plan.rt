@@ -1,9 +1,10 @@
 // What is computed for a query.
-ghost use Rattle.std.specs.Prelude.{◌≡◌, option_copied};
+ghost use Rattle.std.specs.Prelude.{◌≡◌, ◌↔◌, IsTrue, option_copied};
 ghost use Rattle.cql_plan.specs.Plan as spec;
+ghost use Rattle.cql_plan.specs.Ports.{ports, HavePorts};
 
 use crate::node::Node;
-use cql_value::{Items, Name};
+use cql_value::{Items, Name, Same};
 use cql_window::Window;
 use std::marker::Model;
 
@@ -115,10 +116,12 @@ impl Plan {
         Plan { planned }
     }
 
-    /// Its inputs, 1 to 6, in order: those of the first block, then those of the second.
+    /// Its inputs, 1 to 6, in order: those of the first block, then those of the second. Each
+    /// stands beside a port of a join, and parts by columns of it.
     pub fn inputs(&self) -> &[Input]
         ensures value { result.now ≡ self.now.inputs }
         ensures few { spec.IsFew self.now }
+        ensures ports { HavePorts self.now.inputs (ports self.now) }
     {
         self.planned.inputs.as_slice()
     }
@@ -152,5 +155,12 @@ impl Plan {
         ensures { result ≡ self.now.output }
     {
         self.planned.output
+    }
+
+    /// Whether both say the same. Takes no memory.
+    pub fn is_same(&self, other: &Plan) -> bool
+        ensures { IsTrue result ↔ (self.now ≡ other.now) }
+    {
+        self.planned.is_same(&other.planned)
     }
 }

@@ -10,7 +10,7 @@ pub enum StreamOperator {
 }
 
 /// What stands between two blocks.
-#[derive(Clone, Copy)]
+#[derive(Clone, Copy, PartialEq, Eq)]
 pub enum SetOperator {
     UnionAll,
     ExceptAll,
@@ -48,7 +48,7 @@ impl Drop for Constant {
 }
 
 /// What an expression does with two numbers.
-#[derive(Clone, Copy)]
+#[derive(Clone, Copy, PartialEq, Eq)]
 pub enum Operation {
     Add,
     Subtract,
@@ -161,7 +161,7 @@ impl Drop for Operand {
 }
 
 /// How two operands are compared.
-#[derive(Clone, Copy)]
+#[derive(Clone, Copy, PartialEq, Eq)]
 pub enum Comparison {
     Equal,
     Unequal,

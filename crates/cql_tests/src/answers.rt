@@ -1,82 +1,324 @@
-// Answers of pins that no script of lines reaches: windows with a slide, rows from before the
-// base, and a cursor behind the base.
+// Answers over rows in the content of the window, and rows from before the base, which no script
+// of lines can ask for.
+use crate::outputs::Numbers::{Rows, Signed};
 use crate::outputs::{Told, are_blocks};
-use cql_core::evaluate::answer;
-use cql_core::{Answer, OutputKind, Pin, Plan};
-use cql_plan::lookup::Lookup;
-use cql_plan::plan::Plan as Typed;
-use cql_plan::resolve;
-use cql_text::read;
-use cql_value::{Column, ColumnType, Name, Row, Schema, Text, Timed, Value};
-use cql_window::{Count, Length, Window};
+use crate::pins::{Asked, GREATEST, pin};
+use cql_eval::{Answer, answer};
 use std::alloc::Global;
-use std::sync::Arc;
 use std::test::Fail;
 
-// ISTREAM of a range over rows of one number, each with its time; the query begins at `base`, and
-// is asked for the instants from `from` to before `next`. It tells these blocks: their ends and
-// the numbers of their rows.
+// The rows 1 at 1 and 2 at 4, which are in the content, and 3 at 6, which isn't.
+const LATER: Asked = Asked {
+    text: "Select Istream(*) From s [Range 3]",
+    rows: &[(1, 1), (4, 2), (6, 3)],
+    settled: 2,
+    base: 0,
+    from: 5,
+    next: 12,
+    limit: 100,
+};
+
+// The same rows, where 1 comes again in the place of 3.
+const AGAIN: Asked = Asked {
+    rows: &[(1, 1), (4, 2), (6, 1)],
+    ..LATER
+};
+
+// Rows from before the base, none in the content.
+const BEFORE: Asked = Asked {
+    text: "Select Istream(*) From s [Range 2]",
+    rows: &[(5, 1), (7, 2)],
+    settled: 0,
+    base: 6,
+    from: 6,
+    next: 12,
+    limit: 100,
+};
+
+// What is asked is told these blocks.
 struct Case {
     what: &'static str,
-    length: u64,
-    slide: u64,
-    rows: &'static [(u64, i64)],
-    base: u64,
-    from: u64,
-    next: u64,
+    asked: Asked,
     blocks: &'static [Told],
 }
 
 const CASES: &[Case] = &[
     Case {
-        what: "what is there at the base is new there",
-        length: 2,
-        slide: 1,
-        rows: &[(5, 1)],
-        base: 6,
-        from: 6,
-        next: 12,
-        blocks: &[(6, 6, &[1])],
+        what: "what comes",
+        asked: LATER,
+        blocks: &[(6, 6, Rows(&[3]))],
     },
     Case {
-        what: "what was there at the base isn't new later",
-        length: 2,
-        slide: 1,
-        rows: &[(5, 1), (7, 2)],
-        base: 6,
-        from: 7,
-        next: 12,
-        blocks: &[(7, 7, &[2])],
+        what: "what goes, of the content too",
+        asked: Asked {
+            text: "Select Dstream(*) From s [Range 3]",
+            ..LATER
+        },
+        blocks: &[(5, 5, Rows(&[1])), (8, 8, Rows(&[2])), (10, 10, Rows(&[3]))],
+    },
+    Case {
+        what: "what is there, of the content too",
+        asked: Asked {
+            text: "Select Rstream(*) From s [Range 3]",
+            ..LATER
+        },
+        blocks: &[
+            (5, 5, Rows(&[2])),
+            (6, 7, Rows(&[2, 3])),
+            (8, 9, Rows(&[3])),
+        ],
+    },
+    Case {
+        what: "what comes and goes",
+        asked: Asked {
+            text: "Select * From s [Range 3]",
+            ..LATER
+        },
+        blocks: &[
+            (5, 5, Signed(&[], &[1])),
+            (6, 6, Signed(&[3], &[])),
+            (8, 8, Signed(&[], &[2])),
+            (10, 10, Signed(&[], &[3])),
+        ],
+    },
+    Case {
+        what: "what is there at the base comes there",
+        asked: Asked { base: 5, ..LATER },
+        blocks: &[(5, 5, Rows(&[2])), (6, 6, Rows(&[3]))],
+    },
+    Case {
+        what: "nothing goes at the base",
+        asked: Asked {
+            text: "Select Dstream(*) From s [Range 3]",
+            base: 5,
+            ..LATER
+        },
+        blocks: &[(8, 8, Rows(&[2])), (10, 10, Rows(&[3]))],
+    },
+    Case {
+        what: "what is there from the base on",
+        asked: Asked {
+            text: "Select Rstream(*) From s [Range 3]",
+            base: 5,
+            ..LATER
+        },
+        blocks: &[
+            (5, 5, Rows(&[2])),
+            (6, 7, Rows(&[2, 3])),
+            (8, 9, Rows(&[3])),
+        ],
+    },
+    Case {
+        what: "what comes and goes from the base on",
+        asked: Asked {
+            text: "Select * From s [Range 3]",
+            base: 5,
+            ..LATER
+        },
+        blocks: &[
+            (5, 5, Signed(&[2], &[])),
+            (6, 6, Signed(&[3], &[])),
+            (8, 8, Signed(&[], &[2])),
+            (10, 10, Signed(&[], &[3])),
+        ],
+    },
+    Case {
+        what: "a row goes and an equal one comes",
+        asked: Asked {
+            text: "Select Rstream(*) From s [Rows 2]",
+            ..AGAIN
+        },
+        blocks: &[(5, 11, Rows(&[1, 2]))],
+    },
+    Case {
+        what: "an equal row comes",
+        asked: Asked {
+            text: "Select Rstream(*) From s",
+            ..AGAIN
+        },
+        blocks: &[(5, 5, Rows(&[1, 2])), (6, 11, Rows(&[1, 1, 2]))],
+    },
+    Case {
+        what: "the row of a part goes and an equal one comes",
+        asked: Asked {
+            text: "Select Rstream(*) From s [Partition By v Rows 1]",
+            ..AGAIN
+        },
+        blocks: &[(5, 11, Rows(&[1, 2]))],
+    },
+    Case {
+        what: "a row goes and an equal one comes, from the base on",
+        asked: Asked {
+            text: "Select Rstream(*) From s [Rows 2]",
+            base: 5,
+            ..AGAIN
+        },
+        blocks: &[(5, 11, Rows(&[1, 2]))],
+    },
+    Case {
+        what: "an equal row comes, from the base on",
+        asked: Asked {
+            text: "Select Rstream(*) From s",
+            base: 5,
+            ..AGAIN
+        },
+        blocks: &[(5, 5, Rows(&[1, 2])), (6, 11, Rows(&[1, 1, 2]))],
+    },
+    Case {
+        what: "the row of a part goes and an equal one comes, from the base on",
+        asked: Asked {
+            text: "Select Rstream(*) From s [Partition By v Rows 1]",
+            base: 5,
+            ..AGAIN
+        },
+        blocks: &[(5, 11, Rows(&[1, 2]))],
+    },
+    Case {
+        what: "a row from before the base comes at the base",
+        asked: BEFORE,
+        blocks: &[(6, 6, Rows(&[1])), (7, 7, Rows(&[2]))],
+    },
+    Case {
+        what: "what was there at the base doesn't come later",
+        asked: Asked { from: 7, ..BEFORE },
+        blocks: &[(7, 7, Rows(&[2]))],
     },
     Case {
         what: "a base later than the rows",
-        length: 2,
-        slide: 1,
-        rows: &[(5, 1)],
-        base: 8,
-        from: 8,
-        next: 12,
+        asked: Asked {
+            rows: &[(5, 1)],
+            base: 8,
+            from: 8,
+            ..BEFORE
+        },
         blocks: &[],
     },
-    Case {
-        what: "a slide",
-        length: 3,
-        slide: 5,
-        rows: &[(1, 0), (4, 1), (6, 2)],
-        base: 0,
-        from: 0,
-        next: 20,
-        blocks: &[(5, 5, &[1])],
+];
+
+// At how many instants the relation is computed.
+struct Computed {
+    what: &'static str,
+    asked: Asked,
+    least: u64,
+    most: u64,
+}
+
+const TURNS: &[Computed] = &[
+    Computed {
+        what: "no row comes or goes",
+        asked: Asked {
+            text: "Select Istream(*) From s [Now]",
+            rows: &[],
+            settled: 0,
+            from: 0,
+            next: GREATEST + 1,
+            ..LATER
+        },
+        least: 1,
+        most: 1,
     },
-    Case {
-        what: "a slide and a longer range",
-        length: 4,
-        slide: 5,
-        rows: &[(1, 0), (4, 1), (6, 2)],
-        base: 0,
-        from: 0,
-        next: 20,
-        blocks: &[(5, 5, &[0, 1]), (10, 10, &[2])],
+    Computed {
+        what: "a row comes at the first instant and goes at the last",
+        asked: Asked {
+            text: "Select Istream(*) From s [Range 0 Slide 4611686018427387903]",
+            rows: &[(0, 1)],
+            settled: 0,
+            from: 0,
+            next: GREATEST + 1,
+            ..LATER
+        },
+        least: 2,
+        most: 3,
+    },
+    Computed {
+        what: "no instant is asked for",
+        asked: Asked { next: 5, ..LATER },
+        least: 0,
+        most: 0,
+    },
+    Computed {
+        what: "1 goes at 5, 3 comes at 6, 2 goes at 8, and 3 at 10",
+        asked: LATER,
+        least: 5,
+        most: 5,
+    },
+    Computed {
+        what: "each of three rows comes and goes once",
+        asked: Asked {
+            text: "Select Rstream(*) From s [Partition By v Rows 1]",
+            from: 0,
+            settled: 1,
+            ..AGAIN
+        },
+        least: 1,
+        most: 7,
+    },
+];
+
+// What differs from LATER in one thing.
+struct Other {
+    what: &'static str,
+    asked: Asked,
+}
+
+const OTHERS: &[Other] = &[
+    Other {
+        what: "the plan",
+        asked: Asked {
+            text: "Select Dstream(*) From s [Range 3]",
+            ..LATER
+        },
+    },
+    Other {
+        what: "the window",
+        asked: Asked {
+            text: "Select Istream(*) From s [Range 4]",
+            ..LATER
+        },
+    },
+    Other {
+        what: "the base",
+        asked: Asked { base: 1, ..LATER },
+    },
+    Other {
+        what: "the first instant",
+        asked: Asked { from: 6, ..LATER },
+    },
+    Other {
+        what: "the end",
+        asked: Asked { next: 11, ..LATER },
+    },
+    Other {
+        what: "the limit",
+        asked: Asked {
+            limit: 101,
+            ..LATER
+        },
+    },
+    Other {
+        what: "a row of the content",
+        asked: Asked {
+            rows: &[(1, 1), (4, 4), (6, 3)],
+            ..LATER
+        },
+    },
+    Other {
+        what: "the time of a row of the content",
+        asked: Asked {
+            rows: &[(1, 1), (3, 2), (6, 3)],
+            ..LATER
+        },
+    },
+    Other {
+        what: "a row behind the content",
+        asked: AGAIN,
+    },
+    Other {
+        what: "how many rows are in the content",
+        asked: Asked {
+            settled: 1,
+            ..LATER
+        },
     },
 ];
 
@@ -84,90 +326,56 @@ fn cases() -> &'static [Case] {
     CASES
 }
 
-// One stream, under any name.
-#[derive(Drop)]
-struct OneStream {
-    schema: Schema,
+fn turns() -> &'static [Computed] {
+    TURNS
 }
 
-impl Lookup for OneStream {
-    ghost use Rattle.std.specs.Prelude.{Some};
-
-    ghost readable = { λ l owner stream. Some l.schema };
-
-    fn schema(&self, _owner: Option<&str>, _stream: &str) -> Option<&Schema> {
-        Some(&self.schema)
-    }
+fn others() -> &'static [Other] {
+    OTHERS
 }
 
-fn schema(alloc: Global) -> Result<Schema, Fail> {
-    let name = Name::read(alloc, "v")?;
-    let kind = ColumnType::Number;
-    Ok(Schema::new(vec![in alloc; Column { name, kind }]?)?)
-}
-
-// What is planned of a query, of which an answer needs no more than that it is there.
-fn typed(alloc: Global, text: &str) -> Result<Typed, Fail> {
-    let schema = schema(alloc)?;
-    let syntax = read(alloc, text)?;
-    Ok(resolve(alloc, &syntax, &OneStream { schema })?)
-}
-
-fn window(case: &Case) -> Option<Window> {
-    Some(Window::Range {
-        length: Length::new(case.length)?,
-        slide: Count::new(case.slide)?,
-    })
-}
-
-fn plan(alloc: Global, window: Window) -> Result<Arc<Plan>, Fail> {
-    let stream = Name::read(alloc, "s")?;
-    let text = Text::new(alloc, "ISTREAM(SELECT * FROM s [NOW])")?;
-    let typed = typed(alloc, text.as_str())?;
-    let plan = Plan {
-        typed,
-        text,
-        stream,
-        window,
-        kind: OutputKind::Istream,
-    };
-    Ok(Arc::new(alloc, plan)?)
-}
-
-fn timed(alloc: Global, at: u64, number: i64) -> Result<Timed, Fail> {
-    let row = Row::new(vec![in alloc; Value::Number(number)]?);
-    Ok(Timed::new(at, Arc::new(alloc, row)?))
-}
-
-fn timed_rows(alloc: Global, rows: &[(u64, i64)]) -> Result<Vec<Timed>, Fail> {
-    let mut all = Vec::new(alloc);
-    for (at, number) in rows {
-        all.push(timed(alloc, *at, *number)?)?;
-    }
-    Ok(all)
-}
-
-fn answered(alloc: Global, case: &Case, window: Window) -> Result<Answer, Fail> {
-    let plan = plan(alloc, window)?;
-    let rows = timed_rows(alloc, case.rows)?;
-    let next = case.next.min(1_000);
-    let from = case.from.min(next);
-    let base = case.base.min(from);
-    Ok(answer(alloc, Pin::new(plan, base, from, next, rows))?)
+fn answered(alloc: Global, asked: &Asked) -> Result<Answer, Fail> {
+    Ok(answer(alloc, pin(alloc, asked)?)?)
 }
 
 fn is_told(alloc: Global, case: &Case) -> Result<bool, Fail> {
-    let Some(window) = window(case) else {
-        return Ok(false);
-    };
-    let answer = answered(alloc, case, window)?;
-    Ok(answer.next() == case.next && are_blocks(alloc, answer.blocks(), case.blocks)?)
+    let answer = answered(alloc, &case.asked)?;
+    Ok(answer.next() == case.asked.next && are_blocks(alloc, answer.blocks(), case.blocks)?)
+}
+
+fn takes(alloc: Global, turns: &Computed) -> Result<bool, Fail> {
+    let taken = answered(alloc, &turns.asked)?.turns();
+    Ok(turns.least <= taken && taken <= turns.most)
+}
+
+// Whether the answer to LATER has the pin of what is asked.
+fn has_pin(alloc: Global, asked: &Asked) -> Result<bool, Fail> {
+    let answer = answered(alloc, &LATER)?;
+    Ok(answer.has_pin(&pin(alloc, asked)?))
 }
 
 #[test]
 fn what_is_told(rt: HostRuntime) -> Result<(), Fail> {
     for case in cases() {
         assert!(rt; is_told(rt.alloc(), case)?, "{}", case.what);
+    }
+    Ok(())
+}
+
+#[test]
+fn how_often_it_is_computed(rt: HostRuntime) -> Result<(), Fail> {
+    for turns in turns() {
+        assert!(rt; takes(rt.alloc(), turns)?, "{}", turns.what);
+    }
+    Ok(())
+}
+
+// A pin that is made anew is the same.
+#[test]
+fn whose_pin_it_is(rt: HostRuntime) -> Result<(), Fail> {
+    assert!(rt; has_pin(rt.alloc(), &LATER)?);
+    for other in others() {
+        assert!(rt; !has_pin(rt.alloc(), &other.asked)?, "{}", other.what);
     }
     Ok(())
 }

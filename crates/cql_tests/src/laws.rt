@@ -2,6 +2,11 @@
 use cql_core::law::{
     alone_law, fetch_law, history_law, isolation_law, query_law, relation_law, reply_law, solo_law,
 };
+use cql_plan::law::{column_law, first_fault_law, plain_law, ports_law, qualified_law};
+use cql_syntax::reserved_law;
+use cql_text::read_law;
+use cql_value::law::types_law;
+use cql_window::laws::{all_law, held_law, parts_law, range_law, rows_law};
 
 #[test]
 fn laws() {
@@ -13,4 +18,17 @@ fn laws() {
     query_law();
     relation_law();
     alone_law();
+    column_law();
+    first_fault_law();
+    qualified_law();
+    ports_law();
+    plain_law();
+    reserved_law();
+    read_law();
+    types_law();
+    range_law();
+    rows_law();
+    all_law();
+    parts_law();
+    held_law();
 }

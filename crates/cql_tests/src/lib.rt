@@ -11,6 +11,8 @@ mod memory;
 #[cfg(test)]
 mod outputs;
 #[cfg(test)]
+mod pins;
+#[cfg(test)]
 mod reading;
 #[cfg(test)]
 mod tenants;

@@ -1,5 +1,5 @@
 // Commands where memory may run out.
-use crate::outputs::{Told, are_blocks};
+use crate::outputs::{Numbers, Told, are_blocks};
 use crate::tenants::table;
 use cql_core::{ColumnText, Command, Core, Refusal, Reply, TenantId, run, serve};
 use cql_value::{Items, Row, Text, Value};
@@ -19,7 +19,7 @@ const CALLS: &[(&str, Want)] = &[
     ("query", Want::Base(0)),
     ("put", Want::Done),
     ("beat", Want::Done),
-    ("fetch", Want::Blocks(&[(5, 5, &[1])], 9)),
+    ("fetch", Want::Blocks(&[(5, 5, Numbers::Rows(&[1]))], 9)),
 ];
 
 // The commands of a first run, and their replies.

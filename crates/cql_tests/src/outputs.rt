@@ -1,20 +1,39 @@
 // Outputs of rows of numbers, and blocks of them.
 use cql_core::{Block, Output};
 use cql_value::{Items, Row, Value};
-use std::alloc::Global;
+use std::alloc::{AllocError, Global};
 use std::test::Fail;
 
-// An output of rows of one number each.
-fn output(alloc: Global, numbers: &[i64]) -> Result<Output, Fail> {
+/// An output of rows of one number each.
+#[derive(Clone, Copy)]
+pub(crate) enum Numbers {
+    /// Rows.
+    Rows(&'static [i64]),
+    /// The rows that came, and those that went.
+    Signed(&'static [i64], &'static [i64]),
+}
+
+/// A block: its ends, and the numbers of its rows.
+pub(crate) type Told = (u64, u64, Numbers);
+
+fn rows(alloc: Global, numbers: &[i64]) -> Result<Items<Row>, AllocError> {
     let mut rows = Vec::new(alloc);
     for number in numbers {
         rows.push(Row::new(vec![in alloc; Value::Number(*number)]?))?;
     }
-    Ok(Output::Rows(Items::from_vec(rows)))
+    Ok(Items::from_vec(rows))
 }
 
-// A block: its ends, and the numbers of its rows.
-pub(crate) type Told = (u64, u64, &'static [i64]);
+fn output(alloc: Global, numbers: Numbers) -> Result<Output, AllocError> {
+    match numbers {
+        Numbers::Rows(numbers) => Ok(Output::Rows(rows(alloc, numbers)?)),
+        Numbers::Signed(plus, minus) => {
+            let plus = rows(alloc, plus)?;
+            let minus = rows(alloc, minus)?;
+            Ok(Output::Signed { plus, minus })
+        }
+    }
+}
 
 fn is_block(alloc: Global, block: &Block, told: &Told) -> Result<bool, Fail> {
     let wanted = output(alloc, told.2)?;

@@ -5,8 +5,10 @@
 //! its row.
 #![tactic(auto)]
 
+pub mod law;
 pub mod name;
 pub mod row;
+pub mod same;
 pub mod schema;
 #[cfg(test)]
 mod tests;
@@ -17,6 +19,7 @@ pub mod value;
 
 pub use name::{Name, NameError};
 pub use row::Row;
+pub use same::{Same, are_same};
 pub use schema::{BadColumns, Column, ColumnType, Schema, WrongRow};
 pub use sqlite_items::{Boxed, Items};
 pub use text::Text;

@@ -1,9 +1,13 @@
 pub mod Ends
-pub mod Elements
+pub mod Exchanges
+pub mod Kept
+pub mod Keys
 pub mod Language
 pub mod Law
 pub mod Moments
 pub mod Multiples
 pub mod Newest
 pub mod Places
+pub mod Segments
 pub mod Used
+pub mod Walked

@@ -1,6 +1,9 @@
-ghost use Rattle.std.specs.Prelude.{◌≡◌, ◌<◌, ◌^◌, [], ◌∷◌, IfOk};
+ghost use Rattle.std.specs.Prelude.{◌≡◌, ◌<◌, ◌^◌, [], ◌∷◌, IfOk, IsTrue, nat_le};
+ghost use Rattle.std.specs.List.{list_all};
+ghost use Rattle.cql_window.specs.declared.window.Window.TheVariants.{Parts};
+ghost use Rattle.cql_window.specs.Pin.{AreRows};
 
-use crate::{Count, Length, Window, WindowPin, changes, charge, split};
+use crate::{Count, Length, Moved, Walk, Window, WindowPin, changes, charge, split};
 use cql_value::{Items, Row, Text, Timed, Value};
 use std::alloc::Global;
 use std::sync::Arc;
@@ -159,5 +162,67 @@ fn a_range_of_the_greatest_slide_changes(rt: HostRuntime) -> Result<(), Fail> {
     let pin = WindowPin::new(window, Vec::new(alloc), alone(alloc, 0)?);
     assert!(rt; changes(alloc, &pin, 0, GREATEST + 1)?.as_slice() == [0, GREATEST].as_slice());
     assert!(rt; changes(alloc, &pin, 1, GREATEST)?.is_empty());
+    Ok(())
+}
+
+// Whether none of the rows came before the time.
+fn none_before(at: u64, rows: &[Timed]) -> bool
+    ensures { result ≡ list_all (λ row. nat_le at row.at) rows.now }
+{
+    rows.iter().all(|row| at <= row.at())
+}
+
+// Whether a window that parts by the second column may be pinned over these rows.
+fn are_rows(count: Count, rows: &[Timed]) -> bool
+    ensures { IsTrue result → AreRows (Parts (1 ∷ []) count) rows.now }
+{
+    let mut left = rows;
+    while let Some((first, later)) = left.split_first() {
+        let at = first.at();
+        if at > GREATEST || !none_before(at, later) || first.row().len() < 2 {
+            return false;
+        }
+        left = later;
+    }
+    true
+}
+
+// The pin of the last rows of each key, with the first rows in its content.
+fn pin_of_parts(
+    alloc: Global,
+    count: Count,
+    elements: &[(u64, &str)],
+    settled: usize,
+) -> Result<WindowPin, Fail> {
+    let columns = Items::from_slice(alloc, &[1])?;
+    let mut content = numbered(alloc, elements)?;
+    if !are_rows(count, &content) {
+        return Err(Fail::from("rows out of order"));
+    }
+    let unseen = content.split_off(settled.min(content.len()))?;
+    let window = Window::Parts { columns, count };
+    Ok(WindowPin::new(window, content, unseen))
+}
+
+// Whether the rows of these numbers came and left.
+fn has_moved(moved: &Moved, came: &[i64], left: &[i64]) -> bool {
+    are(&moved.came, came) && are(&moved.left, left)
+}
+
+// Of the last two rows of each key.
+#[test]
+fn a_walk_over_parts(rt: HostRuntime) -> Result<(), Fail> {
+    let alloc = rt.alloc();
+    let count = Count::new(2).ok_or("2")?;
+    let elements = [(1, "x"), (2, "y"), (3, "x"), (4, "x"), (6, "y"), (8, "x")];
+    let pin = pin_of_parts(alloc, count, &elements, 3)?;
+    let (walk, moved) = Walk::new(alloc, &pin).advance(alloc, 4)?;
+    assert!(rt; has_moved(&moved, &[0, 1, 2], &[]));
+    let (walk, moved) = walk.advance(alloc, 5)?;
+    assert!(rt; has_moved(&moved, &[3], &[0]));
+    let (walk, moved) = walk.advance(alloc, 6)?;
+    assert!(rt; has_moved(&moved, &[], &[]));
+    let (_walk, moved) = walk.advance(alloc, 9)?;
+    assert!(rt; has_moved(&moved, &[4, 5], &[2]));
     Ok(())
 }

@@ -3,7 +3,7 @@ use Rattle.std.proofs.Common.{◌≡◌, ℕ, inl, inr, List, [], ◌∷◌, ◌
 use Rattle.std.specs.Prelude.{map}
 use Rattle.std.proofs.lemmas.List.{map-append}
 use Rattle.cql_core.specs.declared.command.Command.{Command}
-use Rattle.cql_core.specs.declared.tenants.Tenant.{Tenant}
+use Rattle.cql_tenants.specs.declared.tenants.Tenant.{Tenant}
 use Rattle.cql_core.specs.Told.{no_memory}
 use Rattle.cql_core.specs.State.{State, opening}
 use Rattle.cql_core.specs.Machine.{reply_to, state_after}

@@ -12,7 +12,7 @@ use Rattle.cql_wire.specs.Text.{LineText, is_feed, HasNoFeed, line_found, lines_
 use Rattle.cql_wire.proofs.Splitting.{split-joined}
 use Rattle.cql_wire.specs.Reading.{Reading, finds}
 use Rattle.cql_wire.specs.Next.{Next, text_of}
-use Rattle.cql_core.specs.declared.tenants.Tenant.{Tenant}
+use Rattle.cql_tenants.specs.declared.tenants.Tenant.{Tenant}
 use Rattle.cql_wire.specs.declared.scripts.ScriptError.{ScriptError}
 use Rattle.cql_wire.specs.Script.{WholeLines, BeginsWith, IsOutputOf, WritesOutput}
 use Rattle.std.specs.Result.{IsErrAnd}

@@ -1,7 +1,7 @@
 -- The output of a script.
 use Rattle.std.specs.Prelude.{◌≡◌, ℕ, ◌⊎◌, List, [], ◌∷◌, ◌++◌, Ok, Err}
 use Rattle.cql_core.specs.declared.command.Command.{Command}
-use Rattle.cql_core.specs.declared.tenants.Tenant.{Tenant}
+use Rattle.cql_tenants.specs.declared.tenants.Tenant.{Tenant}
 use Rattle.cql_core.specs.Told.{Told, no_memory}
 use Rattle.cql_core.specs.State.{nothing_made}
 use Rattle.cql_core.specs.View.{view}

@@ -3,7 +3,7 @@ use Rattle.std.specs.Prelude.{◌≡◌, ℕ, Bool, true, List, [], ◌∷◌, �
 use Rattle.std.specs.List.{filter_map}
 use Rattle.std.specs.Io.{StartsWith}
 use Rattle.std.specs.Io.KnownBytes.{Appends}
-use Rattle.cql_core.specs.declared.tenants.Tenant.{Tenant}
+use Rattle.cql_tenants.specs.declared.tenants.Tenant.{Tenant}
 use Rattle.cql_wire.specs.declared.scripts.ScriptError.{ScriptError}
 use Rattle.cql_wire.specs.declared.scripts.ScriptError.TheVariants.{Read, Write, NoMemory}
 use Rattle.cql_wire.specs.Asked.{asked_of}

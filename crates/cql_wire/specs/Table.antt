@@ -2,9 +2,9 @@
 use Rattle.std.specs.Prelude.{◌≡◌, ⊤, ℕ, List, [], ◌∷◌, codes, if◌then◌else◌, Option, Some, None, option_map, option_and_then, Result, Ok, Err}
 use Rattle.serde_json.specs.Data.{Data}
 use Rattle.cql_value.specs.Name.{is_name}
-use Rattle.cql_core.specs.declared.tenants.Quotas.{Quotas}
-use Rattle.cql_core.specs.declared.tenants.Tenant.{Tenant}
-use Rattle.cql_core.specs.Tenants.{is_table}
+use Rattle.cql_tenants.specs.declared.tenants.Quotas.{Quotas}
+use Rattle.cql_tenants.specs.declared.tenants.Tenant.{Tenant}
+use Rattle.cql_tenants.specs.Tenants.{is_table}
 use Rattle.cql_wire.specs.declared.tenants.TenantsFault.{TenantsFault}
 use Rattle.cql_wire.specs.declared.tenants.TenantsFault.TheVariants.{Refused, NoMemory}
 use Rattle.cql_wire.specs.Tree.{tree_of, text_at, whole_at, array_at, has_only, all_of}

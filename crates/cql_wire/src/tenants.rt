@@ -1,7 +1,7 @@
 //! The table of tenants that a line gives.
 ghost use Rattle.std.specs.Prelude.{◌≡◌, map, if◌then◌else◌, Some, None, IfOk, Ok, Err};
 ghost use Rattle.serde_json.specs.View.{view, items_view};
-ghost use Rattle.cql_core.specs.Tenants.{is_table};
+ghost use Rattle.cql_tenants.specs.Tenants.{is_table};
 ghost use Rattle.cql_wire.specs.Tree.{all_of};
 ghost use Rattle.cql_wire.specs.Table.{quotas_of, name_of, tenant_of, tenants_of, table_of, Gives};
 

@@ -1,6 +1,6 @@
 -- What a run of the program leaves behind.
 use Rattle.std.specs.Prelude.{◌≡◌, ◌⊎◌, ◌≤◌, ◌<◌, ◌+◌, ◌^◌, ⊤, ℕ, Bool, true, List, Option, Some, None, Result, Ok, Err}
-use Rattle.cql_core.specs.declared.tenants.Tenant.{Tenant}
+use Rattle.cql_tenants.specs.declared.tenants.Tenant.{Tenant}
 use Rattle.cql_wire.specs.First.{IsFirstLine, PassedOfFirst}
 use Rattle.cql_wire.specs.Table.{table_of}
 use Rattle.cql_wire.specs.Script.{Answers}

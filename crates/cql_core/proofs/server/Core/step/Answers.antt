@@ -28,7 +28,7 @@ stepping c =
     }
 
 pub invariant_of-self : goal.invariant_of-self
-invariant_of-self c = sound_then _ _ _ _ _ _ _ _ _ (stepping c) c.self.invariant
+invariant_of-self c = sound_then c.ports_law.ensures c.plain_law.ensures _ _ _ _ _ _ _ _ _ (stepping c) c.self.invariant
 
 pub returns-clause-steps : goal.returns-clause-steps
 returns-clause-steps c =

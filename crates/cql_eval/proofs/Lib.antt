@@ -1,0 +1,4 @@
+mod Differences
+mod Exchange
+mod Quiet
+mod Windows

@@ -1,0 +1,7 @@
+use Rattle.std.proofs.Common.{◌≡◌, drop}
+use Rattle.cql_eval.specs.Shown.{rows_of, less_rows}
+use Rattle.cql_eval.proofs.bags.take_rows.Given as goal
+
+-- the rows that are left make the whole
+abbrev pub invariant-loop-element : goal.invariant-loop-element
+invariant-loop-element l = less_rows (rows_of (drop l.element-index l.elements)) l.bag ≡ less_rows (rows_of l.elements) l.fn.bag

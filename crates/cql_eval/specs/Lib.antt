@@ -1,0 +1,4 @@
+pub mod Answer
+pub mod Pin
+pub mod Relation
+pub mod Shown

@@ -1,0 +1,135 @@
+// What an answer is made of.
+ghost use Rattle.std.specs.Prelude.{◌≡◌, ◌↔◌, ◌≤◌, ◌^◌, IsTrue};
+ghost use Rattle.std.specs.Arc.{arc_value};
+ghost use Rattle.cql_eval.specs.Pin.{IsPin};
+
+use cql_plan::Plan;
+use cql_value::are_same;
+use cql_window::WindowPin;
+use std::marker::Model;
+use std::sync::Arc;
+
+/// A query with the rows of its inputs that its windows need, and the instants that are asked for.
+/// It shares its plan and its rows with what it was taken out of.
+pub struct Pin {
+    plan: Arc<Plan>,
+    base: u64,
+    from: u64,
+    next: u64,
+    limit: u64,
+    windows: Vec<WindowPin>,
+}
+
+impl Drop for Pin {
+    fn drop(self) {
+        let Pin {
+            plan: _,
+            base: _,
+            from: _,
+            next: _,
+            limit: _,
+            windows: _,
+        } = self;
+    }
+}
+
+impl Model for Pin {
+    ghost use Rattle.cql_plan.specs.contracts.expr.Expr as expr;
+    ghost use Rattle.cql_plan.specs.contracts.condition.Condition as condition;
+    ghost use Rattle.std.specs.Coded.{codes};
+    ghost use Rattle.std.specs.Arc.{arc_value};
+    ghost use Rattle.cql_eval.specs.Pin.{PinSeen, IsPin};
+
+    ghost Value = { PinSeen };
+
+    ghost coded = { Prim.hlevel (codes, expr.the_row.coded, condition.the_row.coded) };
+
+    ghost view = { λ p. record { plan = arc_value p.plan; base = p.base; from = p.from; next = p.next; limit = p.limit; windows = p.windows.items } };
+
+    ghost invariant = { λ p. IsPin (record { plan = arc_value p.plan; base = p.base; from = p.from; next = p.next; limit = p.limit; windows = p.windows.items }) };
+}
+
+impl Pin {
+    /// The query of this plan, whose relation is empty before the instant `base` and whose joined
+    /// bags have at most `limit` rows, asked for the instants from `from` to before `next`, over
+    /// one window for each input of the plan. Instants are in ticks.
+    pub fn new(
+        plan: Arc<Plan>,
+        base: u64,
+        from: u64,
+        next: u64,
+        limit: u64,
+        windows: Vec<WindowPin>,
+    ) -> Pin
+        requires { IsPin (record { plan = arc_value plan; base = base; from = from; next = next; limit = limit; windows = windows.items }) }
+        ensures { result ≡ record { plan = arc_value plan; base = base; from = from; next = next; limit = limit; windows = windows.items } }
+    {
+        Pin {
+            plan,
+            base,
+            from,
+            next,
+            limit,
+            windows,
+        }
+    }
+
+    /// What the query computes.
+    pub fn plan(&self) -> &Plan
+        ensures value { result.now ≡ self.now.plan }
+        ensures pin { IsPin self.now }
+    {
+        &self.plan
+    }
+
+    /// The first instant of the query's relation, in ticks.
+    pub fn base(&self) -> u64
+        ensures { result ≡ self.now.base }
+    {
+        self.base
+    }
+
+    /// The first instant that is asked for, in ticks.
+    pub fn from(&self) -> u64
+        ensures value { result ≡ self.now.from }
+        ensures pin { IsPin self.now }
+    {
+        self.from
+    }
+
+    /// The instant after the last that is asked for, in ticks.
+    pub fn next(&self) -> u64
+        ensures value { result ≡ self.now.next }
+        ensures bound { result ≤ 2 ^ 62 }
+    {
+        self.next
+    }
+
+    /// How many rows a joined bag of the query may have.
+    pub fn limit(&self) -> u64
+        ensures { result ≡ self.now.limit }
+    {
+        self.limit
+    }
+
+    /// The windows, one for each input of the plan, in order.
+    pub fn windows(&self) -> &[WindowPin]
+        ensures value { result.now ≡ self.now.windows }
+        ensures pin { IsPin self.now }
+    {
+        self.windows.as_slice()
+    }
+
+    /// Whether it is that pin: the same plan, instants and limit, over the same windows. Takes no
+    /// memory.
+    pub fn is_same(&self, other: &Pin) -> bool
+        ensures { IsTrue result ↔ (self.now ≡ other.now) }
+    {
+        self.base == other.base
+            && self.from == other.from
+            && self.next == other.next
+            && self.limit == other.limit
+            && are_same(&self.windows, &other.windows)
+            && self.plan.is_same(&other.plan)
+    }
+}

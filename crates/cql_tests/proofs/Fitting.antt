@@ -1,0 +1,51 @@
+-- Rows of one number, in order of their times, fit each window that parts by that number at most.
+use Rattle.std.proofs.Common.{◌≡◌, ℕ, ◌≤◌, ◌<◌, ◌^◌, Bool, true, false, ◌&&◌, List, [], ◌∷◌, length, nat_le, refl, sym, ap, subst, ◌∙◌, arith}
+use Rattle.std.specs.List.{AllByRecursion, list_all}
+use Rattle.std.proofs.lemmas.Bool.{leb-true}
+use Rattle.std.proofs.lemmas.List.{length-map}
+use Rattle.cql_value.specs.declared.value.Value.{Value}
+use Rattle.cql_value.specs.Element.{Element}
+use Rattle.cql_value.specs.Schema.{type_of, HasTypes}
+use Rattle.cql_window.specs.declared.window.Window.{Window}
+use Rattle.cql_window.specs.declared.window.Window.TheVariants.{Range, Rows, All as all, Parts}
+use Rattle.cql_window.specs.Pin.{HasColumns, AreRows}
+use Rattle.cql_plan.specs.Ports.{PartsAmong}
+use Rattle.cql_tests.specs.Pins.{one_number, AreFit}
+
+all_weaker : {A : Type 0} (P Q : A → Type 0) → ((x : A) → P x → Q x) → (xs : List A) → AllByRecursion P xs → AllByRecursion Q xs
+all_weaker P Q weaker [] each = tt
+all_weaker P Q weaker (x ∷ xs) each = (weaker x each.0, all_weaker P Q weaker xs each.1)
+
+-- ---- rows
+
+both : (a b : Bool) → (a && b) ≡ true → (a ≡ true) × (b ≡ true)
+both true b h = (refl, h)
+both false b h = absurd cc
+
+none_below : (at : ℕ) (xs : List Element) → list_all (λ x. nat_le at x.at) xs ≡ true → AllByRecursion (λ x. at ≤ x.at) xs
+none_below at [] h = tt
+none_below at (x ∷ xs) h =
+    let here = both (nat_le at x.at) (list_all (λ (y : Element). nat_le at y.at) xs) h in
+    (leb-true at x.at here.0, none_below at xs here.1)
+
+-- one row before others
+pub fit_cons : (x : Element) (xs rows : List Element) (at : ℕ) (row : List Value) → rows ≡ x ∷ xs → at ≡ x.at → row ≡ x.row
+    → at < 2 ^ 62 → list_all (λ y. nat_le at y.at) xs ≡ true → HasTypes one_number row → AreFit xs → AreFit rows
+fit_cons x xs rows at row split time values instant first typed fit =
+    let later : list_all (λ (y : Element). nat_le x.at y.at) xs ≡ true = ap (λ t. list_all (λ (y : Element). nat_le t y.at) xs) (sym time) ∙ first in
+    subst AreFit (sym split) (record {
+      ascending = (none_below x.at xs later, fit.ascending);
+      instants = (omega (arith, time, instant), fit.instants);
+      typed = (subst (HasTypes one_number) values typed, fit.typed);
+    })
+
+has_columns : (w : Window) (x : Element) → PartsAmong w one_number → HasTypes one_number x.row → HasColumns w x
+has_columns (Range len slide) x among typed = tt
+has_columns (Rows count slide) x among typed = tt
+has_columns all x among typed = tt
+has_columns (Parts places count) x among typed =
+    let same : length x.row ≡ 1 = sym (length-map x.row type_of) ∙ ap length typed in
+    all_weaker (λ (i : ℕ). i < 1) (λ (i : ℕ). i < length x.row) (λ i h. omega (arith, h, same)) places among
+
+pub are_rows : (w : Window) (xs : List Element) → PartsAmong w one_number → AreFit xs → AreRows w xs
+are_rows w xs among fit = (fit.ascending, fit.instants, all_weaker (λ (x : Element). HasTypes one_number x.row) (HasColumns w) (λ x h. has_columns w x among h) xs fit.typed)

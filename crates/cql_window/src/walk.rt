@@ -1,0 +1,185 @@
+// A walk over the rows of a pin.
+ghost use Rattle.std.specs.Prelude.{◌≡◌, ◌≤◌, ◌+◌, ◌++◌, List, [], take, length, IfOk, OnOk};
+ghost use Rattle.std.specs.List.{AllByRecursion};
+ghost use Rattle.cql_value.specs.Element.{Element};
+ghost use Rattle.cql_window.specs.declared.window.Window.TheVariants.{Parts};
+ghost use Rattle.cql_window.specs.Laws.{between};
+ghost use Rattle.cql_window.specs.Pin.{HasColumns};
+ghost use Rattle.cql_window.specs.Places.{AreUpTo};
+ghost use Rattle.cql_window.specs.Queues.{AreQueued};
+ghost use Rattle.cql_window.specs.Window.{content, last_of_parts};
+ghost use Rattle.cql_window.specs.Walk.{IsExchange};
+
+use crate::amount::Count;
+use crate::pin::WindowPin;
+use crate::place::{Places, segment};
+use crate::queues::Queues;
+use crate::window::Window;
+use cql_value::{Timed, copies_of};
+use std::alloc::{AllocError, Global};
+use std::marker::Model;
+
+/// The rows that came into a window and those that left it, from one cursor to another.
+#[derive(Drop)]
+pub struct Moved {
+    /// The rows that came.
+    pub came: Vec<Timed>,
+    /// The rows that left.
+    pub left: Vec<Timed>,
+}
+
+/// Goes from cursor to cursor over the rows of a pin: each row comes once and leaves once.
+pub struct Walk<'a> {
+    pin: &'a WindowPin,
+    cursor: u64,
+    places: Places,
+    queues: Queues,
+}
+
+impl<'a> Drop for Walk<'a> {
+    fn drop(self) {
+        let Walk {
+            pin: _,
+            cursor: _,
+            places: _,
+            queues: _,
+        } = self;
+    }
+}
+
+impl<'a> Model for Walk<'a> {
+    ghost use Rattle.std.specs.Prelude.{◌++◌};
+    ghost use Rattle.cql_window.specs.Walk.{Walked};
+    ghost use Rattle.cql_window.specs.Places.{held_between, IsReached};
+
+    ghost Value = { Walked };
+
+    ghost view = { λ w. record { pin = w.pin.now; cursor = w.cursor; held = held_between w.pin.now.window w.places (w.pin.now.content ++ w.pin.now.unseen) } };
+
+    ghost invariant = { λ w. IsReached w.pin.now w.cursor w.places w.queues };
+}
+
+impl<'a> Walk<'a> {
+    /// Before the first row.
+    pub fn new(alloc: Global, pin: &'a WindowPin) -> Walk<'a>
+        ensures { result ≡ record { pin = pin.now; cursor = 0; held = [] } }
+    {
+        Walk {
+            pin,
+            cursor: 0,
+            places: Places::start(),
+            queues: Queues::new(alloc),
+        }
+    }
+
+    /// The walk up to a cursor that isn't below the one that it reached, and the rows that came
+    /// and left on the way: the window then holds its content at the cursor. A row that came and
+    /// left on the way may be among both. Without memory the walk is gone.
+    pub fn advance(self, alloc: Global, cursor: u64) -> Result<(Walk<'a>, Moved), AllocError>
+        requires { self.cursor ≤ cursor }
+        ensures pin { IfOk result (λ r. r.0.pin ≡ self.entry.pin) }
+        ensures cursor { IfOk result (λ r. r.0.cursor ≡ cursor) }
+        ensures held { IfOk result (λ r. r.0.held ≡ content self.entry.pin.window cursor self.entry.pin.content self.entry.pin.unseen) }
+        ensures moved { IfOk result (λ r. IsExchange self.entry.held r.1.came.items r.1.left.items r.0.held) }
+    {
+        let Walk {
+            pin,
+            cursor: _,
+            places: from,
+            mut queues,
+        } = self;
+        let to = from.at(pin, cursor);
+        let moved = match pin.window() {
+            Window::Parts { columns, count } => {
+                let columns = columns.as_slice();
+                come(alloc, pin, columns, *count, &mut queues, from.high, to.high)?
+            }
+            _ => slide(alloc, pin, from, to)?,
+        };
+        let walk = Walk {
+            pin,
+            cursor,
+            places: to,
+            queues,
+        };
+        Ok((walk, moved))
+    }
+}
+
+// The rows from one place to another. They are shared.
+fn rows_between(
+    alloc: Global,
+    pin: &WindowPin,
+    from: usize,
+    to: usize,
+) -> Result<Vec<Timed>, AllocError>
+    requires order { from ≤ to }
+    requires within { to ≤ length pin.now.content + length pin.now.unseen }
+    ensures { IfOk result (λ r. r.items ≡ between from to (pin.now.content ++ pin.now.unseen)) }
+{
+    let (first, second) = segment(pin.content(), pin.unseen(), from, to);
+    let mut rows = copies_of(alloc, first)?;
+    let mut more = copies_of(alloc, second)?;
+    rows.append(&mut more)?;
+    Ok(rows)
+}
+
+// What comes and leaves where a window without parts goes from some places to later ones.
+fn slide(alloc: Global, pin: &WindowPin, from: Places, to: Places) -> Result<Moved, AllocError>
+    requires rising { AreUpTo from to }
+    requires order { from.low ≤ from.high }
+    requires order_then { to.low ≤ to.high }
+    requires within { to.high ≤ length pin.now.content + length pin.now.unseen }
+    ensures { IfOk result (λ m. IsExchange (between from.low from.high (pin.now.content ++ pin.now.unseen)) m.came.items m.left.items (between to.low to.high (pin.now.content ++ pin.now.unseen))) }
+{
+    let came = rows_between(alloc, pin, to.low.max(from.high), to.high)?;
+    let left = rows_between(alloc, pin, from.low, to.low.min(from.high))?;
+    Ok(Moved { came, left })
+}
+
+// The rows that leave a window of parts where these rows come, one after another.
+fn pushed_out(
+    alloc: Global,
+    columns: &[usize],
+    count: Count,
+    queues: &mut Queues,
+    rows: &[Timed],
+) -> Result<Vec<Timed>, AllocError>
+    requires { AllByRecursion (HasColumns (Parts columns.now count)) rows.now }
+    ensures queued { OnOk result ((came : List Element) → AreQueued columns.now count came queues.old → AreQueued columns.now count (came ++ rows.now) queues.new) }
+    ensures left { IfOk result (λ left. (came : List Element) → AreQueued columns.now count came queues.old → IsExchange (last_of_parts columns.now count came) rows.now left.items (last_of_parts columns.now count (came ++ rows.now))) }
+{
+    let mut left = Vec::new(alloc);
+    for row in rows {
+        if let Some(gone) = queues.come(alloc, columns, count, row)? {
+            left.push(gone)?;
+        }
+    }
+    Ok(left)
+}
+
+// What comes and leaves where a window of parts goes from one place to another: its queues are then
+// those of the rows that came.
+fn come(
+    alloc: Global,
+    pin: &WindowPin,
+    columns: &[usize],
+    count: Count,
+    queues: &mut Queues,
+    from: usize,
+    to: usize,
+) -> Result<Moved, AllocError>
+    requires window { pin.now.window ≡ Parts columns.now count }
+    requires queued { AreQueued columns.now count (take from (pin.now.content ++ pin.now.unseen)) queues.old }
+    requires order { from ≤ to }
+    requires within { to ≤ length pin.now.content + length pin.now.unseen }
+    ensures queued { OnOk result (AreQueued columns.now count (take to (pin.now.content ++ pin.now.unseen)) queues.new) }
+    ensures moved { IfOk result (λ m. IsExchange (last_of_parts columns.now count (take from (pin.now.content ++ pin.now.unseen))) m.came.items m.left.items (last_of_parts columns.now count (take to (pin.now.content ++ pin.now.unseen)))) }
+{
+    let (first, second) = segment(pin.content(), pin.unseen(), from, to);
+    let mut left = pushed_out(alloc, columns, count, queues, first)?;
+    let mut more = pushed_out(alloc, columns, count, queues, second)?;
+    left.append(&mut more)?;
+    let came = rows_between(alloc, pin, from, to)?;
+    Ok(Moved { came, left })
+}

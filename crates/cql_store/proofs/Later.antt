@@ -1,0 +1,242 @@
+-- A stub's places at a later cursor.
+use Rattle.std.proofs.Common.{◌≡◌, ℕ, ◌+◌, ◌-◌, ◌≤◌, Bool, false, List, [], ◌++◌, length, take, drop, nat_lt, nat_le, refl, subst, sym, ap, ◌∙◌, arith, cond, length-append, length-drop, append_assoc, ◌⊎◌, inl, inr}
+use Rattle.std.specs.List.{filter, prefix_len}
+use Rattle.std.proofs.Math.Seq.{take-add}
+use Rattle.std.proofs.lemmas.List.{drop-drop, drop-take, length-take, take-append-drop, append-nil, take_all}
+use Rattle.std.proofs.lemmas.List.Sums.{prefix_len-le-length}
+use Rattle.cql_value.specs.Element.{Element}
+use Rattle.cql_window.specs.declared.window.Window.{Window}
+use Rattle.cql_window.specs.declared.window.Window.TheVariants.{Range, Rows, All as all, Parts}
+use Rattle.cql_window.specs.Laws.{HasNoParts}
+use Rattle.cql_window.specs.Pin.{AreRows}
+use Rattle.cql_window.specs.Places.{end_in, whole_slides}
+use Rattle.cql_window.specs.Window.{AreAscending, front_len, kept, content, beyond, count_before}
+use Rattle.cql_window.proofs.Ends.{before_mono, before_rest, end_mono}
+use Rattle.cql_window.proofs.Law.{kept_le}
+use Rattle.cql_window.proofs.Places.{range_between}
+use Rattle.cql_store.proofs.Fit.{asc_take, fit_drop, fit_behind, fit_front, fit_newest}
+use Rattle.cql_store.proofs.Keeps.{whole}
+use Rattle.cql_store.specs.declared.stub.Stub.{Stub}
+use Rattle.cql_store.specs.Held.{advanced, HasParts, IsKeptFor, IsReady, pinned}
+use Rattle.cql_store.specs.Places.{shown, IsSound, IsKept}
+
+-- ---- counting
+
+end_later : (w : Window) (c t : ℕ) → c ≤ t → end_in w c ≤ end_in w t
+end_later (Range len slide) c t le = end_mono slide c t le
+end_later (Rows count slide) c t le = le
+end_later all c t le = le
+end_later (Parts columns count) c t le = le
+
+-- from the place that was counted to on, the count goes on
+pub counted_on : (rows : List Element) (spare to : ℕ) (s : Stub) → IsSound rows spare s → s.cursor ≤ to → s.counted + count_before (end_in s.window to) (drop s.counted rows) ≡ s.seen + count_before (end_in s.window to) (drop s.seen rows)
+counted_on rows spare to s is le =
+    let end : ℕ = end_in s.window to in
+    let k : ℕ = s.counted - s.seen in
+    let more : count_before (end_in s.window s.cursor) (drop s.seen rows) ≤ count_before end (drop s.seen rows) = before_mono _ _ (drop s.seen rows) (end_later s.window s.cursor to le) in
+    let rest : count_before end (drop s.seen rows) ≡ k + count_before end (drop k (drop s.seen rows)) = before_rest end k (drop s.seen rows) (omega (arith, more, is.known)) in
+    let at : s.seen + k ≡ s.counted = omega (arith, is.counted) in
+    let same : drop k (drop s.seen rows) ≡ drop s.counted rows = drop-drop k s.seen rows ∙ ap (λ n. drop n rows) at in
+    omega (arith, rest, at, ap (count_before end) same)
+
+-- of the rows that came before the end, a window sees whole slides
+pub front_counted : (w : Window) (to : ℕ) (xs : List Element) → whole_slides w (count_before (end_in w to) xs) ≡ front_len w to xs
+front_counted (Range len slide) to xs = refl
+front_counted (Rows count slide) to xs = refl
+front_counted all to xs = refl
+front_counted (Parts columns count) to xs = refl
+
+-- what is counted beyond the front came before the end
+known_on : (w : Window) (rows : List Element) (to seen counted ahead : ℕ) → counted ≡ seen + count_before (end_in w to) (drop seen rows) → seen + ahead ≤ counted → counted - (seen + ahead) ≤ count_before (end_in w to) (drop (seen + ahead) rows)
+known_on w rows to seen counted ahead is within =
+    let end : ℕ = end_in w to in
+    let few : ahead ≤ count_before end (drop seen rows) = omega (arith, is, within) in
+    let rest : count_before end (drop seen rows) ≡ ahead + count_before end (drop ahead (drop seen rows)) = before_rest end ahead (drop seen rows) few in
+    omega (arith, rest, is, ap (count_before end) (drop-drop ahead seen rows))
+
+-- ---- the stretch of a stub
+
+-- the rows that a stub sees, joined
+seen_joined : (rows : List Element) (first seen ahead : ℕ) → first ≤ seen → take (seen - first) (drop first rows) ++ take ahead (drop seen rows) ≡ take (seen + ahead - first) (drop first rows)
+seen_joined rows first seen ahead order =
+    let k : ℕ = seen - first in
+    let rest : drop seen rows ≡ drop k (drop first rows) = sym (drop-drop k first rows ∙ ap (λ n. drop n rows) (omega arith)) in
+    ap (λ l. take k (drop first rows) ++ take ahead l) rest
+    ∙ sym (take-add k ahead (drop first rows))
+    ∙ ap (λ n. take n (drop first rows)) (omega arith)
+
+drop_taken : (k m : ℕ) (xs : List Element) → k ≤ m → drop k (take m xs) ≡ take (m - k) (drop k xs)
+drop_taken k m xs le = ap (λ n. drop k (take n xs)) (omega arith) ∙ drop-take k (m - k) xs
+
+-- a stub at a cursor
+abbrev pub moved_to : ℕ → List Element → ℕ → ℕ → ℕ → Stub → Stub
+moved_to to k counted ahead gone s = record s { kept = k; cursor = to; counted = counted; first = s.first + gone; seen = s.seen + ahead }
+
+-- a stub that holds a stretch of the rows and nothing of its own
+gone_to : (rows : List Element) (to counted ahead gone : ℕ) (s : Stub) → s.kept ≡ [] → s.overrun ≡ false → s.first ≤ s.seen → ahead ≡ front_len s.window to (drop s.seen rows) → gone ≤ s.seen + ahead - s.first → kept s.window to (take (s.seen + ahead - s.first) (drop s.first rows)) ≡ drop gone (take (s.seen + ahead - s.first) (drop s.first rows)) → shown rows (moved_to to s.kept counted ahead gone s) ≡ advanced to (shown rows s)
+gone_to rows to counted ahead gone s none live order is bound keeps =
+    let stretch : List Element = take (s.seen + ahead - s.first) (drop s.first rows) in
+    let size : s.seen + ahead - (s.first + gone) ≡ s.seen + ahead - s.first - gone = omega (arith, bound) in
+    let new : take (s.seen + ahead - (s.first + gone)) (drop (s.first + gone) rows) ≡ drop gone stretch =
+    (λ i. take (size i) (sym (drop-drop gone s.first rows) i)) ∙ sym (drop_taken gone (s.seen + ahead - s.first) (drop s.first rows) bound) in
+    let joined : take (s.seen - s.first) (drop s.first rows) ++ take (front_len s.window to (drop s.seen rows)) (drop s.seen rows) ≡ stretch = ap (λ n. take (s.seen - s.first) (drop s.first rows) ++ take n (drop s.seen rows)) (sym is) ∙ seen_joined rows s.first s.seen ahead order in
+    let now_content : s.kept ++ take (s.seen + ahead - (s.first + gone)) (drop (s.first + gone) rows) ≡ content s.window to (s.kept ++ take (s.seen - s.first) (drop s.first rows)) (drop s.seen rows) =
+    (λ i. none i ++ new i) ∙ sym keeps ∙ ap (kept s.window to) (sym joined) ∙ (λ i. kept s.window to ((sym none i ++ take (s.seen - s.first) (drop s.first rows)) ++ take (front_len s.window to (drop s.seen rows)) (drop s.seen rows))) in
+    let now_unseen : drop (s.seen + ahead) rows ≡ beyond s.window to (drop s.seen rows) = sym (drop-drop ahead s.seen rows) ∙ ap (λ n. drop n (drop s.seen rows)) is in
+    grind (arith, live, now_content, now_unseen)
+
+plain_none : (w : Window) (kept : List Element) (first seen : ℕ) → HasNoParts w → IsKept w kept first seen → kept ≡ []
+plain_none (Range l s) kept first seen plain is = is
+plain_none (Rows n s) kept first seen plain is = is
+plain_none all kept first seen plain is = is
+plain_none (Parts columns n) kept first seen plain is = absurd plain
+
+none_plain : (w : Window) (kept : List Element) (first seen : ℕ) → HasNoParts w → kept ≡ [] → IsKept w kept first seen
+none_plain (Range l s) kept first seen plain is = is
+none_plain (Rows n s) kept first seen plain is = is
+none_plain all kept first seen plain is = is
+none_plain (Parts columns n) kept first seen plain is = absurd plain
+
+pub own_none : (rows : List Element) (spare : ℕ) (s : Stub) → HasNoParts s.window → IsSound rows spare s → s.kept ≡ []
+own_none rows spare s plain is = plain_none s.window s.kept s.first s.seen plain is.kept
+
+gone_sound : (rows : List Element) (spare to counted ahead gone : ℕ) (s : Stub) → HasNoParts s.window → IsSound rows spare s → counted ≡ s.seen + count_before (end_in s.window to) (drop s.seen rows) → counted ≤ length rows → s.seen + ahead ≤ counted → gone ≤ s.seen + ahead - s.first → IsSound rows spare (moved_to to s.kept counted ahead gone s)
+gone_sound rows spare to counted ahead gone s plain is count within order bound =
+    let none : s.kept ≡ [] = own_none rows spare s plain is in
+    let fit : AreRows s.window (drop s.first rows) = fit_behind s.window s.kept (drop s.first rows) is.fit in
+    let less : AreRows s.window (drop (s.first + gone) rows) = subst (AreRows s.window) (drop-drop gone s.first rows) (fit_drop s.window gone (drop s.first rows) fit) in
+    record {
+      order = omega (arith, bound, is.order);
+      counted = order;
+      known = known_on s.window rows to s.seen counted ahead count order;
+      within = within;
+      kept = none_plain s.window s.kept (s.first + gone) (s.seen + ahead) plain none;
+      fit = subst (λ (l : List Element). AreRows s.window (l ++ drop (s.first + gone) rows)) (sym none) less;
+      room = omega (arith, is.room);
+    }
+
+-- where times ascend, a range keeps what is behind the elements that it no longer reaches
+pub range_past : (end len n : ℕ) (xs : List Element) → AreAscending xs → filter (λ y. nat_lt end (y.at + len + 2)) (take n xs) ≡ drop (prefix_len (λ y. nat_le (y.at + len + 2) end) (take n xs)) (take n xs)
+range_past end len n xs asc =
+    let ys : List Element = take n xs in
+    let whole_of : take (length ys) ys ≡ ys = take_all (length ys) ys (omega arith) in
+    sym (ap (filter (λ (y : Element). nat_lt end (y.at + len + 2))) whole_of)
+    ∙ range_between len end (length ys) ys (asc_take n xs asc)
+    ∙ ap (drop (prefix_len (λ (y : Element). nat_le (y.at + len + 2) end) ys)) whole_of
+
+pub past_le : (p : Element → Bool) (n : ℕ) (xs : List Element) → prefix_len p (take n xs) ≤ n
+past_le p n xs = omega (arith, prefix_len-le-length p (take n xs), length-take n xs)
+
+-- the newest of each part are rows of the window too
+fit_kept : (v w : Window) (to : ℕ) (xs ys : List Element) → HasParts w → AreRows v (xs ++ ys) → AreRows v (kept w to xs ++ ys)
+fit_kept v (Range len slide) to xs ys parts fit = absurd parts
+fit_kept v (Rows count slide) to xs ys parts fit = absurd parts
+fit_kept v all to xs ys parts fit = absurd parts
+fit_kept v (Parts columns count) to xs ys parts fit = fit_newest v columns count xs ys fit
+
+parts_kept : (w : Window) (to : ℕ) (kept settled unseen : List Element) → HasParts w → IsKeptFor w to kept settled unseen → kept ≡ content w to settled unseen
+parts_kept (Range l s) to kept settled unseen parts is = absurd parts
+parts_kept (Rows n s) to kept settled unseen parts is = absurd parts
+parts_kept all to kept settled unseen parts is = absurd parts
+parts_kept (Parts columns n) to kept settled unseen parts is = is
+
+plain_kept : (w : Window) (to : ℕ) (kept settled unseen : List Element) → HasNoParts w → IsKeptFor w to kept settled unseen → kept ≡ []
+plain_kept (Range l s) to kept settled unseen plain is = is
+plain_kept (Rows n s) to kept settled unseen plain is = is
+plain_kept all to kept settled unseen plain is = is
+plain_kept (Parts columns n) to kept settled unseen plain is = absurd plain
+
+parts_same : (w : Window) (kept : List Element) (first seen : ℕ) → HasParts w → IsKept w kept first seen → first ≡ seen
+parts_same (Range l s) kept first seen parts is = absurd parts
+parts_same (Rows n s) kept first seen parts is = absurd parts
+parts_same all kept first seen parts is = absurd parts
+parts_same (Parts columns n) kept first seen parts is = is
+
+same_parts : (w : Window) (kept : List Element) (first seen : ℕ) → HasParts w → first ≡ seen → IsKept w kept first seen
+same_parts (Range l s) kept first seen parts is = absurd parts
+same_parts (Rows n s) kept first seen parts is = absurd parts
+same_parts all kept first seen parts is = absurd parts
+same_parts (Parts columns n) kept first seen parts is = is
+
+pub plain_or_parts : (w : Window) → HasNoParts w ⊎ HasParts w
+plain_or_parts (Range l s) = inl tt
+plain_or_parts (Rows n s) = inl tt
+plain_or_parts all = inl tt
+plain_or_parts (Parts columns n) = inr tt
+
+-- what a stub that isn't overrun holds
+ready_kept : (rows : List Element) (to : ℕ) (k : List Element) (s : Stub) → IsReady to k (shown rows s) → IsKeptFor s.window to k (s.kept ++ take (s.seen - s.first) (drop s.first rows)) (drop s.seen rows)
+ready_kept rows to k s ready = subst (λ (o : Bool). IsKeptFor s.window to k (cond o [] (s.kept ++ take (s.seen - s.first) (drop s.first rows))) (cond o [] (drop s.seen rows))) ready.can.live ready.keeps
+
+parts_shown : (rows : List Element) (to counted ahead gone : ℕ) (k : List Element) (s : Stub) → HasParts s.window → s.overrun ≡ false → s.first ≤ s.seen → ahead ≡ front_len s.window to (drop s.seen rows) → gone ≡ s.seen + ahead - s.first → IsKeptFor s.window to k (s.kept ++ take (s.seen - s.first) (drop s.first rows)) (drop s.seen rows) → shown rows (moved_to to k counted ahead gone s) ≡ advanced to (shown rows s)
+parts_shown rows to counted ahead gone k s parts live order is bound keeps =
+    let none : s.seen + ahead - (s.first + gone) ≡ 0 = omega (arith, bound, order) in
+    let empty : take (s.seen + ahead - (s.first + gone)) (drop (s.first + gone) rows) ≡ [] = ap (λ n. take n (drop (s.first + gone) rows)) none in
+    let now_content : k ++ take (s.seen + ahead - (s.first + gone)) (drop (s.first + gone) rows) ≡ content s.window to (s.kept ++ take (s.seen - s.first) (drop s.first rows)) (drop s.seen rows) =
+    ap (λ l. k ++ l) empty ∙ append-nil k ∙ parts_kept s.window to k _ _ parts keeps in
+    let now_unseen : drop (s.seen + ahead) rows ≡ beyond s.window to (drop s.seen rows) = sym (drop-drop ahead s.seen rows) ∙ ap (λ n. drop n (drop s.seen rows)) is in
+    grind (arith, live, now_content, now_unseen)
+
+parts_sound : (rows : List Element) (spare to counted ahead gone : ℕ) (k : List Element) (s : Stub) → HasParts s.window → IsSound rows spare s → counted ≡ s.seen + count_before (end_in s.window to) (drop s.seen rows) → counted ≤ length rows → s.seen + ahead ≤ counted → ahead ≡ front_len s.window to (drop s.seen rows) → gone ≡ s.seen + ahead - s.first → IsKeptFor s.window to k (s.kept ++ take (s.seen - s.first) (drop s.first rows)) (drop s.seen rows) → IsSound rows spare (moved_to to k counted ahead gone s)
+parts_sound rows spare to counted ahead gone k s parts is count within order front bound keeps =
+    let settled : List Element = s.kept ++ take (s.seen - s.first) (drop s.first rows) in
+    let looked : List Element = settled ++ take ahead (drop s.seen rows) in
+    let at : s.first + gone ≡ s.seen + ahead = omega (arith, bound, is.order) in
+    let same : s.first ≡ s.seen = parts_same s.window s.kept s.first s.seen parts is.kept in
+    let kept_is : k ≡ kept s.window to looked = parts_kept s.window to k _ _ parts keeps ∙ ap (λ n. kept s.window to (settled ++ take n (drop s.seen rows))) (sym front) in
+    let rest : drop (s.first + gone) rows ≡ drop ahead (drop s.seen rows) = ap (λ n. drop n rows) at ∙ sym (drop-drop ahead s.seen rows) in
+    let all_of : looked ++ drop ahead (drop s.seen rows) ≡ s.kept ++ drop s.first rows =
+    append_assoc settled (take ahead (drop s.seen rows)) (drop ahead (drop s.seen rows))
+    ∙ ap (λ l. settled ++ l) (take-append-drop ahead (drop s.seen rows))
+    ∙ whole rows s is.order in
+    let fit : AreRows s.window (kept s.window to looked ++ drop ahead (drop s.seen rows)) = fit_kept s.window s.window to looked _ parts (subst (AreRows s.window) (sym all_of) is.fit) in
+    let fewer : length (kept s.window to looked) ≤ length looked = kept_le s.window to looked in
+    let counts : length looked ≡ length s.kept + (s.seen - s.first) + ahead = omega (arith, length-append settled (take ahead (drop s.seen rows)), length-append s.kept (take (s.seen - s.first) (drop s.first rows)), length-take (s.seen - s.first) (drop s.first rows), length-take ahead (drop s.seen rows), length-drop s.first rows, length-drop s.seen rows, within, order, is.order) in
+    record {
+      order = omega (arith, at);
+      counted = order;
+      known = known_on s.window rows to s.seen counted ahead count order;
+      within = within;
+      kept = same_parts s.window k (s.first + gone) (s.seen + ahead) parts at;
+      fit = subst (AreRows s.window) (λ i. sym kept_is i ++ sym rest i) fit;
+      room = omega (arith, is.room, fewer, counts, ap length kept_is, at, same, within, order);
+    }
+
+-- a stub of any window
+pub go_shown : (rows : List Element) (to counted ahead gone : ℕ) (k : List Element) (s : Stub) → IsReady to k (shown rows s) → IsSound rows 0 s → ahead ≡ front_len s.window to (drop s.seen rows) → gone ≤ s.seen + ahead - s.first → (HasNoParts s.window → kept s.window to (take (s.seen + ahead - s.first) (drop s.first rows)) ≡ drop gone (take (s.seen + ahead - s.first) (drop s.first rows))) → (HasParts s.window → gone ≡ s.seen + ahead - s.first) → shown rows (moved_to to k counted ahead gone s) ≡ advanced to (shown rows s)
+go_shown rows to counted ahead gone k s ready is front bound plainly partly =
+    let keeps = ready_kept rows to k s ready in
+    elim (plain_or_parts s.window) [
+      | inl plain ↦
+          let none : s.kept ≡ [] = own_none rows 0 s plain is in
+          let same : k ≡ s.kept = plain_kept s.window to k _ _ plain keeps ∙ sym none in
+          ap (λ l. shown rows (moved_to to l counted ahead gone s)) same ∙ gone_to rows to counted ahead gone s none ready.can.live is.order front bound (plainly plain)
+      | inr parts ↦ parts_shown rows to counted ahead gone k s parts ready.can.live is.order front (partly parts) keeps
+    ]
+
+pub go_sound : (rows : List Element) (to counted ahead gone : ℕ) (k : List Element) (s : Stub) → IsReady to k (shown rows s) → counted ≡ s.seen + count_before (end_in s.window to) (drop s.seen rows) → counted ≤ length rows → s.seen + ahead ≤ counted → ahead ≡ front_len s.window to (drop s.seen rows) → gone ≤ s.seen + ahead - s.first → (HasParts s.window → gone ≡ s.seen + ahead - s.first) → (spare : ℕ) → IsSound rows spare s → IsSound rows spare (moved_to to k counted ahead gone s)
+go_sound rows to counted ahead gone k s ready count within order front bound partly spare is =
+    let keeps = ready_kept rows to k s ready in
+    elim (plain_or_parts s.window) [
+      | inl plain ↦
+          let same : k ≡ s.kept = plain_kept s.window to k _ _ plain keeps ∙ sym (own_none rows spare s plain is) in
+          subst (λ (l : List Element). IsSound rows spare (moved_to to l counted ahead gone s)) (sym same) (gone_sound rows spare to counted ahead gone s plain is count within order bound)
+      | inr parts ↦ parts_sound rows spare to counted ahead gone k s parts is count within order front (partly parts) keeps
+    ]
+
+-- the rows of a stub in the store
+pub fit_store : (rows : List Element) (s : Stub) → IsSound rows 0 s → AreAscending (drop s.first rows)
+fit_store rows s is = (fit_behind s.window s.kept (drop s.first rows) is.fit).0
+
+-- the rows of a pin
+pub fit_pin : (rows : List Element) (n : ℕ) (s : Stub) → IsSound rows 0 s → AreRows s.window ((s.kept ++ take (s.seen - s.first) (drop s.first rows)) ++ take n (drop s.seen rows))
+fit_pin rows n s is =
+    let settled : List Element = s.kept ++ take (s.seen - s.first) (drop s.first rows) in
+    let all_of : (settled ++ take n (drop s.seen rows)) ++ drop n (drop s.seen rows) ≡ s.kept ++ drop s.first rows =
+    append_assoc settled (take n (drop s.seen rows)) (drop n (drop s.seen rows))
+    ∙ ap (λ l. settled ++ l) (take-append-drop n (drop s.seen rows))
+    ∙ whole rows s is.order in
+    fit_front s.window (settled ++ take n (drop s.seen rows)) (drop n (drop s.seen rows)) (subst (AreRows s.window) (sym all_of) is.fit)
+
+pub pin_shown : (rows : List Element) (until : ℕ) (s : Stub) → s.overrun ≡ false → record { window = s.window; content = s.kept ++ take (s.seen - s.first) (drop s.first rows); unseen = take (count_before until (drop s.seen rows)) (drop s.seen rows) } ≡ pinned until (shown rows s)
+pin_shown rows until s live = grind (arith, live)

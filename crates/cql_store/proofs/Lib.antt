@@ -1,0 +1,7 @@
+pub mod Fit
+pub mod Retained
+pub mod Found
+pub mod Keeps
+pub mod Next
+pub mod Later
+pub mod Told

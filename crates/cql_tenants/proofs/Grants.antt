@@ -1,20 +1,21 @@
 -- Each grant is of a stream that is there.
-use Rattle.std.proofs.Common.{◌≡◌, ℕ, zero, suc, Bool, true, false, ◌&&◌, eqb, List, [], ◌∷◌, refl, ap, ◌∙◌, sym, arith}
-use Rattle.std.specs.Prelude.{Option, Some, None, is_some, is_none, if◌then◌else◌}
+use Rattle.std.proofs.Common.{◌≡◌, ℕ, zero, suc, Bool, true, false, ◌&&◌, eqb, List, [], ◌∷◌, set, refl, ap, subst, ◌∙◌, sym, arith}
+use Rattle.std.specs.Prelude.{Option, Some, None, option_map, is_some, is_none, Result, Ok, Err, IfOk, OnOk, OnErr, if◌then◌else◌}
 use Rattle.std.specs.Option.{option_or}
 use Rattle.std.specs.List.{find}
 use Rattle.std.proofs.lemmas.Bool.Decides.{nat_tests}
 use Rattle.std.proofs.lemmas.List.Folds.{find-append}
-use Rattle.std.proofs.lemmas.Slice.Eq.{bytes_eq-Decides}
+use Rattle.cql_value.specs.declared.schema.Column.{Column}
 use Rattle.cql_tenants.specs.declared.tenants.Tenant.{Tenant}
 use Rattle.cql_tenants.specs.declared.refusal.StreamRefusal.{StreamRefusal}
 use Rattle.cql_tenants.specs.declared.refusal.StreamRefusal.TheVariants.{UnknownStream, UnknownTenant}
-use Rattle.cql_tenants.specs.Named.{same_name}
+use Rattle.cql_tenants.specs.Named.{Named, same_name, find_named, change_named}
 use Rattle.cql_tenants.specs.Home.{Home, Stream, Grant, nothing_made, is_place, home_at, tenant_named, stream_at, is_of, grant_of}
 use Rattle.cql_tenants.specs.Checks.{grantee_refused}
-use Rattle.cql_tenants.specs.Directory.{StreamCommand, Make, Share, Put, Beat, with_stream, with_time, with_grant, grant_to, new_grant, refused, done, directory_after}
+use Rattle.cql_tenants.specs.Directory.{StreamCommand, Make, Share, Put, Beat, opens, with_stream, with_time, with_grant, grant_to, new_grant, refused, done, directory_after}
 use Rattle.cql_tenants.specs.Law.{AreOfStreams, IsGrantLaw, directory_from}
-use Rattle.cql_tenants.proofs.Kept.{grow_at, streams_stay}
+use Rattle.cql_tenants.proofs.Kept.{Has, still, grow_at, streams_stay, timed, made}
+use Rattle.cql_tenants.proofs.Places.{name_eq}
 
 -- the stream of a grant is there, with the columns of the grant
 abbrev Shown : List Home → ℕ → List ℕ → Grant → Type 0
@@ -29,10 +30,6 @@ find_one p x g h = by (p x) refl
     by : (b : Bool) → p x ≡ b → (p x ≡ true) × (x ≡ g)
     by true is = (is, grind (arith, is, h))
     by false is = absurd (grind (arith, is, h))
-
-name_eq : (n m : List ℕ) → same_name n m ≡ true → n ≡ m
-unfolding same_name
-name_eq n m h = (bytes_eq-Decides n m).0 h
 
 and_true : (a b : Bool) → (a && b) ≡ true → (a ≡ true) × (b ≡ true)
 and_true true b e = (refl, e)
@@ -78,6 +75,93 @@ grants_of_old homes user (Share stream to) accepted all j = by (tenant_named hom
         grow_at (AreShown homes) (AreShown homes) homes place (with_grant new (home_at homes place))
         (one_more homes (home_at homes place) new (granted_own homes user stream to accepted)) (λ home h. h) j (all j)
 
+-- the first that passes a test passes it
+find_passes : {A : Type 0} (p : A → Bool) (xs : List A) (g : A) → find p xs ≡ Some g → p g ≡ true
+find_passes p [] g h = absurd cc
+find_passes {A} p (x ∷ xs) g h = by (find_passes p xs g) (p x) refl (unfolded (p x) refl h)
+  where
+    unfolded : (b : Bool) → p x ≡ b → find p (x ∷ xs) ≡ Some g → (if b then Some x else find p xs) ≡ Some g
+    unfolded true is k = grind (arith, is, k)
+    unfolded false is k = grind (arith, is, k)
+
+    by : (find p xs ≡ Some g → p g ≡ true) → (b : Bool) → p x ≡ b → (if b then Some x else find p xs) ≡ Some g → p g ≡ true
+    by rest true is k = let same : x ≡ g = cc in sym (ap p same) ∙ is
+    by rest false is k = rest k
+
+-- a grant that a tenant has is of the stream that was asked for, which is there
+pub record Given (homes : List Home) (owner : ℕ) (name : List ℕ) (g : Grant) : Type 0 where
+  pub owner_is : g.owner ≡ owner
+  pub name_is : g.stream ≡ name
+  pub stream : Stream
+  pub found : stream_at homes g.owner name ≡ Some stream
+  pub schema : stream.schema ≡ g.schema
+
+pub given : (homes : List Home) → AreOfStreams homes → (user owner : ℕ) (name : List ℕ) (g : Grant) → grant_of (home_at homes user) owner name ≡ Some g → Given homes owner name g
+given homes all user owner name g h =
+    let both = and_true (eqb owner g.owner) (same_name name g.stream) (find_passes (is_of owner name) (home_at homes user).granted g h) in
+    let place : owner ≡ g.owner = grind (arith, nat_tests, both.0) in
+    let there = all user owner name g h in
+    record {
+      owner_is = sym place;
+      name_is = sym (name_eq name g.stream both.1);
+      stream = there.0;
+      found = sym (ap (λ o. stream_at homes o name) place) ∙ there.1;
+      schema = there.2;
+    }
+
+-- the same, of the home that the tenant has
+pub given_at : (homes now : List Home) → AreOfStreams homes → homes ≡ now → (user owner : ℕ) (name : List ℕ) (home : Home) (g : Grant) → home_at now user ≡ home → Some g ≡ grant_of home owner name → Given now owner name g
+given_at homes now all same user owner name home g is h = given now (subst AreOfStreams same all) user owner name g (ap (λ x. grant_of x owner name) is ∙ sym h)
+
+-- a home whose streams stay, in place of one that it has the grants of or one more
+replaced : (homes : List Home) (i : ℕ) (new : Home) → ((m : List ℕ) (s : Stream) → find_named (home_at homes i).streams m ≡ Some s → Has new.streams m s) → AreShown homes new
+    → AreOfStreams homes → AreOfStreams (set homes i new)
+replaced homes i new keep shown all j owner name g h =
+    let old = grow_at (AreShown homes) (AreShown homes) homes i new (λ k. shown) (λ home k. k) j (all j) owner name g h in
+    let now =
+    grow_at (λ home. find_named home.streams name ≡ Some old.0) (λ home. Has home.streams name old.0) homes i new (keep name old.0) (λ home k. still home.streams name old.0 k) owner old.1 in
+    (now.now, now.found, now.schema ∙ old.2)
+
+-- after a change of a home's streams
+pub streams_replaced : (homes : List Home) (i : ℕ) (old new : Home) → home_at homes i ≡ old → new.granted ≡ old.granted
+    → ((m : List ℕ) (s : Stream) → find_named old.streams m ≡ Some s → Has new.streams m s) → AreOfStreams homes → AreOfStreams (set homes i new)
+streams_replaced homes i old new is same keep all =
+    replaced homes i new (λ m s k. keep m s (ap (λ home. find_named home.streams m) (sym is) ∙ k))
+    (λ owner name g h. all i owner name g (ap (λ gs. find (is_of owner name) gs) (ap (λ home. home.granted) is ∙ sym same) ∙ h)) all
+
+-- after one more grant to a home
+pub grant_added : (homes : List Home) (i : ℕ) (old : Home) (new : Grant) → home_at homes i ≡ old → option_map (λ s. s.schema) (stream_at homes new.owner new.stream) ≡ Some new.schema
+    → AreOfStreams homes → AreOfStreams (set homes i (with_grant new old))
+grant_added homes i old new is there all =
+    replaced homes i (with_grant new old) (λ m s k. still old.streams m s (ap (λ home. find_named home.streams m) (sym is) ∙ k)) (one_more homes old new shown (subst (AreShown homes) is (all i))) all
+  where
+    by : (o : Option Stream) → stream_at homes new.owner new.stream ≡ o → option_map (λ s. s.schema) o ≡ Some new.schema → Shown homes new.owner new.stream new
+    by None e k = absurd cc
+    by (Some s) e k = (s, e, cc)
+
+    shown : Shown homes new.owner new.stream new
+    shown = by (stream_at homes new.owner new.stream) refl there
+
+-- after a change of a stream's time, where it is accepted
+pub time_kept : {E : Type 0} (told : Result (Unit {0}) E) (old new : List (Named Stream)) (name : List ℕ) (at : ℕ) → OnOk told (new ≡ change_named (opens at) name old) → OnErr told (new ≡ old)
+    → (m : List ℕ) (s : Stream) → find_named old m ≡ Some s → Has new m s
+time_kept (Ok u) old new name at ok err m s k = subst (λ l. Has l m s) (sym ok) (timed old name m at s k)
+time_kept (Err e) old new name at ok err m s k = subst (λ l. Has l m s) (sym err) (still old m s k)
+
+-- after a stream is made, where it is accepted and there is memory
+pub made_kept : {E F : Type 0} (told : Result (Result (Unit {0}) E) F) (homes : List Home) (i : ℕ) (old new : Home) (name : List ℕ) (schema : List Column) → home_at homes i ≡ old
+    → IfOk told (λ r. OnOk r (new ≡ with_stream name schema old)) → IfOk told (λ r. OnErr r (new ≡ old)) → OnErr told (new ≡ old) → AreOfStreams homes → AreOfStreams (set homes i new)
+made_kept {E} {F} told homes i old new name schema is ok refused err all = by told ok refused err
+  where
+    same : new ≡ old → AreOfStreams (set homes i new)
+    same e = subst (λ home. AreOfStreams (set homes i home)) (sym e) (streams_replaced homes i old old is refl (λ m s k. still old.streams m s k) all)
+
+    by : (told : Result (Result (Unit {0}) E) F) → IfOk told (λ r. OnOk r (new ≡ with_stream name schema old)) → IfOk told (λ r. OnErr r (new ≡ old)) → OnErr told (new ≡ old) → AreOfStreams (set homes i new)
+    by (Ok (Ok u)) ok refused err =
+        subst (λ home. AreOfStreams (set homes i home)) (sym ok) (streams_replaced homes i old (with_stream name schema old) is refl (λ m s k. made old.streams _ m s k) all)
+    by (Ok (Err e)) ok refused err = same refused
+    by (Err e) ok refused err = same err
+
 after_done : (homes : List Home) (user : ℕ) (command : StreamCommand) → refused homes user command ≡ None → AreOfStreams homes → AreOfStreams (done homes user command)
 after_done homes user command accepted all j owner name g h =
     let old = grants_of_old homes user command accepted all j owner name g h in
@@ -100,8 +184,12 @@ no_grants [] place = refl
 no_grants (t ∷ table) zero = refl
 no_grants (t ∷ table) (suc place) = no_grants table place
 
-pub all_of_streams : IsGrantLaw
-all_of_streams table calls = after_all (nothing_made table) calls (λ place owner name g h. absurd (none place owner name g h))
+-- before the first grant
+pub none_of_streams : (table : List Tenant) → AreOfStreams (nothing_made table)
+none_of_streams table place owner name g h = absurd (none place owner name g h)
   where
     none : (place owner : ℕ) (name : List ℕ) (g : Grant) → grant_of (home_at (nothing_made table) place) owner name ≡ Some g → ⊥
     none place owner name g h = let empty = sym (ap (find (is_of owner name)) (no_grants table place)) ∙ h in cc
+
+pub all_of_streams : IsGrantLaw
+all_of_streams table calls = after_all (nothing_made table) calls (none_of_streams table)

@@ -1,7 +1,7 @@
 -- Streams stay, and so do their columns.
 use Rattle.std.proofs.Common.{◌≡◌, ℕ, zero, suc, Bool, true, false, List, [], ◌∷◌, ◌++◌, set, refl, ap, ◌∙◌, arith}
 use Rattle.std.specs.Prelude.{Option, Some, None, if◌then◌else◌}
-use Rattle.cql_tenants.specs.Named.{Named, same_name, find_named, set_named, change_named}
+use Rattle.cql_tenants.specs.Named.{Named, same_name, find_named, change_named, change_placed}
 use Rattle.cql_tenants.specs.Home.{Home, Stream, no_home, home_at, change_home, tenant_named}
 use Rattle.cql_tenants.specs.Directory.{StreamCommand, Make, Share, Put, Beat, with_stream, with_time, with_grant, opens, grant_to, new_grant, done}
 
@@ -14,29 +14,30 @@ pub record Has (streams : List (Named Stream)) (name : List ℕ) (old : Stream) 
 pub still : (streams : List (Named Stream)) (name : List ℕ) (s : Stream) → find_named streams name ≡ Some s → Has streams name s
 still streams name s h = record { now = s; found = h; schema = refl }
 
-put_in : (xs : List (Named Stream)) (n m : List ℕ) (old new s : Stream) → find_named xs n ≡ Some old → new.schema ≡ old.schema → find_named xs m ≡ Some s → Has (set_named xs n new) m s
-put_in [] n m old new s h same k = absurd cc
-put_in (x ∷ xs) n m old new s h same k = by (λ h k. put_in xs n m old new s h same k) (same_name n x.name) (same_name m x.name) h k refl refl
-  where
-    by : (find_named xs n ≡ Some old → find_named xs m ≡ Some s → Has (set_named xs n new) m s) → (b c : Bool)
-        → (if b then Some x.item else find_named xs n) ≡ Some old → (if c then Some x.item else find_named xs m) ≡ Some s
-        → same_name n x.name ≡ b → same_name m x.name ≡ c
-        → Has (if b then record x { item = new } ∷ xs else x ∷ set_named xs n new) m s
-    by rest true true h k p q = let one : old ≡ s = cc in
-        record { now = new; found = (λ i. if q i then Some new else find_named xs m); schema = same ∙ ap (λ t. t.schema) one }
-    by rest true false h k p q = record { now = s; found = (λ i. if q i then Some new else find_named xs m) ∙ k; schema = refl }
-    by rest false true h k p q = record { now = s; found = (λ i. if q i then Some x.item else find_named (set_named xs n new) m) ∙ k; schema = refl }
-    by rest false false h k p q =
-        let r = rest h k in
-        record { now = r.now; found = (λ i. if q i then Some x.item else find_named (set_named xs n new) m) ∙ r.found; schema = r.schema }
+-- one thing before others
+before : (x : Named Stream) (xs : List (Named Stream)) (m : List ℕ) (s : Stream) (c : Bool) → same_name m x.name ≡ c → (if c then Some x.item else find_named xs m) ≡ Some s
+    → (new : Named Stream) → new.name ≡ x.name → new.item.schema ≡ x.item.schema → (news : List (Named Stream)) → (find_named xs m ≡ Some s → Has news m s) → Has (new ∷ news) m s
+before x xs m s true is k new name schema news rest =
+    let one : x.item ≡ s = cc in
+    record { now = new.item; found = (λ i. if (ap (same_name m) name ∙ is) i then Some new.item else find_named news m); schema = schema ∙ ap (λ t. t.schema) one }
+before x xs m s false is k new name schema news rest =
+    let r = rest k in
+    record { now = r.now; found = (λ i. if (ap (same_name m) name ∙ is) i then Some new.item else find_named news m) ∙ r.found; schema = r.schema }
 
--- after a stream's time has changed
+-- after the time of a stream of a name has changed
 pub timed : (xs : List (Named Stream)) (n m : List ℕ) (at : ℕ) (s : Stream) → find_named xs m ≡ Some s → Has (change_named (opens at) n xs) m s
-timed xs n m at s k = by (find_named xs n) refl
+timed [] n m at s k = absurd cc
+timed (x ∷ xs) n m at s k = by (timed xs n m at s) (same_name n x.name)
   where
-    by : (o : Option Stream) → find_named xs n ≡ o → Has (change_named (opens at) n xs) m s
-    by None h = rw h (still xs m s k)
-    by (Some old) h = rw h (put_in xs n m old (opens at old) s h refl k)
+    by : (find_named xs m ≡ Some s → Has (change_named (opens at) n xs) m s) → (b : Bool) → Has (if b then record x { item = opens at x.item } ∷ xs else x ∷ change_named (opens at) n xs) m s
+    by rest true = before x xs m s (same_name m x.name) refl k (record x { item = opens at x.item }) refl refl xs (still xs m s)
+    by rest false = before x xs m s (same_name m x.name) refl k x refl refl (change_named (opens at) n xs) rest
+
+-- after the time of the stream at a place has changed
+pub timed_at : (xs : List (Named Stream)) (place : ℕ) (m : List ℕ) (at : ℕ) (s : Stream) → find_named xs m ≡ Some s → Has (change_placed (opens at) place xs) m s
+timed_at [] place m at s k = absurd cc
+timed_at (x ∷ xs) zero m at s k = before x xs m s (same_name m x.name) refl k (record x { item = opens at x.item }) refl refl xs (still xs m s)
+timed_at (x ∷ xs) (suc place) m at s k = before x xs m s (same_name m x.name) refl k x refl refl (change_placed (opens at) place xs) (timed_at xs place m at s)
 
 -- after a stream is made
 pub made : (xs ys : List (Named Stream)) (m : List ℕ) (s : Stream) → find_named xs m ≡ Some s → Has (xs ++ ys) m s

@@ -3,3 +3,4 @@ pub mod Laws
 pub mod Shows
 pub mod Kept
 pub mod Grants
+pub mod Places

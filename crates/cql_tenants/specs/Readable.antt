@@ -5,6 +5,8 @@ use Rattle.cql_tenants.specs.declared.refusal.StreamRefusal.{StreamRefusal}
 use Rattle.cql_tenants.specs.declared.refusal.StreamRefusal.TheVariants.{UnknownTenant}
 use Rattle.cql_tenants.specs.declared.readable.Readable.{Readable}
 use Rattle.cql_tenants.specs.declared.readable.Found.{Found}
+use Rattle.cql_tenants.specs.declared.readable.OwnStream.{OwnStream}
+use Rattle.cql_tenants.specs.declared.readable.ReadStream.{ReadStream}
 use Rattle.cql_tenants.specs.Named.{Named}
 use Rattle.cql_tenants.specs.Home.{Home, Stream, Grant, is_place, home_at, tenant_named, stream_at, opened_at, grant_of}
 
@@ -22,6 +24,13 @@ all_readable homes home = map own_readable home.streams ++ map (granted_readable
 
 abbrev pub readable_to : List Home → ℕ → Result (List Readable) StreamRefusal
 readable_to homes user = if is_place homes user then Ok (all_readable homes (home_at homes user)) else Err UnknownTenant
+
+-- what a list shows of a stream of the tenant's own, and of one that was granted to it
+abbrev pub own_stream : Named Stream → OwnStream
+own_stream s = record { name = s.name; opened = s.item.clock }
+
+abbrev pub read_stream : List Home → Grant → ReadStream
+read_stream homes g = record { owner = (home_at homes g.owner).name; stream = g.stream; opened = opened_at homes g.owner g.stream }
 
 -- a stream that a tenant reads: its owner's place, its columns there, and the least time that it still takes
 pub record StreamSeen : Type 0 where

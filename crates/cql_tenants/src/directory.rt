@@ -1,16 +1,20 @@
 // The directory of all streams and grants.
-ghost use Rattle.std.specs.Prelude.{◌≡◌, ◌<◌, IfOk, OnOk, OnErr, Some, option_copied, option_map, length};
+ghost use Rattle.std.specs.Prelude.{◌≡◌, ℕ, ◌<◌, ◌≤◌, ◌^◌, true, List, IfOk, IfSome, OnOk, OnErr, None, Some, option_copied, option_map, length, map, slice_get};
 ghost use Rattle.std.specs.Result.{result_err};
-ghost use Rattle.cql_tenants.specs.Home.{nothing_made, is_place, tenant_named, stream_at};
+ghost use Rattle.cql_order.specs.Clock.{time_fault};
+ghost use Rattle.cql_tenants.specs.Named.{place_of};
+ghost use Rattle.cql_tenants.specs.Home.{nothing_made, is_place, home_at, change_home, tenant_named, stream_at};
 ghost use Rattle.cql_tenants.specs.Checks.{grantee_refused};
-ghost use Rattle.cql_tenants.specs.Directory.{Make, Share, Put, Beat, refused, directory_after};
-ghost use Rattle.cql_tenants.specs.Readable.{readable_to, owner_meant, seen_of, own_found, granted_found, found};
+ghost use Rattle.cql_tenants.specs.Directory.{Make, Share, Put, Beat, with_time, refused, directory_after};
+ghost use Rattle.cql_tenants.specs.Readable.{readable_to, own_stream, read_stream, owner_meant, seen_of, own_found, granted_found, found};
 
 use crate::home::{Grant, Home};
-use crate::homes::{home_at, opened_at, tenant_named};
-use crate::readable::{Found, Readable, granted_shown, own_shown};
+use crate::homes::{home_at, tenant_named};
+use crate::readable::{
+    Found, OwnStream, ReadStream, Readable, granted_listed, granted_shown, own_listed, own_shown,
+};
 use crate::refusal::StreamRefusal;
-use crate::tenants::{TenantId, TenantTable};
+use crate::tenants::{Quotas, TenantId, TenantTable};
 use cql_value::{Items, Row, Schema, Text};
 use std::alloc::{AllocError, Global};
 use std::marker::Model;
@@ -25,10 +29,13 @@ pub struct Directory {
 impl Model for Directory {
     ghost use Rattle.std.specs.Prelude.{List};
     ghost use Rattle.cql_tenants.specs.Home.{Home};
+    ghost use Rattle.cql_tenants.specs.Law.{AreOfStreams};
 
     ghost Value = { List Home };
 
     ghost view = { λ d. d.homes.items };
+
+    ghost invariant = { λ d. AreOfStreams d.homes.items };
 }
 
 impl Directory {
@@ -44,11 +51,35 @@ impl Directory {
         Ok(Directory { homes })
     }
 
-    // Whether the place is one of the table.
-    fn has(&self, tenant: TenantId) -> bool
+    /// Whether the tenant is in the table. Takes no memory.
+    pub fn has(&self, tenant: TenantId) -> bool
         ensures { result ≡ is_place self.now tenant }
     {
         tenant.place() < self.homes.len()
+    }
+
+    /// What the tenant may have. Takes no memory.
+    pub fn quotas(&self, tenant: TenantId) -> Quotas
+        requires { is_place self.now tenant ≡ true }
+        ensures { result ≡ (home_at self.now tenant).quotas }
+    {
+        home_at(&self.homes, tenant.place()).quotas
+    }
+
+    /// Whether `make_stream` would be refused, with the same answer, and nothing changed: 31, 21,
+    /// 22, 20, 23, in this order. Takes no memory.
+    pub fn may_make(
+        &self,
+        tenant: TenantId,
+        name: &str,
+        schema: Option<&Schema>,
+    ) -> Result<(), StreamRefusal>
+        ensures { result_err result ≡ refused self.now tenant (Make name.now (option_copied schema.entry)) }
+    {
+        if !self.has(tenant) {
+            return Err(StreamRefusal::UnknownTenant);
+        }
+        home_at(&self.homes, tenant.place()).may_make(name, schema)
     }
 
     /// Makes a stream of the tenant's own, of a schema, or of none where the columns that were asked
@@ -70,22 +101,61 @@ impl Directory {
         self.homes[tenant.place()].make(alloc, name, schema)
     }
 
-    /// A row with its time, in ticks, comes to a stream of the tenant's own: 31, 30, 40, 42, 41, in
-    /// this order. Takes no memory.
-    pub fn put(
-        &mut self,
+    /// The place of a stream among its owner's, if there is one. Takes no memory.
+    pub fn place(&self, owner: TenantId, stream: &str) -> Option<usize>
+        ensures value { result ≡ place_of (home_at self.now owner).streams stream.now }
+        ensures within { IfSome result (λ i. i < length (home_at self.now owner).streams) }
+    {
+        match self.homes.get(owner.place()) {
+            None => None,
+            Some(home) => home.streams.place(stream),
+        }
+    }
+
+    /// The place of the tenant's own stream that a row with its time, in ticks, may come to; it
+    /// takes the time. 31, 30, 40, 42, 41, in this order. Takes no memory.
+    pub fn admit(
+        &self,
         tenant: TenantId,
         stream: &str,
         at: u64,
         row: &Row,
-    ) -> Result<(), StreamRefusal>
-        ensures refused { result_err result ≡ refused self.old tenant (Put stream.now at row.now) }
-        ensures state { self.new ≡ directory_after self.old tenant (Put stream.now at row.now) }
+    ) -> Result<usize, StreamRefusal>
+        ensures refused { result_err result ≡ refused self.now tenant (Put stream.now at row.now) }
+        ensures tenant { IfOk result (λ i. is_place self.now tenant ≡ true) }
+        ensures place { IfOk result (λ i. place_of (home_at self.now tenant).streams stream.now ≡ Some i) }
+        ensures within { IfOk result (λ i. i < length (home_at self.now tenant).streams) }
+        ensures takes { IfOk result (λ i. IfSome (slice_get (home_at self.now tenant).streams i) (λ s. time_fault s.item.clock at ≡ None)) }
     {
         if !self.has(tenant) {
             return Err(StreamRefusal::UnknownTenant);
         }
-        self.homes[tenant.place()].streams.put(stream, at, row)
+        home_at(&self.homes, tenant.place())
+            .streams
+            .admit(stream, at, row)
+    }
+
+    /// A row came on the stream at a place of the tenant's, at a time, in ticks, that the stream
+    /// takes. Takes no memory.
+    pub fn came(&mut self, tenant: TenantId, place: usize, at: u64)
+        requires tenant { is_place self.old tenant ≡ true }
+        requires within { place < length (home_at self.old tenant).streams }
+        requires takes { IfSome (slice_get (home_at self.old tenant).streams place) (λ s. time_fault s.item.clock at ≡ None) }
+        ensures { (name : List ℕ) → place_of (home_at self.old tenant).streams name ≡ Some place → self.new ≡ change_home (with_time name at) self.old tenant }
+    {
+        self.homes[tenant.place()].streams.came(place, at);
+    }
+
+    /// The least time, in ticks, that the stream at a place still takes, at most 2^62; 0 where there
+    /// is none. Takes no memory.
+    pub fn opened(&self, owner: TenantId, place: usize) -> u64
+        ensures value { IfSome (slice_get (home_at self.now owner).streams place) (λ s. result ≡ s.item.clock) }
+        ensures bounded { result ≤ 2 ^ 62 }
+    {
+        match self.homes.get(owner.place()) {
+            None => 0,
+            Some(home) => home.opened(place),
+        }
     }
 
     /// A heartbeat, of a time in ticks, of a stream of the tenant's own: 31, 30, 42, 41, in this
@@ -187,6 +257,31 @@ impl Directory {
         Ok(Ok(all))
     }
 
+    /// The tenant's own streams, in order of making.
+    pub fn own_streams(
+        &self,
+        alloc: Global,
+        tenant: TenantId,
+    ) -> Result<Items<OwnStream>, AllocError>
+        requires { is_place self.now tenant ≡ true }
+        ensures { IfOk result (λ l. l ≡ map own_stream (home_at self.now tenant).streams) }
+    {
+        own_listed(alloc, &home_at(&self.homes, tenant.place()).streams)
+    }
+
+    /// The streams that were granted to the tenant, in order of the grants.
+    pub fn read_streams(
+        &self,
+        alloc: Global,
+        tenant: TenantId,
+    ) -> Result<Items<ReadStream>, AllocError>
+        requires { is_place self.now tenant ≡ true }
+        ensures { IfOk result (λ l. l ≡ map (read_stream self.now) (home_at self.now tenant).granted) }
+    {
+        let home = home_at(&self.homes, tenant.place());
+        granted_listed(alloc, &self.homes, home.granted.as_slice())
+    }
+
     // The place of the tenant that is meant by what stands before the dot.
     fn owner_meant(&self, tenant: TenantId, owner: Option<&str>) -> Option<usize>
         requires { tenant < length self.now }
@@ -200,11 +295,16 @@ impl Directory {
 
     fn own_found(&self, tenant: TenantId, stream: &str) -> Option<Found<'_>>
         requires { tenant < length self.now }
-        ensures { option_map seen_of result ≡ own_found self.now tenant stream.now }
+        ensures seen { option_map seen_of result ≡ own_found self.now tenant stream.now }
+        ensures place { IfSome result (λ f. place_of (home_at self.now f.owner).streams stream.now ≡ Some f.place) }
+        ensures schema { IfSome result (λ f. option_map (λ s. s.schema) (stream_at self.now f.owner stream.now) ≡ Some f.schema.now) }
     {
-        let own = home_at(&self.homes, tenant.place()).streams.get(stream)?;
+        let streams = &home_at(&self.homes, tenant.place()).streams;
+        let place = streams.place(stream)?;
+        let (_name, own) = streams.entry(place);
         Some(Found {
             owner: tenant,
+            place,
             schema: &own.schema,
             opened: own.clock.opened(),
         })
@@ -212,14 +312,18 @@ impl Directory {
 
     fn granted_found(&self, tenant: TenantId, owner: usize, stream: &str) -> Option<Found<'_>>
         requires { tenant < length self.now }
-        ensures { option_map seen_of result ≡ granted_found self.now tenant owner stream.now }
+        ensures seen { option_map seen_of result ≡ granted_found self.now tenant owner stream.now }
+        ensures place { IfSome result (λ f. place_of (home_at self.now f.owner).streams stream.now ≡ Some f.place) }
+        ensures schema { IfSome result (λ f. option_map (λ s. s.schema) (stream_at self.now f.owner stream.now) ≡ Some f.schema.now) }
     {
         let home = home_at(&self.homes, tenant.place());
         let grant = home.grant_of(owner, stream)?;
+        let place = self.place(grant.owner, stream)?;
         Some(Found {
             owner: grant.owner,
+            place,
             schema: &grant.schema,
-            opened: opened_at(&self.homes, grant.owner.place(), grant.stream.as_str()),
+            opened: self.opened(grant.owner, place),
         })
     }
 
@@ -227,7 +331,9 @@ impl Directory {
     /// with no dot of its own: none where there is no such stream, where it isn't granted, and where
     /// there is no such tenant. Takes no memory.
     pub fn find(&self, tenant: TenantId, owner: Option<&str>, stream: &str) -> Option<Found<'_>>
-        ensures { option_map seen_of result ≡ found self.now tenant (option_copied owner.entry) stream.now }
+        ensures seen { option_map seen_of result ≡ found self.now tenant (option_copied owner.entry) stream.now }
+        ensures place { IfSome result (λ f. place_of (home_at self.now f.owner).streams stream.now ≡ Some f.place) }
+        ensures schema { IfSome result (λ f. option_map (λ s. s.schema) (stream_at self.now f.owner stream.now) ≡ Some f.schema.now) }
     {
         if !self.has(tenant) {
             return None;

@@ -1,5 +1,5 @@
 // What there is of one tenant.
-ghost use Rattle.std.specs.Prelude.{◌≡◌, ◌&&◌, ◌==◌, IfOk, OnOk, OnErr, option_copied, unwrap_or, []};
+ghost use Rattle.std.specs.Prelude.{◌≡◌, ◌≤◌, ◌^◌, ◌&&◌, ◌==◌, IfOk, IfSome, OnOk, OnErr, option_copied, slice_get, unwrap_or, []};
 ghost use Rattle.std.specs.Result.{result_err};
 ghost use Rattle.cql_tenants.specs.Home.{empty_home, is_of, grant_of};
 ghost use Rattle.cql_tenants.specs.Checks.{make_refused, room_refused};
@@ -117,6 +117,25 @@ impl Home {
         Ok(schema)
     }
 
+    /// Whether a stream may be made. Takes no memory.
+    pub fn may_make(&self, name: &str, schema: Option<&Schema>) -> Result<(), StreamRefusal>
+        ensures { result_err result ≡ make_refused self.now name.now (option_copied schema.entry) }
+    {
+        self.new_schema(name, schema)?;
+        Ok(())
+    }
+
+    /// The least time, in ticks, that the stream at a place still takes; 0 where there is none.
+    pub fn opened(&self, place: usize) -> u64
+        ensures value { IfSome (slice_get self.now.streams place) (λ s. result ≡ s.item.clock) }
+        ensures bounded { result ≤ 2 ^ 62 }
+    {
+        match self.streams.get_index(place) {
+            None => 0,
+            Some((_name, stream)) => stream.clock.opened(),
+        }
+    }
+
     /// Makes a stream.
     pub fn make(
         &mut self,
@@ -137,7 +156,9 @@ impl Home {
             schema,
             clock: Clock::new(),
         };
-        self.streams.push(String::from_str(alloc, name)?, stream)?;
-        Ok(Ok(()))
+        match self.streams.push(String::from_str(alloc, name)?, stream) {
+            Ok(()) => Ok(Ok(())),
+            Err(_stream) => Err(AllocError),
+        }
     }
 }

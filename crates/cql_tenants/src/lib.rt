@@ -15,7 +15,7 @@ mod tenants;
 mod tests;
 
 pub use directory::Directory;
-pub use readable::{Found, Readable};
+pub use readable::{Found, OwnStream, ReadStream, Readable};
 pub use refusal::StreamRefusal;
-pub use shelf::Shelf;
+pub use shelf::{Moving, Shelf};
 pub use tenants::{BadTenants, Quotas, Tenant, TenantId, TenantTable};

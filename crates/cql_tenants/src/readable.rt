@@ -1,6 +1,6 @@
 // Streams as their readers see them.
 ghost use Rattle.std.specs.Prelude.{◌≡◌, IfOk, map};
-ghost use Rattle.cql_tenants.specs.Readable.{own_readable, granted_readable};
+ghost use Rattle.cql_tenants.specs.Readable.{own_readable, granted_readable, own_stream, read_stream};
 
 use crate::home::{Grant, Home};
 use crate::homes::{opened_at, owner_name};
@@ -36,10 +36,43 @@ impl Drop for Readable {
 #[derive(Clone, Copy)]
 pub struct Found<'a> {
     pub owner: TenantId,
+    /// The stream's place among its owner's.
+    pub place: usize,
     /// The columns that the tenant sees.
     pub schema: &'a Schema,
     /// The least time, in ticks, that the stream still takes.
     pub opened: u64,
+}
+
+/// A stream of the tenant's own, as a list shows it.
+pub struct OwnStream {
+    pub name: Text,
+    /// The least time, in ticks, that the stream still takes.
+    pub opened: u64,
+}
+
+impl Drop for OwnStream {
+    fn drop(self) {
+        let OwnStream { name: _, opened: _ } = self;
+    }
+}
+
+/// A stream that another tenant granted, as a list shows it.
+pub struct ReadStream {
+    pub owner: Text,
+    pub stream: Text,
+    /// The least time, in ticks, that the stream still takes.
+    pub opened: u64,
+}
+
+impl Drop for ReadStream {
+    fn drop(self) {
+        let ReadStream {
+            owner: _,
+            stream: _,
+            opened: _,
+        } = self;
+    }
 }
 
 // A stream of the tenant's own.
@@ -95,6 +128,56 @@ pub fn granted_shown(
     let mut all = Items::new(alloc);
     for grant in grants {
         all.push(granted_readable(alloc, homes, grant)?)?;
+    }
+    Ok(all)
+}
+
+fn own_stream(alloc: Global, name: &str, stream: &Stream) -> Result<OwnStream, AllocError>
+    ensures { IfOk result (λ s. s ≡ own_stream (record { name = name.now; item = stream.now })) }
+{
+    let name = Text::new(alloc, name)?;
+    Ok(OwnStream {
+        name,
+        opened: stream.clock.opened(),
+    })
+}
+
+fn read_stream(alloc: Global, homes: &[Home], grant: &Grant) -> Result<ReadStream, AllocError>
+    ensures { IfOk result (λ s. s ≡ read_stream homes.now grant.now) }
+{
+    let owner = grant.owner.place();
+    let owner_text = Text::new(alloc, owner_name(homes, owner))?;
+    let stream = grant.stream.try_clone(alloc)?;
+    Ok(ReadStream {
+        owner: owner_text,
+        stream,
+        opened: opened_at(homes, owner, grant.stream.as_str()),
+    })
+}
+
+/// A tenant's own streams, in order of making, as a list shows them.
+pub fn own_listed(alloc: Global, streams: &Shelf<Stream>) -> Result<Items<OwnStream>, AllocError>
+    ensures { IfOk result (λ all. all ≡ map own_stream streams.now) }
+{
+    let mut all = Items::new(alloc);
+    for i in 0..streams.len() {
+        let (name, stream) = streams.entry(i);
+        all.push(own_stream(alloc, name, stream)?)?;
+    }
+    Ok(all)
+}
+
+/// The streams of these grants, in order, as a list shows them.
+pub fn granted_listed(
+    alloc: Global,
+    homes: &[Home],
+    grants: &[Grant],
+) -> Result<Items<ReadStream>, AllocError>
+    ensures { IfOk result (λ all. all ≡ map (read_stream homes.now) grants.now) }
+{
+    let mut all = Items::new(alloc);
+    for grant in grants {
+        all.push(read_stream(alloc, homes, grant)?)?;
     }
     Ok(all)
 }

@@ -1,6 +1,6 @@
 // Each public call, once, with ample memory; and what no script can reach.
-use crate::law::{directory_law, grant_law};
-use crate::{Directory, Quotas, Shelf, StreamRefusal, Tenant, TenantId, TenantTable};
+use crate::law::{directory_law, grant_law, place_law};
+use crate::{Directory, Moving, Quotas, Shelf, StreamRefusal, Tenant, TenantId, TenantTable};
 use cql_value::{Column, ColumnType, Name, Row, Schema, Text, Value};
 use std::alloc::{AllocError, Global};
 use std::test::Fail;
@@ -115,17 +115,40 @@ fn makes(rt: HostRuntime) -> Result<(), Fail> {
     Ok(())
 }
 
+// What a row with its time is told: its stream's place from 0, or 100 and the number of the refusal.
+fn told(admitted: Result<usize, StreamRefusal>) -> u64 {
+    match admitted {
+        Ok(place) => place as u64,
+        Err(refusal) => 100 + refusal.number(),
+    }
+}
+
+// A row comes to the stream `s`, where it is admitted.
+fn put(
+    directory: &mut Directory,
+    tenant: TenantId,
+    at: u64,
+    row: &Row,
+) -> Result<(), StreamRefusal> {
+    let place = directory.admit(tenant, "s", at, row)?;
+    directory.came(tenant, place, at);
+    Ok(())
+}
+
 #[test]
 fn puts(rt: HostRuntime) -> Result<(), Fail> {
     let alloc = rt.alloc();
     let (a, b, stranger) = places(alloc)?;
     let row = row(alloc, Value::Number(1))?;
     let mut directory = directory(alloc)?;
-    assert_eq!(rt; number(Ok(directory.put(stranger, "s", 5, &row))), 31);
-    assert_eq!(rt; number(Ok(directory.put(b, "s", 5, &row))), 30);
-    assert_eq!(rt; number(Ok(directory.put(a, "s", 5, &row))), 0);
-    assert_eq!(rt; number(Ok(directory.put(a, "s", 4, &row))), 41);
-    assert_eq!(rt; number(Ok(directory.put(a, "s", u64::MAX, &row))), 42);
+    assert_eq!(rt; told(directory.admit(stranger, "s", 5, &row)), 131);
+    assert_eq!(rt; told(directory.admit(b, "s", 5, &row)), 130);
+    assert_eq!(rt; told(directory.admit(a, "s", 5, &row)), 0);
+    assert_eq!(rt; directory.opened(a, 0), 0);
+    assert_eq!(rt; number(Ok(put(&mut directory, a, 5, &row))), 0);
+    assert_eq!(rt; directory.opened(a, 0), 5);
+    assert_eq!(rt; number(Ok(put(&mut directory, a, 4, &row))), 41);
+    assert_eq!(rt; number(Ok(put(&mut directory, a, u64::MAX, &row))), 42);
     Ok(())
 }
 
@@ -134,9 +157,34 @@ fn wrong_rows(rt: HostRuntime) -> Result<(), Fail> {
     let alloc = rt.alloc();
     let (a, _b, _stranger) = places(alloc)?;
     let row = row(alloc, Value::Text(Text::new(alloc, "x")?))?;
-    let mut directory = directory(alloc)?;
-    assert_eq!(rt; number(Ok(directory.put(a, "s", u64::MAX, &row))), 40);
+    let directory = directory(alloc)?;
+    assert_eq!(rt; told(directory.admit(a, "s", u64::MAX, &row)), 140);
     Ok(())
+}
+
+#[test]
+fn asks(rt: HostRuntime) -> Result<(), Fail> {
+    let alloc = rt.alloc();
+    let (a, b, stranger) = places(alloc)?;
+    let directory = directory(alloc)?;
+    let columns = schema(alloc)?;
+    assert!(rt; directory.has(a) && !directory.has(stranger));
+    assert_eq!(rt; streams_allowed(&directory, b), Some(1));
+    assert_eq!(rt; directory.place(a, "s"), Some(0));
+    assert_eq!(rt; directory.place(b, "s"), None);
+    assert_eq!(rt; directory.opened(stranger, 0), 0);
+    assert_eq!(rt; number(Ok(directory.may_make(a, "t", Some(&columns)))), 23);
+    assert_eq!(rt; number(Ok(directory.may_make(b, "t", Some(&columns)))), 0);
+    Ok(())
+}
+
+// How many streams a tenant may have.
+fn streams_allowed(directory: &Directory, tenant: TenantId) -> Option<u64> {
+    if directory.has(tenant) {
+        Some(directory.quotas(tenant).streams)
+    } else {
+        None
+    }
 }
 
 // The time from which a tenant reads the stream `s`.
@@ -173,6 +221,14 @@ fn grants(rt: HostRuntime) -> Result<(), Fail> {
     Ok(())
 }
 
+// The place at which a tenant finds the stream `s` of `a`.
+fn found_place(directory: &Directory, tenant: TenantId) -> Option<usize> {
+    match directory.find(tenant, Some("a"), "s") {
+        Some(found) => Some(found.place),
+        None => None,
+    }
+}
+
 #[test]
 fn finds(rt: HostRuntime) -> Result<(), Fail> {
     let alloc = rt.alloc();
@@ -184,6 +240,28 @@ fn finds(rt: HostRuntime) -> Result<(), Fail> {
     assert_eq!(rt; opened(&directory, a, Some("a")), Some(0));
     assert_eq!(rt; opened(&directory, b, None), None);
     assert_eq!(rt; opened(&directory, stranger, None), None);
+    assert_eq!(rt; found_place(&directory, b), Some(0));
+    Ok(())
+}
+
+// How many streams of its own, and of others, a list of the tenant shows.
+fn listed(alloc: Global, directory: &Directory, tenant: TenantId) -> Result<(usize, usize), Fail> {
+    if !directory.has(tenant) {
+        return Err(Fail::new("no such tenant"));
+    }
+    let own = directory.own_streams(alloc, tenant)?.len();
+    let read = directory.read_streams(alloc, tenant)?.len();
+    Ok((own, read))
+}
+
+#[test]
+fn lists(rt: HostRuntime) -> Result<(), Fail> {
+    let alloc = rt.alloc();
+    let (a, b, _stranger) = places(alloc)?;
+    let mut directory = directory(alloc)?;
+    directory.grant(alloc, a, "s", "b")??;
+    assert_eq!(rt; listed(alloc, &directory, a)?, (1, 0));
+    assert_eq!(rt; listed(alloc, &directory, b)?, (0, 1));
     Ok(())
 }
 
@@ -198,6 +276,7 @@ fn reads(rt: HostRuntime) -> Result<(), Fail> {
     assert!(rt; directory.readable(alloc, stranger)?.is_err());
     directory_law();
     grant_law();
+    place_law();
     Ok(())
 }
 
@@ -205,9 +284,44 @@ fn reads(rt: HostRuntime) -> Result<(), Fail> {
 fn shelves(rt: HostRuntime) -> Result<(), Fail> {
     let alloc = rt.alloc();
     let mut shelf: Shelf<u64> = Shelf::new(alloc);
-    shelf.push(String::from_str(alloc, "x")?, 7)?;
+    let pushed = shelf.push(String::from_str(alloc, "x")?, 7);
+    assert!(rt; pushed.is_ok());
     assert_eq!(rt; shelf.len(), 1);
     assert_eq!(rt; shelf.get("x").copied(), Some(7));
     assert_eq!(rt; *shelf.entry(0).1, 7);
+    assert_eq!(rt; shelf.place("x"), Some(0));
+    assert_eq!(rt; shelf.place("y"), None);
+    Ok(())
+}
+
+// A thing that is no more than its time.
+#[derive(Drop)]
+struct Passed {
+    to: u64,
+}
+
+impl Moving for Passed {
+    ghost moved = { λ to thing. record { to = to } };
+
+    fn go_to(&mut self, to: u64) {
+        self.to = to;
+    }
+}
+
+#[test]
+fn moves(rt: HostRuntime) -> Result<(), Fail> {
+    let alloc = rt.alloc();
+    let mut shelf: Shelf<Passed> = Shelf::new(alloc);
+    if shelf
+        .push(String::from_str(alloc, "x")?, Passed { to: 0 })
+        .is_err()
+    {
+        return Err(Fail::new("no memory"));
+    }
+    shelf.go_to("x", 3);
+    shelf.go_to("y", 4);
+    assert!(rt; shelf.take("y").is_none());
+    assert_eq!(rt; shelf.take("x").map(|thing| thing.to), Some(3));
+    assert_eq!(rt; shelf.len(), 0);
     Ok(())
 }

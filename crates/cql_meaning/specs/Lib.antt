@@ -1,0 +1,16 @@
+pub mod Refusal
+pub mod Columns
+pub mod Told
+pub mod Source
+pub mod Language
+pub mod Checks
+pub mod Directory
+pub mod Machine
+pub mod View
+pub mod Solo
+pub mod Trimmed
+pub mod Headline
+pub mod Law
+pub mod Rows
+pub mod Order
+pub mod Binding

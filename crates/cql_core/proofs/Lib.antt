@@ -1,20 +1,31 @@
-mod Alone
-mod Columns
-mod Cuts
-mod Elements
-mod Fetches
-mod Finds
-mod Histories
-mod Known
-mod Laws
-mod Looks
-mod Order
-mod Pinning
-mod Places
-mod Plans
-mod Queries
-mod Registers
-mod Replies
-mod Schemas
-mod Serving
-mod Sound
+pub mod Keys
+pub mod Look
+pub mod Uses
+pub mod Agrees
+pub mod Places
+pub mod Openings
+pub mod Changes
+pub mod Times
+pub mod Grants
+pub mod Makes
+pub mod Puts
+pub mod Shelved
+pub mod Detached
+pub mod Founds
+pub mod Stocks
+pub mod Attaching
+pub mod Drops
+pub mod Checked
+pub mod Registers
+pub mod Walks
+pub mod Advances
+pub mod Links
+pub mod Lists
+pub mod Fetches
+pub mod Acks
+pub mod Needs
+pub mod Languages
+pub mod Columns
+pub mod Serving
+pub mod Order
+pub mod Ascents

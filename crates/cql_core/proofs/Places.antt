@@ -1,117 +1,108 @@
--- A step at a tenant's place is the machine's.
-use Rattle.std.proofs.Common.{◌≡◌, ℕ, ◌<◌, ◌≤◌, true, false, List, length, set, get_or, refl, ap, subst, sym, ◌∙◌, arith}
-use Rattle.std.specs.Prelude.{Result, Ok, Err, IfOk, OnOk, OnErr, IsOk, MatchResult}
-use Rattle.std.proofs.Common.{inl, inr}
+-- Places of names.
+use Rattle.std.proofs.Common.{◌≡◌, ℕ, zero, suc, ◌+◌, ◌<◌, Bool, true, false, eqb, List, [], ◌∷◌, ◌++◌, length, refl, ap, sym, ◌∙◌, arith}
+use Rattle.std.specs.Prelude.{Option, None, Some, option_map, slice_get, is_some, if◌then◌else◌}
 use Rattle.std.proofs.lemmas.Bool.Decides.{nat_tests}
-use Rattle.std.proofs.lemmas.List.{get_or_default, set-get_or}
-use Rattle.cql_plan.specs.Ports.{IsPortsLaw, IsPlainLaw}
-use Rattle.cql_core.specs.declared.command.Command.{Command}
-use Rattle.cql_core.specs.declared.refusal.Refusal.TheVariants.{UnknownTenant}
-use Rattle.cql_core.specs.Told.{Says, Refused, no_memory}
-use Rattle.cql_core.specs.State.{Named, Home, QueryState, State, is_place, home_at, queries_at}
-use Rattle.cql_core.specs.Machine.{home_after, queries_after, step_at, step_of, state_after}
-use Rattle.cql_core.specs.Sound.{IsSound, IsHomeSound}
-use Rattle.cql_core.specs.declared.reply.Step.{Step}
-use Rattle.cql_core.specs.Steps.{stepped_of, Steps, StepsWell}
-use Rattle.cql_core.proofs.Sound.{sound_after}
+use Rattle.cql_tenants.specs.Named.{Named, same_name, find_named, change_named, place_of}
+use Rattle.cql_core.proofs.Keys.{name_eq, name_same}
 
-abbrev pub state_with : List Home → List (List (Named QueryState)) → State
-state_with homes queries = record { homes = homes; queries = queries }
+-- what stands at the place
+pub record At {A : Type 0} (xs : List (Named A)) (name : List ℕ) (i : ℕ) : Type 0 where
+  pub thing : Named A
+  pub is : slice_get xs i ≡ Some thing
+  pub named : name ≡ thing.name
+  pub found : find_named xs name ≡ Some thing.item
 
--- what stands at a place, whatever the default
-pub there : {A : Type 0} (xs : List A) (i : ℕ) (x d : A) → i < length xs → x ≡ get_or xs i x → x ≡ get_or xs i d
-there xs i x d within is = is ∙ get_or_default xs i x d within
+at_more : {A : Type 0} (x : Named A) (xs : List (Named A)) (name : List ℕ) → same_name name x.name ≡ false → (p : Option ℕ) (i : ℕ) → option_map suc p ≡ Some i → ((j : ℕ) → p ≡ Some j → At xs name j) → At (x ∷ xs) name i
+at_more x xs name away None i e rest = absurd cc
+at_more x xs name away (Some j) zero e rest = absurd cc
+at_more x xs name away (Some j) (suc i) e rest =
+    let same : j ≡ i = cc in
+    let r = rest i (ap (λ n. Some n) same) in
+    record { thing = r.thing; is = r.is; named = r.named; found = (λ k. if away k then Some x.item else find_named xs name) ∙ r.found }
 
--- a sound state is sound at each place
-pub sound_at : (homes : List Home) (queries : List (List (Named QueryState))) (place : ℕ) (home : Home) (asked : List (Named QueryState))
-    → IsSound (state_with homes queries) → home ≡ home_at homes place → asked ≡ queries_at queries place → IsHomeSound home asked
-sound_at homes queries place home asked sound is are =
-    let here : IsHomeSound (home_at homes place) (queries_at queries place) = record { bounded = λ name. sound.bounded place name; streams = sound.streams place; followed = λ name q found. sound.followed place name q found } in
-    let P : Home → Type 0 = λ h. IsHomeSound h asked in
-    let Q : List (Named QueryState) → Type 0 = λ a. IsHomeSound (home_at homes place) a in
-    subst P (sym is) (subst Q (sym are) here)
+pub at_place : {A : Type 0} (xs : List (Named A)) (name : List ℕ) (i : ℕ) → place_of xs name ≡ Some i → At xs name i
+at_place [] name i h = absurd cc
+at_place {A} (x ∷ xs) name i h = by (λ j k. at_place xs name j k) (same_name name x.name) refl h
+  where
+    here : (n : ℕ) → Some 0 ≡ Some n → same_name name x.name ≡ true → At (x ∷ xs) name n
+    here zero e is = record { thing = x; is = refl; named = name_eq name x.name is; found = λ k. if is k then Some x.item else find_named xs name }
+    here (suc n) e is = absurd cc
 
-is_there : (homes : List Home) (place : ℕ) → place < length homes → is_place homes place ≡ true
-is_there homes place within = grind (arith, nat_tests, within)
+    by : ((j : ℕ) → place_of xs name ≡ Some j → At xs name j) → (b : Bool) → same_name name x.name ≡ b → (if b then Some 0 else option_map suc (place_of xs name)) ≡ Some i → At (x ∷ xs) name i
+    by rest true is e = here i e is
+    by rest false is e = at_more x xs name is (place_of xs name) i e rest
 
--- a step at the place of a tenant that is in the table
-pub step_there : (homes : List Home) (queries : List (List (Named QueryState))) (place : ℕ) (home : Home) (asked : List (Named QueryState)) (command : Command)
-    → place < length homes → home ≡ home_at homes place → asked ≡ queries_at queries place → step_at home asked command ≡ step_of (state_with homes queries) place command
-step_there homes queries place home asked command within is are = rw (is_there homes place within, is, are) refl
+-- two names at one place are the same
+pub one_name : {A : Type 0} (xs : List (Named A)) (n m : List ℕ) (i : ℕ) → place_of xs n ≡ Some i → place_of xs m ≡ Some i → n ≡ m
+one_name xs n m i h k =
+    let a = at_place xs n i h in
+    let b = at_place xs m i k in
+    let same : a.thing ≡ b.thing = cc (sym a.is ∙ b.is) in
+    a.named ∙ ap (λ t. t.name) same ∙ sym b.named
 
-pub after_there : (homes : List Home) (queries : List (List (Named QueryState))) (place : ℕ) (home home' : Home) (asked asked' : List (Named QueryState)) (command : Command)
-    → place < length homes → home ≡ home_at homes place → asked ≡ queries_at queries place → home' ≡ home_after home command → asked' ≡ queries_after home asked command
-    → state_with (set homes place home') (set queries place asked') ≡ state_after (state_with homes queries) place command
-after_there homes queries place home home' asked asked' command within is are new newer = rw (is_there homes place within, new, newer, is, are) refl
+pub place_change : {A : Type 0} (f : A → A) (xs : List (Named A)) (n m : List ℕ) → place_of (change_named f n xs) m ≡ place_of xs m
+place_change f [] n m = refl
+place_change {A} f (x ∷ xs) n m = by (place_change f xs n m) (same_name n x.name)
+  where
+    by : place_of (change_named f n xs) m ≡ place_of xs m → (b : Bool) → place_of (if b then record x { item = f x.item } ∷ xs else x ∷ change_named f n xs) m ≡ place_of (x ∷ xs) m
+    by rest true = refl
+    by rest false = ap (λ p. if same_name m x.name then Some 0 else option_map suc p) rest
 
--- nothing is changed
-pub same_there : (homes : List Home) (queries : List (List (Named QueryState))) (place : ℕ) (home home' : Home) (asked asked' : List (Named QueryState))
-    → home ≡ home_at homes place → asked ≡ queries_at queries place → home' ≡ home → asked' ≡ asked
-    → state_with (set homes place home') (set queries place asked') ≡ state_with homes queries
-same_there homes queries place home home' asked asked' is are same sames =
-    let h : set homes place home' ≡ homes = ap (set homes place) (same ∙ is) ∙ set-get_or homes place _ in
-    let q : set queries place asked' ≡ queries = ap (set queries place) (sames ∙ are) ∙ set-get_or queries place _ in
-    rw (h, q) refl
+pub place_push : {A : Type 0} (xs ys : List (Named A)) (n : List ℕ) (i : ℕ) → place_of xs n ≡ Some i → place_of (xs ++ ys) n ≡ Some i
+place_push [] ys n i h = absurd cc
+place_push {A} (x ∷ xs) ys n i h = by (λ k g. place_push xs ys n k g) (same_name n x.name) h
+  where
+    more : (p q : Option ℕ) (j : ℕ) → option_map suc p ≡ Some j → ((k : ℕ) → p ≡ Some k → q ≡ Some k) → option_map suc q ≡ Some j
+    more None q j e f = absurd cc
+    more (Some k) q j e f = ap (option_map suc) (f k refl) ∙ e
 
--- a tenant that is not in the table
-pub step_nowhere : (homes : List Home) (queries : List (List (Named QueryState))) (place : ℕ) (command : Command) → length homes ≤ place → Says (Refused UnknownTenant) ≡ step_of (state_with homes queries) place command
-step_nowhere homes queries place command outside = let no_place : is_place homes place ≡ false = grind (arith, nat_tests, outside) in rw no_place refl
+    by : ((k : ℕ) → place_of xs n ≡ Some k → place_of (xs ++ ys) n ≡ Some k) → (b : Bool) → (if b then Some 0 else option_map suc (place_of xs n)) ≡ Some i → (if b then Some 0 else option_map suc (place_of (xs ++ ys) n)) ≡ Some i
+    by rest true e = e
+    by rest false e = more (place_of xs n) (place_of (xs ++ ys) n) i e rest
 
-pub after_nowhere : (homes : List Home) (queries : List (List (Named QueryState))) (place : ℕ) (command : Command) → length homes ≤ place → state_with homes queries ≡ state_after (state_with homes queries) place command
-after_nowhere homes queries place command outside = let no_place : is_place homes place ≡ false = grind (arith, nat_tests, outside) in rw no_place refl
+pub place_found : {A : Type 0} (xs : List (Named A)) (n : List ℕ) → is_some (find_named xs n) ≡ is_some (place_of xs n)
+place_found [] n = refl
+place_found {A} (x ∷ xs) n = by (place_found xs n) (same_name n x.name)
+  where
+    some_map : (p : Option ℕ) → is_some p ≡ is_some (option_map suc p)
+    some_map None = refl
+    some_map (Some j) = refl
 
--- a step at a place of the table, from a home and queries to others
-pub record Stepping {E : Type 0} (homes : List Home) (queries : List (List (Named QueryState))) (place : ℕ) (home home' : Home) (asked asked' : List (Named QueryState)) (command : Command) (r : Result Step E) : Type 0 where
-  pub within : place < length homes
-  pub home_is : home ≡ home_at homes place
-  pub asked_is : asked ≡ queries_at queries place
-  pub told : IfOk r (λ step. stepped_of step ≡ step_at home asked command)
-  pub home_after : OnOk r (home' ≡ home_after home command)
-  pub asked_after : OnOk r (asked' ≡ queries_after home asked command)
-  pub home_same : OnErr r (home' ≡ home)
-  pub asked_same : OnErr r (asked' ≡ asked)
+    by : is_some (find_named xs n) ≡ is_some (place_of xs n) → (b : Bool) → is_some (if b then Some x.item else find_named xs n) ≡ is_some (if b then Some 0 else option_map suc (place_of xs n))
+    by rest true = refl
+    by rest false = rest ∙ some_map (place_of xs n)
 
--- the state after it is sound
-pub sound_then : {E : Type 0} → IsPortsLaw → IsPlainLaw → (homes : List Home) (queries : List (List (Named QueryState))) (place : ℕ) (home home' : Home) (asked asked' : List (Named QueryState)) (command : Command) (r : Result Step E)
-    → Stepping homes queries place home home' asked asked' command r → IsSound (state_with homes queries) → IsSound (state_with (set homes place home') (set queries place asked'))
-sound_then ports_law plain_law homes queries place home home' asked asked' command (Ok step) s sound =
-    subst IsSound (sym (after_there homes queries place home home' asked asked' command s.within s.home_is s.asked_is s.home_after s.asked_after)) (sound_after ports_law plain_law (state_with homes queries) place command sound)
-sound_then ports_law plain_law homes queries place home home' asked asked' command (Err e) s sound =
-    subst IsSound (sym (same_there homes queries place home home' asked asked' s.home_is s.asked_is s.home_same s.asked_same)) sound
+suc_eqb : (j i : ℕ) (b : Bool) → eqb j i ≡ b → eqb (suc j) (suc i) ≡ b
+suc_eqb j i true h = grind (arith, nat_tests, h)
+suc_eqb j i false h = grind (arith, nat_tests, h)
 
--- it is the machine's, or there was no memory
-pub steps_then : {E : Type 0} (homes : List Home) (queries : List (List (Named QueryState))) (place : ℕ) (home home' : Home) (asked asked' : List (Named QueryState)) (command : Command) (r : Result Step E) (out : Step)
-    → Stepping homes queries place home home' asked asked' command r → MatchResult r (λ step. out ≡ step) (λ e. stepped_of out ≡ Says no_memory)
-    → Steps (state_with homes queries) place command out (state_with (set homes place home') (set queries place asked'))
-steps_then homes queries place home home' asked asked' command (Ok step) out s is =
-    inl (
-      ap stepped_of is ∙ s.told ∙ step_there homes queries place home asked command s.within s.home_is s.asked_is,
-      after_there homes queries place home home' asked asked' command s.within s.home_is s.asked_is s.home_after s.asked_after,
-    )
-steps_then homes queries place home home' asked asked' command (Err e) out s is =
-    inr (is, same_there homes queries place home home' asked asked' s.home_is s.asked_is s.home_same s.asked_same)
+suc_first : (j : ℕ) → eqb (suc j) 0 ≡ false
+suc_first j = grind (arith, nat_tests)
 
--- a step that takes no memory
-pub steps_well_then : {E : Type 0} (homes : List Home) (queries : List (List (Named QueryState))) (place : ℕ) (home home' : Home) (asked asked' : List (Named QueryState)) (command : Command) (r : Result Step E) (out : Step)
-    → Stepping homes queries place home home' asked asked' command r → MatchResult r (λ step. out ≡ step) (λ e. stepped_of out ≡ Says no_memory) → IsOk r
-    → StepsWell (state_with homes queries) place command out (state_with (set homes place home') (set queries place asked'))
-steps_well_then homes queries place home home' asked asked' command (Ok step) out s is fine = (
-  ap stepped_of is ∙ s.told ∙ step_there homes queries place home asked command s.within s.home_is s.asked_is,
-  after_there homes queries place home home' asked asked' command s.within s.home_is s.asked_is s.home_after s.asked_after,
-)
-steps_well_then homes queries place home home' asked asked' command (Err e) out s is fine = absurd cc
+first_suc : (j : ℕ) → eqb 0 (suc j) ≡ false
+first_suc j = grind (arith, nat_tests)
 
--- a step, told of the same state, tenant and command
-pub steps_as : (old old' : State) (place place' : ℕ) (command command' : Command) (out : Step) (new : State) → old ≡ old' → place ≡ place' → command ≡ command' → Steps old place command out new → Steps old' place' command' out new
-steps_as old old' place place' command command' out new a b c s =
-    let P : State → Type 0 = λ x. Steps x place command out new in
-    let Q : ℕ → Type 0 = λ x. Steps old' x command out new in
-    let R : Command → Type 0 = λ x. Steps old' place' x out new in
-    subst R c (subst Q b (subst P a s))
+-- what stands at each place after a change
+pub get_change : {A : Type 0} (f : A → A) (xs : List (Named A)) (n : List ℕ) (i j : ℕ) (s : Named A) → place_of xs n ≡ Some i → slice_get (change_named f n xs) j ≡ Some s
+    → (old : Named A) × (slice_get xs j ≡ Some old) × (s ≡ (if eqb j i then record old { item = f old.item } else old))
+get_change f [] n i j s h k = absurd cc
+get_change {A} f (x ∷ xs) n i j s h k = by (λ i j h k. get_change f xs n i j s h k) (same_name n x.name) h j k
+  where
+    first : (i j : ℕ) → Some 0 ≡ Some i → slice_get (record x { item = f x.item } ∷ xs) j ≡ Some s → (old : Named A) × (slice_get (x ∷ xs) j ≡ Some old) × (s ≡ (if eqb j i then record old { item = f old.item } else old))
+    first zero zero e k = (x, refl, cc k)
+    first zero (suc j) e k = (s, k, sym (λ m. if suc_first j m then record s { item = f s.item } else s))
+    first (suc i) j e k = absurd cc
 
-pub steps_well_as : (old old' : State) (place place' : ℕ) (command command' : Command) (out : Step) (new : State) → old ≡ old' → place ≡ place' → command ≡ command' → StepsWell old place command out new → StepsWell old' place' command' out new
-steps_well_as old old' place place' command command' out new a b c s =
-    let P : State → Type 0 = λ x. StepsWell x place command out new in
-    let Q : ℕ → Type 0 = λ x. StepsWell old' x command out new in
-    let R : Command → Type 0 = λ x. StepsWell old' place' x out new in
-    subst R c (subst Q b (subst P a s))
+    later : ((i j : ℕ) → place_of xs n ≡ Some i → slice_get (change_named f n xs) j ≡ Some s → (old : Named A) × (slice_get xs j ≡ Some old) × (s ≡ (if eqb j i then record old { item = f old.item } else old))) → (p : Option ℕ) (i j : ℕ) → option_map suc p ≡ Some i → place_of xs n ≡ p → slice_get (x ∷ change_named f n xs) j ≡ Some s → (old : Named A) × (slice_get (x ∷ xs) j ≡ Some old) × (s ≡ (if eqb j i then record old { item = f old.item } else old))
+    later rest None i j e q k = absurd cc
+    later rest (Some p) zero j e q k = absurd cc
+    later rest (Some p) (suc i) zero e q k = (x, refl, cc k ∙ sym (λ m. if first_suc i m then record x { item = f x.item } else x))
+    later rest (Some p) (suc i) (suc j) e q k =
+        let same : p ≡ i = cc in
+        let r = rest i j (q ∙ ap (λ m. Some m) same) k in
+        (r.0, r.1, r.2 ∙ (λ m. if sym (suc_eqb j i (eqb j i) refl) m then record r.0 { item = f r.0.item } else r.0))
+
+    by : ((i j : ℕ) → place_of xs n ≡ Some i → slice_get (change_named f n xs) j ≡ Some s → (old : Named A) × (slice_get xs j ≡ Some old) × (s ≡ (if eqb j i then record old { item = f old.item } else old))) → (b : Bool) → (if b then Some 0 else option_map suc (place_of xs n)) ≡ Some i → (j : ℕ) → slice_get (if b then record x { item = f x.item } ∷ xs else x ∷ change_named f n xs) j ≡ Some s
+        → (old : Named A) × (slice_get (x ∷ xs) j ≡ Some old) × (s ≡ (if eqb j i then record old { item = f old.item } else old))
+    by rest true e j k = first i j e k
+    by rest false e j k = later rest (place_of xs n) i j e refl k

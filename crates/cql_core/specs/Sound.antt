@@ -1,39 +1,106 @@
--- What the machine keeps true of its state.
-use Rattle.std.specs.Prelude.{◌≡◌, ℕ, ◌≤◌, ◌<◌, ◌^◌, true, List, length, Some, unwrap_or}
+-- What the core keeps: each stub stands at one input of one query, in the store of the input's stream, at the query's cursor; a store holds rows of its stream's columns, and takes any that the stream takes.
+use Rattle.std.specs.Prelude.{◌≡◌, ℕ, ◌+◌, ◌^◌, ◌≤◌, List, [], ◌∷◌, ◌++◌, map, length, get_or, Option, Some, None, slice_get, if◌then◌else◌}
 use Rattle.std.specs.List.{AllByRecursion}
-use Rattle.cql_value.specs.Schema.{is_row_of}
-use Rattle.cql_window.specs.Window.{AreAscending}
-use Rattle.cql_plan.specs.Ports.{ports, AreReadAs, IsPlain}
-use Rattle.cql_core.specs.declared.state.StreamState.{StreamState}
-use Rattle.cql_core.specs.State.{Named, Home, QueryState, State, find_named, home_at, queries_at, opened_of, limit_of, readable_at}
+use Rattle.cql_value.specs.declared.schema.ColumnType.{ColumnType}
+use Rattle.cql_value.specs.Schema.{HasTypes, types_of}
+use Rattle.cql_store.specs.Held.{Held, Stubs, stub_of}
+use Rattle.cql_store.specs.Next.{TakesFrom}
+use Rattle.cql_plan.specs.declared.plan.Input.{Input}
+use Rattle.cql_plan.specs.Ports.{ports, IsPlain}
+use Rattle.cql_eval.specs.Pin.{AreOf}
+use Rattle.cql_tenants.specs.declared.home.Home.{Home}
+use Rattle.cql_tenants.specs.declared.stream.Stream.{Stream}
+use Rattle.cql_tenants.specs.declared.tenants.Tenant.{Tenant}
+use Rattle.cql_tenants.specs.Named.{Named, place_of}
+use Rattle.cql_tenants.specs.Home.{home_at}
+use Rattle.cql_streams.specs.declared.spot.Spot.{Spot}
+use Rattle.cql_streams.specs.Stores.{OwnStores, AllStores, own_at, store_at, held_at, same_spot}
+use Rattle.cql_core.specs.declared.query_state.QueryState.{QueryState}
+use Rattle.cql_core.specs.Seen.{Holding}
 
--- a stream's times never fall, none is past the least that it still takes, all are instants, and each row is one of its schema
-pub record IsStream (s : StreamState) : Type 0 where
-  pub ascending : AreAscending s.elements
-  pub before : AllByRecursion (λ x. x.at ≤ s.opened) s.elements
-  pub instants : AllByRecursion (λ x. x.at < 2 ^ 62) s.elements
-  pub rows : AllByRecursion (λ x. is_row_of s.schema x.row ≡ true) s.elements
+-- COUNTS
+-- how often a stub is named
+abbrev pub uses_in : Spot → List Spot → ℕ
+uses_in p [] = 0
+uses_in p (q ∷ qs) = (if same_spot p q then 1 else 0) + uses_in p qs
 
--- all streams of a home are so
-abbrev pub AreStreams : Home → Type 0
-AreStreams home = (name : List ℕ) (s : StreamState) → find_named home.streams name ≡ Some s → IsStream s
+abbrev pub uses_of : Spot → List (Named QueryState) → ℕ
+uses_of p [] = 0
+uses_of p (q ∷ qs) = uses_in p q.item.spots + uses_of p qs
 
--- a query's cursor lies between its base and its limit, and its plan reads its tenant's streams and shows all that its input's window holds
-pub record IsFollowed (home : Home) (q : QueryState) : Type 0 where
+abbrev pub uses : Spot → List (List (Named QueryState)) → ℕ
+uses p [] = 0
+uses p (qs ∷ rest) = uses_of p qs + uses p rest
+
+-- 1 where there is such a stub
+abbrev pub lives : Option Held → ℕ
+lives None = 0
+lives (Some h) = 1
+
+-- STREAMS
+-- the stream at a place of an owner
+abbrev pub stream_placed : List Home → ℕ → ℕ → Option (Named Stream)
+stream_placed homes owner place = slice_get (home_at homes owner).streams place
+
+-- the stubs on a stream: its time is at most the one after the greatest; every row that it takes may come to them; and their rows have its columns
+pub record IsStocked (s : Stream) (stubs : Stubs) : Type 0 where
+  pub bound : s.clock ≤ 2 ^ 62
+  pub takes : TakesFrom (HasTypes (types_of s.schema)) s.clock stubs
+  pub rows : (id : ℕ) (h : Held) → stub_of stubs id ≡ Some h → AreOf (types_of s.schema) (h.content ++ h.unseen)
+
+-- QUERIES
+-- the stub of an input: it stands on the input's stream, whose columns have the port's types and whose time the cursor hasn't passed, and has the input's window at the cursor
+pub record IsLink (homes : List Home) (held : Holding) (cursor : ℕ) (i : Input) (types : List ColumnType) (p : Spot) : Type 0 where
+  pub stream : Named Stream
+  pub there : stream_placed homes p.owner p.stream ≡ Some stream
+  pub named : place_of (home_at homes p.owner).streams i.stream ≡ Some p.stream
+  pub typed : types ≡ types_of stream.item.schema
+  pub ahead : cursor ≤ stream.item.clock
+  pub stub : Held
+  pub is_held : held p ≡ Some stub
+  pub reached : stub.cursor ≡ cursor
+  pub window : stub.window ≡ i.window
+
+-- each input has a port and a stub
+abbrev pub AreLinks : List Home → Holding → ℕ → List Input → List (List ColumnType) → List Spot → Type 0
+AreLinks homes held cursor [] [] [] = Unit {0}
+AreLinks homes held cursor [] [] (p ∷ ps) = ⊥
+AreLinks homes held cursor [] (c ∷ cs) spots = ⊥
+AreLinks homes held cursor (i ∷ is) [] spots = ⊥
+AreLinks homes held cursor (i ∷ is) (c ∷ cs) [] = ⊥
+AreLinks homes held cursor (i ∷ is) (c ∷ cs) (p ∷ ps) = IsLink homes held cursor i c p × AreLinks homes held cursor is cs ps
+
+pub record IsLinked (homes : List Home) (held : Holding) (q : QueryState) : Type 0 where
   pub base : q.base ≤ q.cursor
-  pub limit : q.cursor ≤ limit_of home q
-  pub reads : AreReadAs (readable_at home) q.plan.inputs (ports q.plan)
   pub plain : IsPlain q.plan
+  pub links : AreLinks homes held q.cursor q.plan.inputs (ports q.plan) q.spots
 
--- the queries stand beside the homes, no stream waits for a time past the one after the greatest, all streams are in order, and each query is followed
-pub record IsSound (s : State) : Type 0 where
-  pub beside : length s.queries ≡ length s.homes
-  pub bounded : (place : ℕ) (name : List ℕ) → unwrap_or (opened_of (home_at s.homes place) name) 0 ≤ 2 ^ 62
-  pub streams : (place : ℕ) → AreStreams (home_at s.homes place)
-  pub followed : (place : ℕ) (name : List ℕ) (q : QueryState) → find_named (queries_at s.queries place) name ≡ Some q → IsFollowed (home_at s.homes place) q
+abbrev pub AreLinked : List Home → Holding → List (Named QueryState) → Type 0
+AreLinked homes held queries = AllByRecursion (λ q. IsLinked homes held q.item) queries
 
--- the same of one tenant
-pub record IsHomeSound (home : Home) (queries : List (Named QueryState)) : Type 0 where
-  pub bounded : (name : List ℕ) → unwrap_or (opened_of home name) 0 ≤ 2 ^ 62
-  pub streams : AreStreams home
-  pub followed : (name : List ℕ) (q : QueryState) → find_named queries name ≡ Some q → IsFollowed home q
+abbrev pub AllLinked : List Home → Holding → List (List (Named QueryState)) → Type 0
+AllLinked homes held queries = AllByRecursion (AreLinked homes held) queries
+
+-- THE CORE
+-- a store for each stream
+pub record IsBeside (homes : List Home) (stores : AllStores) : Type 0 where
+  pub owners : length stores ≡ length homes
+  pub streams : (owner : ℕ) → length (own_at stores owner) ≡ length (home_at homes owner).streams
+
+pub record IsSound (homes : List Home) (stores : AllStores) (queries : List (List (Named QueryState))) : Type 0 where
+  pub queries_beside : length queries ≡ length homes
+  pub beside : IsBeside homes stores
+  -- each stub that there is stands at one input, and nothing else does
+  pub counted : (p : Spot) → uses p queries ≡ lives (held_at stores p)
+  pub stocked : (owner place : ℕ) (s : Named Stream) → stream_placed homes owner place ≡ Some s → IsStocked s.item (store_at stores owner place)
+  pub linked : AllLinked homes (held_at stores) queries
+
+abbrev pub shelf_at : List (List (Named QueryState)) → ℕ → List (Named QueryState)
+shelf_at queries place = get_or queries place []
+
+-- at the opening
+abbrev pub no_states : List Tenant → List (List (Named QueryState))
+no_states table = map {B = List (Named QueryState)} (λ t. []) table
+
+abbrev pub no_stores : List Tenant → AllStores
+no_stores table = map {B = OwnStores} (λ t. []) table

@@ -1,11 +1,10 @@
 // Commands, checked as far as that needs no state.
 ghost use Rattle.std.specs.Prelude.{◌≡◌, IfOk, option_map};
 ghost use Rattle.std.specs.Arc.{arc_value};
-ghost use Rattle.cql_core.specs.Checks.{column_of, columns_of};
-ghost use Rattle.cql_core.specs.Prepared.{schema_checked, query_checked, IsReady, command_of};
+ghost use Rattle.cql_meaning.specs.Columns.{column_of, columns_of, schema_of};
+ghost use Rattle.cql_core.specs.Prepared.{query_checked, IsReady, command_of};
 
-use crate::command::{ColumnText, Command};
-use crate::refusal::Refusal;
+use cql_meaning::{ColumnText, Command, Refusal};
 use cql_text::{ReadError, Syntax, read};
 use cql_value::name::is_name;
 use cql_value::{Column, ColumnType, Items, Name, NameError, Schema, Text, Timed};
@@ -18,7 +17,11 @@ pub(crate) enum Ready {
     Stream {
         name: Text,
         columns: Items<ColumnText>,
-        checked: Result<Schema, Refusal>,
+        schema: Option<Schema>,
+    },
+    Grant {
+        stream: Text,
+        to: Text,
     },
     Put {
         stream: Text,
@@ -37,6 +40,14 @@ pub(crate) enum Ready {
         name: Text,
         until: Option<u64>,
     },
+    Ack {
+        name: Text,
+        to: u64,
+    },
+    Drop {
+        name: Text,
+    },
+    List,
 }
 
 impl Drop for Ready {
@@ -45,7 +56,11 @@ impl Drop for Ready {
             Ready::Stream {
                 name: _name,
                 columns: _columns,
-                checked: _checked,
+                schema: _schema,
+            } => {}
+            Ready::Grant {
+                stream: _stream,
+                to: _to,
             } => {}
             Ready::Put {
                 stream: _stream,
@@ -64,6 +79,9 @@ impl Drop for Ready {
                 name: _name,
                 until: _,
             } => {}
+            Ready::Ack { name: _name, to: _ } => {}
+            Ready::Drop { name: _name } => {}
+            Ready::List => {}
         }
     }
 }
@@ -76,7 +94,7 @@ pub struct Prepared {
 }
 
 impl Model for Prepared {
-    ghost use Rattle.cql_core.specs.declared.command.Command.{Command};
+    ghost use Rattle.cql_meaning.specs.declared.command.Command.{Command};
     ghost use Rattle.cql_core.specs.Prepared.{IsReady, command_of};
 
     ghost Value = { Command };
@@ -123,23 +141,16 @@ fn columns_of(alloc: Global, columns: &[ColumnText]) -> Result<Option<Vec<Column
     Ok(Some(all))
 }
 
-// The schema of a new stream, or why there is none.
-fn check_stream(
-    alloc: Global,
-    name: &str,
-    columns: &[ColumnText],
-) -> Result<Result<Schema, Refusal>, AllocError>
-    ensures { IfOk result (λ checked. checked ≡ schema_checked name.now columns.now) }
+// The schema of the columns of a new stream, if they have one.
+fn schema_of(alloc: Global, columns: &[ColumnText]) -> Result<Option<Schema>, AllocError>
+    ensures { IfOk result (λ schema. schema ≡ schema_of columns.now) }
 {
-    if !is_name(name) {
-        return Ok(Err(Refusal::BadName));
-    }
     match columns_of(alloc, columns)? {
         Some(columns) => match Schema::new(columns) {
-            Ok(schema) => Ok(Ok(schema)),
-            Err(_) => Ok(Err(Refusal::BadColumns)),
+            Ok(schema) => Ok(Some(schema)),
+            Err(_) => Ok(None),
         },
-        None => Ok(Err(Refusal::BadColumns)),
+        None => Ok(None),
     }
 }
 
@@ -163,13 +174,14 @@ fn ready_of(alloc: Global, command: Command) -> Result<Ready, AllocError>
 {
     match command {
         Command::Stream { name, columns } => {
-            let checked = check_stream(alloc, name.as_str(), columns.as_slice())?;
+            let schema = schema_of(alloc, columns.as_slice())?;
             Ok(Ready::Stream {
                 name,
                 columns,
-                checked,
+                schema,
             })
         }
+        Command::Grant { stream, to } => Ok(Ready::Grant { stream, to }),
         Command::Put { stream, at, row } => {
             let element = Timed::new(at, Arc::new(alloc, row)?);
             Ok(Ready::Put { stream, element })
@@ -184,6 +196,9 @@ fn ready_of(alloc: Global, command: Command) -> Result<Ready, AllocError>
             })
         }
         Command::Fetch { name, until } => Ok(Ready::Fetch { name, until }),
+        Command::Ack { name, to } => Ok(Ready::Ack { name, to }),
+        Command::Drop { name } => Ok(Ready::Drop { name }),
+        Command::List => Ok(Ready::List),
     }
 }
 

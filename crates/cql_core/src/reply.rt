@@ -1,6 +1,6 @@
 // Replies and steps.
-use crate::refusal::Refusal;
 use cql_eval::{Answer, Pin};
+use cql_meaning::{Listing, Refusal};
 
 /// The reply to a command.
 pub enum Reply {
@@ -10,6 +10,8 @@ pub enum Reply {
     Base(u64),
     /// The blocks of a fetch.
     Blocks(Answer),
+    /// What a list tells.
+    Listing(Listing),
     /// It was refused, and nothing is changed.
     Refused(Refusal),
 }
@@ -20,6 +22,7 @@ impl Drop for Reply {
             Reply::Ok => {}
             Reply::Base(_) => {}
             Reply::Blocks(_answer) => {}
+            Reply::Listing(_listing) => {}
             Reply::Refused(_) => {}
         }
     }

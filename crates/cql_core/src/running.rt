@@ -1,24 +1,24 @@
 // A list of commands, served in order.
 ghost use Rattle.std.specs.Prelude.{◌≡◌, ◌⊎◌, IfOk, length, map};
-ghost use Rattle.cql_core.specs.Told.{reads, no_memory};
+ghost use Rattle.cql_meaning.specs.Told.{no_memory};
+ghost use Rattle.cql_meaning.specs.Machine.{opening, reads};
+ghost use Rattle.cql_meaning.specs.Headline.{IsLegal, IsSolo};
+ghost use Rattle.cql_core.specs.Language.{cql};
 ghost use Rattle.cql_core.specs.Steps.{told_of, stepped_of, IsPinned};
-ghost use Rattle.cql_core.specs.State.{opening};
-ghost use Rattle.cql_core.specs.History.{IsLegal, IsSolo};
 ghost use Rattle.cql_core.specs.Running.{history_of, Serves};
 
-use crate::command::Command;
 use crate::law::history_law;
+use crate::machine::Core;
 use crate::ready::prepare;
-use crate::refusal::Refusal;
 use crate::reply::{Reply, Step};
-use crate::server::Core;
 use cql_eval::answer;
+use cql_meaning::{Command, Refusal};
 use cql_tenants::{TenantId, TenantTable};
 use std::alloc::{AllocError, Global};
 
 /// The reply of a step: a pin is answered. Where that finds no memory the reply is 70.
 pub fn finish(alloc: Global, step: Step) -> Reply
-    ensures { (told_of result ≡ reads (stepped_of step)) ⊎ ((told_of result ≡ no_memory) × IsPinned step) }
+    ensures { (told_of result ≡ reads cql (stepped_of step)) ⊎ ((told_of result ≡ no_memory) × IsPinned step) }
 {
     match step {
         Step::Done(reply) => reply,
@@ -57,8 +57,8 @@ pub fn run(
     commands: Vec<(TenantId, Command)>,
 ) -> Result<Vec<Reply>, AllocError>
     ensures each { IfOk result (λ replies. length replies.items ≡ length commands.items) }
-    ensures machine { IfOk result (λ replies. IsLegal (opening table) (history_of commands.items (map told_of replies.items))) }
-    ensures solo { IfOk result (λ replies. IsSolo table (history_of commands.items (map told_of replies.items))) }
+    ensures machine { IfOk result (λ replies. IsLegal cql (opening table) (history_of commands.items (map told_of replies.items))) }
+    ensures solo { IfOk result (λ replies. IsSolo cql table (history_of commands.items (map told_of replies.items))) }
 {
     history_law();
     let mut core = Core::new(alloc, table)?;

@@ -1,6 +1,7 @@
 // The laws can be called.
 use cql_core::law::{
-    alone_law, fetch_law, history_law, isolation_law, query_law, relation_law, reply_law, solo_law,
+    alone_law, fetch_law, held_law as rows_held_law, history_law, isolation_law, language_law,
+    limit_law, query_law, refusal_law, relation_law, reply_law, solo_law, stub_law,
 };
 use cql_plan::law::{column_law, first_fault_law, plain_law, ports_law, qualified_law};
 use cql_syntax::reserved_law;
@@ -10,6 +11,7 @@ use cql_window::laws::{all_law, held_law, parts_law, range_law, rows_law};
 
 #[test]
 fn laws() {
+    language_law();
     solo_law();
     reply_law();
     fetch_law();
@@ -18,6 +20,10 @@ fn laws() {
     query_law();
     relation_law();
     alone_law();
+    stub_law();
+    refusal_law();
+    limit_law();
+    rows_held_law();
     column_law();
     first_fault_law();
     qualified_law();

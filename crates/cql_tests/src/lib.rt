@@ -15,6 +15,10 @@ mod pins;
 #[cfg(test)]
 mod reading;
 #[cfg(test)]
+mod scripts;
+#[cfg(test)]
 mod tenants;
+#[cfg(test)]
+mod trimming;
 #[cfg(test)]
 mod typing;

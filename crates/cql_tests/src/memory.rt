@@ -1,144 +1,213 @@
-// Commands where memory may run out.
-use crate::outputs::{Numbers, Told, are_blocks};
-use crate::tenants::table;
-use cql_core::{ColumnText, Command, Core, Refusal, Reply, TenantId, run, serve};
-use cql_value::{Items, Row, Text, Value};
+// Commands where memory may run out: `rt try --test --fail-alloc` passes here with every number.
+use crate::scripts::{Call, Say, Script, Want, command, is_same_reply, is_told, scripts};
+use crate::tenants::{Unmade, table_with};
+use cql_core::{Command, Core, Refusal, Reply, TenantId, TenantTable, run, serve};
 use std::alloc::Global;
 use std::test::Fail;
 
-// A reply; that to a fetch tells blocks, and the instant after the last that is final.
-#[derive(Clone, Copy)]
-enum Want {
-    Done,
-    Base(u64),
-    Blocks(&'static [Told], u64),
+fn table_of(alloc: Global, script: &Script) -> Result<TenantTable, Unmade> {
+    table_with(alloc, &["a", "b"], script.hold)
 }
 
-const CALLS: &[(&str, Want)] = &[
-    ("stream", Want::Done),
-    ("query", Want::Base(0)),
-    ("put", Want::Done),
-    ("beat", Want::Done),
-    ("fetch", Want::Blocks(&[(5, 5, Numbers::Rows(&[1]))], 9)),
-];
-
-// The commands of a first run, and their replies.
-fn calls() -> &'static [(&'static str, Want)] {
-    CALLS
-}
-
-fn columns(alloc: Global) -> Result<Items<ColumnText>, Fail> {
-    let name = Text::new(alloc, "v")?;
-    let kind = Text::new(alloc, "int")?;
-    Ok(Items::from_vec(vec![in alloc; ColumnText { name, kind }]?))
-}
-
-fn stream(alloc: Global) -> Result<Command, Fail> {
-    let columns = columns(alloc)?;
-    Ok(Command::Stream {
-        name: Text::new(alloc, "s")?,
-        columns,
-    })
-}
-
-fn query(alloc: Global, text: &str) -> Result<Command, Fail> {
-    let name = Text::new(alloc, "q")?;
-    Ok(Command::Query {
-        name,
-        text: Text::new(alloc, text)?,
-    })
-}
-
-fn put(alloc: Global) -> Result<Command, Fail> {
-    let row = Row::new(vec![in alloc; Value::Number(1)]?);
-    Ok(Command::Put {
-        stream: Text::new(alloc, "s")?,
-        at: 5,
-        row,
-    })
-}
-
-fn command(alloc: Global, word: &str) -> Result<Command, Fail> {
-    match word {
-        "stream" => stream(alloc),
-        "query" => query(alloc, "Select Istream(*) From s [Range 2]"),
-        "put" => put(alloc),
-        "beat" => Ok(Command::Beat {
-            stream: Text::new(alloc, "s")?,
-            at: 8,
-        }),
-        _ => Ok(Command::Fetch {
-            name: Text::new(alloc, "q")?,
-            until: None,
-        }),
+// The same, made once more where there was no memory.
+fn table_at_last(alloc: Global, script: &Script) -> Result<TenantTable, Unmade> {
+    match table_of(alloc, script) {
+        Ok(table) => Ok(table),
+        Err(_why) => table_of(alloc, script),
     }
 }
 
-fn is_told(alloc: Global, reply: &Reply, want: Want) -> Result<bool, Fail> {
-    match (reply, want) {
-        (Reply::Ok, Want::Done) => Ok(true),
-        (Reply::Base(base), Want::Base(wanted)) => Ok(*base == wanted),
-        (Reply::Blocks(answer), Want::Blocks(blocks, next)) => {
-            Ok(answer.next() == next && are_blocks(alloc, answer.blocks(), blocks)?)
-        }
-        _ => Ok(false),
+fn core_of(alloc: Global, script: &Script) -> Result<Core, Unmade> {
+    let table = table_of(alloc, script)?;
+    Ok(Core::new(alloc, table)?)
+}
+
+fn core_at_last(alloc: Global, script: &Script) -> Result<Core, Unmade> {
+    match core_of(alloc, script) {
+        Ok(core) => Ok(core),
+        Err(_why) => core_of(alloc, script),
     }
 }
 
-// The reply to a command; one that was told of no memory is sent once more.
-fn served(alloc: Global, core: &mut Core, tenant: TenantId, word: &str) -> Result<Reply, Fail> {
-    let reply = serve(alloc, core, tenant, command(alloc, word)?);
-    match &reply {
-        Reply::Refused(Refusal::NoMemory) => {
-            Ok(serve(alloc, core, tenant, command(alloc, word)?))
-        }
-        _ => Ok(reply),
+// What is shown of a core: the list of a tenant, and how many rows of `s` are held.
+#[derive(Drop)]
+struct Shown {
+    list: Reply,
+    held: Option<u64>,
+}
+
+fn shown_of(
+    alloc: Global,
+    core: &mut Core,
+    table: &TenantTable,
+    by: TenantId,
+) -> Result<Shown, Unmade> {
+    let owner = table.find("a").ok_or(Unmade::Wrong)?;
+    let held = core.rows_held(owner, "s");
+    let list = serve(alloc, core, by, Command::List);
+    if !matches!(&list, Reply::Listing(_)) {
+        return Err(Unmade::Wrong);
+    }
+    Ok(Shown { list, held })
+}
+
+// The same, asked once more where there was no memory.
+fn shown_at_last(
+    alloc: Global,
+    core: &mut Core,
+    table: &TenantTable,
+    by: TenantId,
+) -> Result<Shown, Unmade> {
+    match shown_of(alloc, core, table, by) {
+        Ok(shown) => Ok(shown),
+        Err(_why) => shown_of(alloc, core, table, by),
     }
 }
 
-fn are_all_told(alloc: Global) -> Result<bool, Fail> {
-    let table = table(alloc, &["a"])?;
-    let a = table.find("a").ok_or("a")?;
-    let mut core = Core::new(alloc, table)?;
-    for (word, want) in calls() {
-        let reply = served(alloc, &mut core, a, word)?;
-        if !is_told(alloc, &reply, *want)? {
+fn command_at_last(alloc: Global, say: Say) -> Result<Command, Unmade> {
+    match command(alloc, say) {
+        Ok(command) => Ok(command),
+        Err(_why) => command(alloc, say),
+    }
+}
+
+// Whether a reply is what is wanted, looked at once more where there was no memory to do so.
+fn is_told_at_last(alloc: Global, reply: &Reply, want: Want) -> Result<bool, Unmade> {
+    match is_told(alloc, reply, want) {
+        Ok(is) => Ok(is),
+        Err(_why) => is_told(alloc, reply, want),
+    }
+}
+
+// Whether a command is told what it is to be told. One that was told of no memory must have changed
+// nothing, and is sent once more.
+fn is_served(
+    alloc: Global,
+    core: &mut Core,
+    table: &TenantTable,
+    call: &Call,
+) -> Result<bool, Unmade> {
+    let (by, say, told, _) = *call;
+    let by = table.find(by).ok_or(Unmade::Wrong)?;
+    let before = shown_at_last(alloc, core, table, by)?;
+    let reply = serve(alloc, core, by, command_at_last(alloc, say)?);
+    let Reply::Refused(Refusal::NoMemory) = &reply else {
+        return is_told_at_last(alloc, &reply, told);
+    };
+    let after = shown_of(alloc, core, table, by)?;
+    let again = serve(alloc, core, by, command(alloc, say)?);
+    Ok(
+        before.held == after.held
+            && is_same_reply(&before.list, &after.list)
+            && is_told(alloc, &again, told)?,
+    )
+}
+
+fn are_all_served(alloc: Global, script: &Script) -> Result<bool, Unmade> {
+    let table = table_at_last(alloc, script)?;
+    let mut core = core_at_last(alloc, script)?;
+    for call in script.calls {
+        if !is_served(alloc, &mut core, &table, call)? {
             return Ok(false);
         }
     }
     Ok(true)
 }
 
-// Where one allocation fails, at most one command is told so. It has changed nothing: sent once
-// more, it and all later ones are told what they are told with ample memory.
+// Where one allocation fails, at most one command is told so. It has changed nothing, also one
+// that registers or acknowledges a query over parts: sent once more, it and all later ones are
+// told what they are told with ample memory.
 #[test]
 fn a_command_without_memory_changes_nothing(rt: HostRuntime) -> Result<(), Fail> {
-    assert!(rt; are_all_told(rt.alloc())?);
+    for script in scripts() {
+        let what = script.what;
+        assert!(rt; are_all_served(rt.alloc(), script)?, "{what}");
+    }
     Ok(())
 }
 
-fn commands(alloc: Global, tenant: TenantId) -> Result<Vec<(TenantId, Command)>, Fail> {
+// The commands of a script but the one at a place.
+fn commands(
+    alloc: Global,
+    table: &TenantTable,
+    script: &Script,
+    without: Option<usize>,
+) -> Result<Vec<(TenantId, Command)>, Unmade> {
     let mut commands = Vec::new(alloc);
-    for (word, _) in calls() {
-        commands.push((tenant, command(alloc, word)?))?;
+    for (place, (by, say, _, _)) in script.calls.iter().enumerate() {
+        if Some(place) != without {
+            let by = table.find(by).ok_or(Unmade::Wrong)?;
+            commands.push((by, command(alloc, *say)?))?;
+        }
     }
     Ok(commands)
 }
 
-fn replies(alloc: Global) -> Result<Vec<Reply>, Fail> {
-    let table = table(alloc, &["a"])?;
-    let a = table.find("a").ok_or("a")?;
-    let commands = commands(alloc, a)?;
+fn replies(alloc: Global, script: &Script, without: Option<usize>) -> Result<Vec<Reply>, Unmade> {
+    let table = table_of(alloc, script)?;
+    let commands = commands(alloc, &table, script, without)?;
     Ok(run(alloc, table, commands)?)
 }
 
-// With ample memory each is told what it is to be told.
+// The same, once more where the run itself had no memory.
+fn replies_at_last(alloc: Global, script: &Script) -> Result<Vec<Reply>, Unmade> {
+    match replies(alloc, script, None) {
+        Ok(replies) => Ok(replies),
+        Err(_why) => replies(alloc, script, None),
+    }
+}
+
+fn has_no_memory(reply: &Reply) -> bool {
+    matches!(reply, Reply::Refused(Refusal::NoMemory))
+}
+
+// Whether replies are those of a run without the command at a place.
+fn are_those_without(
+    alloc: Global,
+    script: &Script,
+    replies: &[Reply],
+    without: usize,
+) -> Result<bool, Unmade> {
+    let others = self::replies(alloc, script, Some(without))?;
+    let mut left = others.as_slice();
+    for (place, reply) in replies.iter().enumerate() {
+        if place != without {
+            let Some((other, more)) = left.split_first() else {
+                return Ok(false);
+            };
+            if !is_same_reply(reply, other) {
+                return Ok(false);
+            }
+            left = more;
+        }
+    }
+    Ok(left.is_empty())
+}
+
+fn are_all_told(alloc: Global, script: &Script, replies: &[Reply]) -> Result<bool, Unmade> {
+    for (reply, (_, _, told, _)) in replies.iter().zip(script.calls) {
+        if !is_told_at_last(alloc, reply, *told)? {
+            return Ok(false);
+        }
+    }
+    Ok(replies.len() == script.calls.len())
+}
+
+fn is_run(alloc: Global, script: &Script) -> Result<bool, Unmade> {
+    let replies = replies_at_last(alloc, script)?;
+    match replies.iter().position(has_no_memory) {
+        Some(without) => are_those_without(alloc, script, &replies, without),
+        None => are_all_told(alloc, script, &replies),
+    }
+}
+
+// With ample memory each command is told what it is to be told. Where one allocation fails, at most
+// one is told of no memory, and the others what they are told in a run without it.
 #[test]
 fn a_list_of_commands(rt: HostRuntime) -> Result<(), Fail> {
-    let replies = replies(rt.alloc())?;
-    assert!(rt; replies.len() == calls().len());
-    for (reply, (_, want)) in replies.iter().zip(calls()) {
-        assert!(rt; is_told(rt.alloc(), reply, *want)?);
+    for script in scripts() {
+        let what = script.what;
+        assert!(rt; is_run(rt.alloc(), script)?, "{what}");
     }
     Ok(())
 }

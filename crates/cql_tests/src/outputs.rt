@@ -2,7 +2,6 @@
 use cql_core::{Block, Output};
 use cql_value::{Items, Row, Value};
 use std::alloc::{AllocError, Global};
-use std::test::Fail;
 
 /// An output of rows of one number each.
 #[derive(Clone, Copy)]
@@ -35,12 +34,16 @@ fn output(alloc: Global, numbers: Numbers) -> Result<Output, AllocError> {
     }
 }
 
-fn is_block(alloc: Global, block: &Block, told: &Told) -> Result<bool, Fail> {
+fn is_block(alloc: Global, block: &Block, told: &Told) -> Result<bool, AllocError> {
     let wanted = output(alloc, told.2)?;
     Ok(block.from == told.0 && block.to == told.1 && block.output.is(&wanted))
 }
 
-pub(crate) fn are_blocks(alloc: Global, blocks: &[Block], told: &[Told]) -> Result<bool, Fail> {
+pub(crate) fn are_blocks(
+    alloc: Global,
+    blocks: &[Block],
+    told: &[Told],
+) -> Result<bool, AllocError> {
     for (block, told) in blocks.iter().zip(told) {
         if !is_block(alloc, block, told)? {
             return Ok(false);

@@ -1,7 +1,7 @@
 // What the reader of queries reads and prints.
 mod tables;
 
-use crate::reading::tables::texts_read;
+use crate::reading::tables::{conditions_read, queries_read};
 use cql_text::read;
 use std::alloc::Global;
 use std::test::Fail;
@@ -12,17 +12,25 @@ fn canonical(alloc: Global, text: &str) -> Result<String, Fail> {
     Ok(syntax.to_text(alloc)?)
 }
 
-// A canonical spelling is read again and printed the same.
+// Whether a text has this spelling, which is read again and printed the same.
+fn is_spelled(alloc: Global, text: &str, spelling: &str) -> Result<bool, Fail> {
+    let first = canonical(alloc, text)?;
+    let again = canonical(alloc, spelling)?;
+    Ok(first.as_str() == spelling && again.as_str() == spelling)
+}
+
 #[test]
-fn spellings(rt: HostRuntime) -> Result<(), Fail> {
-    let a = rt.alloc();
-    for row in texts_read() {
-        let first = canonical(a, row.0)?;
-        let again = canonical(a, row.1)?;
-        assert!(rt;
-            first.as_str() == row.1 && again.as_str() == row.1,
-            "of {first:?}"
-        );
+fn spellings_of_queries(rt: HostRuntime) -> Result<(), Fail> {
+    for (text, spelling) in queries_read() {
+        assert!(rt; is_spelled(rt.alloc(), text, spelling)?, "of {text}");
+    }
+    Ok(())
+}
+
+#[test]
+fn spellings_of_conditions(rt: HostRuntime) -> Result<(), Fail> {
+    for (text, spelling) in conditions_read() {
+        assert!(rt; is_spelled(rt.alloc(), text, spelling)?, "of {text}");
     }
     Ok(())
 }

@@ -1,7 +1,7 @@
 // Tables of tenants, and the one refusal that no command can be brought to.
-use cql_core::{Quotas, Refusal, Tenant, TenantTable};
-use cql_value::{Name, Text};
-use std::alloc::Global;
+use cql_core::{BadTenants, Quotas, Refusal, Tenant, TenantTable};
+use cql_value::{Name, NameError, Text};
+use std::alloc::{AllocError, AllocFailed, Global};
 use std::test::Fail;
 
 pub(crate) const USUAL: Quotas = Quotas {
@@ -11,21 +11,57 @@ pub(crate) const USUAL: Quotas = Quotas {
     result: 1000,
 };
 
-fn tenant(alloc: Global, name: &str) -> Result<Tenant, Fail> {
+/// Why a value of a test wasn't made.
+#[derive(Debug, Drop)]
+pub(crate) enum Unmade {
+    NoMemory,
+    Wrong,
+}
+
+impl From<AllocError> for Unmade {
+    fn from(_error: AllocError) -> Unmade {
+        Unmade::NoMemory
+    }
+}
+
+impl<T: Drop> From<AllocFailed<T>> for Unmade {
+    fn from(_failed: AllocFailed<T>) -> Unmade {
+        Unmade::NoMemory
+    }
+}
+
+impl From<NameError> for Unmade {
+    fn from(_error: NameError) -> Unmade {
+        Unmade::Wrong
+    }
+}
+
+impl From<BadTenants> for Unmade {
+    fn from(_error: BadTenants) -> Unmade {
+        Unmade::Wrong
+    }
+}
+
+fn tenant(alloc: Global, name: &str, hold: u64) -> Result<Tenant, Unmade> {
     let name = Name::read(alloc, name)?;
     Ok(Tenant {
         name,
         key: Text::new(alloc, "key")?,
-        quotas: USUAL,
+        quotas: Quotas { hold, ..USUAL },
     })
 }
 
-pub(crate) fn table(alloc: Global, names: &[&str]) -> Result<TenantTable, Fail> {
+/// A table of tenants with the usual quotas, but for that of rows.
+pub(crate) fn table_with(alloc: Global, names: &[&str], hold: u64) -> Result<TenantTable, Unmade> {
     let mut tenants = Vec::new(alloc);
     for name in names {
-        tenants.push(tenant(alloc, name)?)?;
+        tenants.push(tenant(alloc, name, hold)?)?;
     }
     Ok(TenantTable::new(tenants)?)
+}
+
+pub(crate) fn table(alloc: Global, names: &[&str]) -> Result<TenantTable, Unmade> {
+    table_with(alloc, names, USUAL.hold)
 }
 
 // Names, and whether a table of `b` and `a` has them.

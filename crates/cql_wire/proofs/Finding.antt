@@ -36,7 +36,7 @@ found_by false false line h = refl
 pub line_found-counted : (line : List ℕ) → is_some (line_found line) ≡ true → line_found line ≡ Some (shown_line line)
 line_found-counted line h = found_by (nat_lt 65536 (length line)) (list_all is_space line) line h
 
-none_from : {A : Type 0} (o : Option A) → is_some o ≡ false → o ≡ None
+pub none_from : {A : Type 0} (o : Option A) → is_some o ≡ false → o ≡ None
 none_from None h = refl
 none_from (Some x) h = cc
 
@@ -46,7 +46,7 @@ pub found_more : (lines : List (List ℕ)) (front line : List ℕ) → filter_ma
 found_more lines front line none e =
     filter_map-append line_found lines (front ∷ []) ∙ ap (λ l. l ++ cons_option (line_found front) []) none ∙ ap (λ o. cons_option o []) (line_found-kept front line e)
 
-joined-push : (lines : List (List ℕ)) (front : List ℕ) → joined (lines ++ front ∷ []) ≡ joined lines ++ (front ++ 10 ∷ [])
+pub joined-push : (lines : List (List ℕ)) (front : List ℕ) → joined (lines ++ front ∷ []) ≡ joined lines ++ (front ++ 10 ∷ [])
 joined-push lines front = flat_map-append (λ line. line ++ 10 ∷ []) lines (front ∷ []) ∙ ap (λ l. joined lines ++ l) (append-nil (front ++ 10 ∷ []))
 
 -- a line that a line feed ended was passed

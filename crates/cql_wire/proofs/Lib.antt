@@ -1,10 +1,16 @@
+mod Advancing
+mod Answering
 mod Columns
 mod Counting
 mod Finding
 mod Firsts
+mod Gathering
+mod Holding
 mod Keys
+mod Listing
 mod Outputs
 mod Pieces
+mod Pushing
 mod Readings
 mod Refusals
 mod ReplyLines

@@ -7,11 +7,9 @@ use Rattle.std.proofs.KnownBytes.{Consumes-trans, Consumes-nil}
 use Rattle.std.specs.Io.KnownBytes.{Consumes, IsAtEnd, Appends, prepend_known}
 use Rattle.std.specs.List.{filter_map, slice_split}
 use Rattle.cql_wire.specs.declared.watched.ReadFault.{ReadFault}
-use Rattle.cql_wire.specs.declared.lines.Line.{Line}
-use Rattle.cql_wire.specs.Text.{LineText, is_feed, HasNoFeed, line_found, lines_of, joined, Passed}
+use Rattle.cql_wire.specs.Text.{LineText, is_feed, HasNoFeed, line_found, lines_of, joined, Passed, shown_line}
 use Rattle.cql_wire.proofs.Splitting.{split-joined}
-use Rattle.cql_wire.specs.Reading.{Reading, finds}
-use Rattle.cql_wire.specs.Next.{Next, text_of}
+use Rattle.cql_wire.specs.Reading.{Reading, GivesLine, finds}
 use Rattle.cql_tenants.specs.declared.tenants.Tenant.{Tenant}
 use Rattle.cql_wire.specs.declared.scripts.ScriptError.{ScriptError}
 use Rattle.cql_wire.specs.Script.{WholeLines, BeginsWith, IsOutputOf, WritesOutput}
@@ -45,7 +43,7 @@ nothing_came a false e = record {
 }
 
 -- passed twice
-passed_twice : (a b c : Option (List ℕ)) (raws more : List (List ℕ)) (rest : List ℕ) → Passed a b raws [] → Passed b c more rest → Passed a c (raws ++ more) rest
+pub passed_twice : (a b c : Option (List ℕ)) (raws more : List (List ℕ)) (rest : List ℕ) → Passed a b raws [] → Passed b c more rest → Passed a c (raws ++ more) rest
 passed_twice a b c raws more rest p q =
     let text : (joined raws ++ []) ++ (joined more ++ rest) ≡ joined (raws ++ more) ++ rest =
     ap (λ l. l ++ (joined more ++ rest)) (append-nil (joined raws)) ∙ sym (append_assoc (joined raws) (joined more) rest) ∙ ap (λ l. l ++ rest) (sym (joined-append raws more)) in
@@ -55,7 +53,7 @@ passed_twice a b c raws more rest p q =
       consumed = subst (Consumes a c) text (Consumes-trans a b c _ _ p.consumed q.consumed);
     }
 
-finds_more : (ended : Bool) (raws more : List (List ℕ)) (rest : List ℕ) (lines found : List LineText) → filter_map line_found raws ≡ lines → finds ended more rest ≡ found → finds ended (raws ++ more) rest ≡ lines ++ found
+pub finds_more : (ended : Bool) (raws more : List (List ℕ)) (rest : List ℕ) (lines found : List LineText) → filter_map line_found raws ≡ lines → finds ended more rest ≡ found → finds ended (raws ++ more) rest ≡ lines ++ found
 finds_more false raws more rest lines found e f = filter_map-append line_found raws more ∙ ap (λ l. l ++ filter_map line_found more) e ∙ ap (λ l. lines ++ l) f
 finds_more true raws more rest lines found e f =
     ap (filter_map line_found) (append_assoc raws more (rest ∷ [])) ∙ filter_map-append line_found raws (more ++ rest ∷ []) ∙ ap (λ l. l ++ filter_map line_found (more ++ rest ∷ [])) e ∙ ap (λ l. lines ++ l) f
@@ -66,18 +64,16 @@ came_found a b true lines e c = cc
 came_found a b false lines e c = (c.found, subst (Passed a b c.raws) (c.whole refl) c.passed)
 
 -- one more line
-pub came_line : (a b d : Option (List ℕ)) (old new : Reading) (failed : Bool) (lines : List LineText) (line : Line) (r : Result (Option Line) ReadFault) → r ≡ Ok (Some line) → Came a b old.ended lines
-    → Next b d old new failed r → Came a d new.ended (lines ++ text_of line ∷ [])
-came_line a b d old new failed lines line r e c next =
-    let n = subst (Next b d old new failed) e next in
-    let so_far = came_found a b old.ended lines n.spent c in
+pub came_line : (a b d : Option (List ℕ)) (old new : Reading) (lines : List LineText) → Came a b old.ended lines → GivesLine b d old new (Ok true) → Came a d new.ended (lines ++ shown_line new.line ∷ [])
+came_line a b d old new lines c n =
+    let so_far = came_found a b old.ended lines (n.spent refl) c in
     record {
       raws = c.raws ++ n.lines;
       rest = n.rest;
       passed = passed_twice a b d c.raws n.lines n.rest so_far.1 n.passed;
       found = finds_more new.ended c.raws n.lines n.rest lines _ so_far.0 n.found;
       whole = n.whole;
-      at_end = n.at_end n.spent;
+      at_end = n.at_end (n.spent refl);
     }
 
 all_lines : (input : List ℕ) (after : Option (List ℕ)) (raws : List (List ℕ)) (rest : List ℕ) → Passed (Some input) after raws rest → IsAtEnd after → lines_of input ≡ filter_map line_found (raws ++ rest ∷ [])
@@ -110,12 +106,12 @@ came_first (Some input) after start false lines s c =
     first_lines input after whole.raws lines so_far.1 so_far.0
 
 -- nothing was found any more
-pub came_end : (input : List ℕ) (b d : Option (List ℕ)) (old new : Reading) (failed was : Bool) (lines : List LineText) → old.ended ≡ was → Came (Some input) b old.ended lines
-    → Next b d old new failed (Ok None) → lines_of input ≡ lines
-came_end input b d old new failed true lines w c n = came_all input b old.ended lines w c
-came_end input b d old new failed false lines w c n =
+came_end : (input : List ℕ) (b d : Option (List ℕ)) (old new : Reading) (was : Bool) (lines : List LineText) → old.ended ≡ was → Came (Some input) b old.ended lines
+    → GivesLine b d old new (Ok false) → lines_of input ≡ lines
+came_end input b d old new true lines w c n = came_all input b old.ended lines w c
+came_end input b d old new false lines w c n =
     let so_far = came_found (Some input) b old.ended lines w c in
-    came_all input d new.ended lines n.none (record {
+    came_all input d new.ended lines (n.none refl) (record {
       raws = c.raws ++ n.lines;
       rest = n.rest;
       passed = passed_twice (Some input) b d c.raws n.lines n.rest so_far.1 n.passed;
@@ -125,10 +121,10 @@ came_end input b d old new failed false lines w c n =
     })
 
 -- a fault
-pub came_fault : (a b : Option (List ℕ)) (known : Option (List ℕ)) (old new : Reading) (failed was : Bool) (fault : ReadFault) (lines : List LineText) → old.ended ≡ was → old.failed ≡ false → Came a b old.ended lines
-    → Next b (prepend_known new.held known) old new failed (Err fault) → WholeLines a (prepend_known [] known) lines
-came_fault a b known old new failed true fault lines w f c n = let clash : true ≡ false = sym (n.stays w) ∙ (n.fault f).0 in cc
-came_fault a b known old new failed false fault lines w f c n =
+came_fault : (a b : Option (List ℕ)) (known : Option (List ℕ)) (old new : Reading) (was : Bool) (fault : ReadFault) (lines : List LineText) → old.ended ≡ was → old.failed ≡ false → Came a b old.ended lines
+    → GivesLine b (prepend_known new.held known) old new (Err fault) → WholeLines a (prepend_known [] known) lines
+came_fault a b known old new true fault lines w f c n = let clash : true ≡ false = sym (n.stays w) ∙ (n.fault f).0 in cc
+came_fault a b known old new false fault lines w f c n =
     let so_far = came_found a b old.ended lines w c in
     let none : filter_map line_found n.lines ≡ [] = sym (ap (λ e. finds e n.lines n.rest) (n.fault f).0) ∙ n.found in (
       c.raws ++ n.lines,
@@ -145,23 +141,21 @@ at_start held (Some xs) e = ap (λ l. Some (l ++ xs)) e
 
 -- ---- the ends of a script
 
-pub ended_with : (r : Result (Unit {0}) ScriptError) (e : ScriptError) → IsErrAnd r (λ x. x ≡ e) → r ≡ Err e
+pub ended_with : {A : Type 0} (r : Result A ScriptError) (e : ScriptError) → IsErrAnd r (λ x. x ≡ e) → r ≡ Err e
 ended_with (Ok u) e h = absurd h
 ended_with (Err x) e h = ap Err h
 
 -- the output of all lines
-pub output_all : (table : List Tenant) (a b d : Option (List ℕ)) (start : Option (List ℕ)) (old new : Reading) (failed : Bool) (lines : List LineText) (written : List ℕ) (r : Result (Option Line) ReadFault) (w v : Option (List ℕ))
-    → start ≡ a → r ≡ Ok None → Came start b old.ended lines → Next b d old new failed r → IsOutputOf table lines written → Appends w v written → IfSome a (λ input. WritesOutput table (lines_of input) w v)
-output_all table None b d start old new failed lines written r w v s e c next output appends = tt
-output_all table (Some input) b d start old new failed lines written r w v s e c next output appends =
+pub output_all : (table : List Tenant) (a b d : Option (List ℕ)) (start : Option (List ℕ)) (old new : Reading) (lines : List LineText) (written : List ℕ) (w v : Option (List ℕ))
+    → start ≡ a → Came start b old.ended lines → GivesLine b d old new (Ok false) → IsOutputOf table lines written → Appends w v written → IfSome a (λ input. WritesOutput table (lines_of input) w v)
+output_all table None b d start old new lines written w v s c next output appends = tt
+output_all table (Some input) b d start old new lines written w v s c next output appends =
     let whole : Came (Some input) b old.ended lines = subst (λ x. Came x b old.ended lines) s c in
-    let n = subst (Next b d old new failed) e next in
-    (written, subst (λ ls. IsOutputOf table ls written) (sym (came_end input b d old new failed old.ended lines refl whole n)) output, appends)
+    (written, subst (λ ls. IsOutputOf table ls written) (sym (came_end input b d old new old.ended lines refl whole next)) output, appends)
 
 -- the lines before a fault
-pub lines_before : (a b known : Option (List ℕ)) (start : Option (List ℕ)) (old new : Reading) (failed : Bool) (lines : List LineText) (fault : ReadFault) (r : Result (Option Line) ReadFault) → start ≡ a → r ≡ Err fault → old.failed ≡ false
-    → Came start b old.ended lines → Next b (prepend_known new.held known) old new failed r → WholeLines a known lines
-lines_before a b known start old new failed lines fault r s e f c next =
-    let n = subst (Next b (prepend_known new.held known) old new failed) e next in
-    let came = came_fault start b known old new failed old.ended fault lines refl f c n in
+pub lines_before : (a b known : Option (List ℕ)) (start : Option (List ℕ)) (old new : Reading) (lines : List LineText) (fault : ReadFault) → start ≡ a → old.failed ≡ false
+    → Came start b old.ended lines → GivesLine b (prepend_known new.held known) old new (Err fault) → WholeLines a known lines
+lines_before a b known start old new lines fault s f c n =
+    let came = came_fault start b known old new old.ended fault lines refl f c n in
     subst (λ x. WholeLines x known lines) s (subst (λ y. WholeLines start y lines) (at_start [] known refl) came)

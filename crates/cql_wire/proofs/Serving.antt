@@ -1,19 +1,20 @@
 -- Lemmas on one line that is served.
-use Rattle.std.proofs.Common.{◌≡◌, ℕ, inl, inr, List, Option, Result, Ok, Err, OnOk, OnErr, refl, sym, ap, subst, ◌∙◌}
-use Rattle.std.specs.Io.KnownBytes.{Appends}
-use Rattle.cql_core.specs.declared.command.Command.{Command}
-use Rattle.cql_core.specs.Told.{Told, Done, Based, Blocks, Refused}
-use Rattle.cql_core.specs.State.{State}
+use Rattle.std.proofs.Common.{◌≡◌, ℕ, inl, inr, List, ◌++◌, Option, Result, Ok, Err, refl, sym, ap, subst, ◌∙◌}
+use Rattle.cql_meaning.specs.declared.command.Command.{Command}
+use Rattle.cql_meaning.specs.Told.{Told, Done, Based, Blocks, Listed, Refused}
+use Rattle.cql_meaning.specs.Machine.{State}
 use Rattle.cql_core.specs.Running.{Serves}
-use Rattle.cql_core.specs.Law.{IsFetchLaw}
+use Rattle.cql_meaning.specs.Law.{IsFetchLaw}
+use Rattle.cql_core.specs.Language.{cql}
 use Rattle.cql_wire.specs.declared.fault.LineFault.{LineFault}
 use Rattle.cql_wire.specs.declared.fault.LineFault.TheVariants.{BadLine, BadCommand, BadKey, UnknownTenant, NoMemory}
 use Rattle.cql_wire.specs.declared.watched.WriteFault.{WriteFault}
 use Rattle.cql_wire.specs.Asked.{Asked}
 use Rattle.cql_wire.specs.Fault.{Means}
-use Rattle.cql_wire.specs.Line.{told_line, fault_line, IsLineOf, AppendsReply, GrowsReply}
+use Rattle.cql_wire.specs.Gathered.{Gathers, GathersReply}
+use Rattle.cql_wire.specs.Line.{told_line, fault_line, IsLineOf}
 use Rattle.cql_wire.specs.Served.{IsServed, ServesLine}
-use Rattle.cql_wire.specs.Watched.{Grows}
+use Rattle.cql_wire.proofs.Listing.{told_listed}
 
 -- ---- a command
 
@@ -21,23 +22,23 @@ told_exactly : (old new : State) (tenant : ℕ) (command : Command) (told : Told
 told_exactly old new tenant command told line (inl done) is = inl (is ∙ ap told_line done.0, done.1)
 told_exactly old new tenant command told line (inr none) is = inr (is ∙ ap told_line none.0, none.1)
 
--- where blocks found no memory for their line, the command moved nothing
-line_served : (law : IsFetchLaw) (old new : State) (tenant : ℕ) (command : Command) (told : Told) (line : List ℕ) → Serves old tenant command told new → IsLineOf told line → IsServed old (Ok (tenant, command)) line new
+-- where blocks or a list found no memory for their line, the command changed nothing
+line_served : (law : IsFetchLaw cql) (old new : State) (tenant : ℕ) (command : Command) (told : Told) (line : List ℕ) → Serves old tenant command told new → IsLineOf told line → IsServed old (Ok (tenant, command)) line new
 line_served law old new tenant command Done line serves is = told_exactly old new tenant command Done line serves is
 line_served law old new tenant command (Based base) line serves is = told_exactly old new tenant command (Based base) line serves is
 line_served law old new tenant command (Refused refusal) line serves is = told_exactly old new tenant command (Refused refusal) line serves is
 line_served law old new tenant command (Blocks blocks next) line serves (inl is) = told_exactly old new tenant command (Blocks blocks next) line serves is
 line_served law old new tenant command (Blocks blocks next) line (inl done) (inr is) = inr (is, done.1 ∙ law old tenant command blocks next (sym done.0))
 line_served law old new tenant command (Blocks blocks next) line (inr none) (inr is) = inr (is, none.1)
+line_served law old new tenant command (Listed listing) line serves (inl is) = told_exactly old new tenant command (Listed listing) line serves is
+line_served law old new tenant command (Listed listing) line (inl done) (inr is) = inr (is, done.1 ∙ told_listed cql old tenant command listing (sym done.0))
+line_served law old new tenant command (Listed listing) line (inr none) (inr is) = inr (is, none.1)
 
-pub reply_served : (law : IsFetchLaw) (old new : State) (asked : Asked) (tenant : ℕ) (command : Command) (told : Told) (a b : Option (List ℕ)) (r : Result (Unit {0}) WriteFault)
-    → asked ≡ Ok (tenant, command) → Serves old tenant command told new → OnOk r (AppendsReply a b told) → OnErr r (GrowsReply a b told) → ServesLine old asked new a b r
-reply_served law old new asked tenant command told a b (Ok u) is serves ok err =
-    let (line, of, appends) = ok in
-    (line, subst (λ x. IsServed old x line new) (sym is) (line_served law old new tenant command told line serves of), appends)
-reply_served law old new asked tenant command told a b (Err fault) is serves ok err =
-    let (line, of, grows) = err in
-    (line, subst (λ x. IsServed old x line new) (sym is) (line_served law old new tenant command told line serves of), grows)
+pub reply_served : (law : IsFetchLaw cql) (old new : State) (asked : Asked) (tenant : ℕ) (command : Command) (told : Told) (a b : Option (List ℕ)) (held left : List ℕ) (r : Result (Unit {0}) WriteFault)
+    → asked ≡ Ok (tenant, command) → Serves old tenant command told new → GathersReply a b held told left r → ServesLine old asked new a b held left r
+reply_served law old new asked tenant command told a b held left r is serves gathers =
+    let (line, of, gathered) = gathers in
+    (line, subst (λ x. IsServed old x line new) (sym is) (line_served law old new tenant command told line serves of), gathered)
 
 -- ---- a fault
 
@@ -55,7 +56,6 @@ fault_told old asked BadKey means = refused old asked BadKey means
 fault_told old asked UnknownTenant means = refused old asked UnknownTenant means
 fault_told old asked NoMemory means = without_memory old asked
 
-pub fault_served : (old : State) (asked : Asked) (fault : LineFault) (a b : Option (List ℕ)) (r : Result (Unit {0}) WriteFault)
-    → Means asked (Err fault) → OnOk r (Appends a b (fault_line fault)) → OnErr r (Grows a b (fault_line fault)) → ServesLine old asked old a b r
-fault_served old asked fault a b (Ok u) means ok err = (fault_line fault, fault_told old asked fault means, ok)
-fault_served old asked fault a b (Err e) means ok err = (fault_line fault, fault_told old asked fault means, err)
+pub fault_served : (old : State) (asked : Asked) (fault : LineFault) (a b : Option (List ℕ)) (held left : List ℕ) (r : Result (Unit {0}) WriteFault)
+    → Means asked (Err fault) → Gathers a b (held ++ fault_line fault) left r → ServesLine old asked old a b held left r
+fault_served old asked fault a b held left r means gathers = (fault_line fault, fault_told old asked fault means, gathers)

@@ -1,6 +1,6 @@
 -- What a line of a script asks.
 use Rattle.std.specs.Prelude.{ℕ, List, Option, Some, None, option_map, ok_or, Result, Ok, Err}
-use Rattle.cql_core.specs.declared.command.Command.{Command}
+use Rattle.cql_meaning.specs.declared.command.Command.{Command}
 use Rattle.cql_tenants.specs.declared.tenants.Tenant.{Tenant}
 use Rattle.cql_tenants.specs.Tenants.{place_of}
 use Rattle.cql_wire.specs.declared.fault.LineFault.{LineFault}

@@ -5,11 +5,11 @@ use Rattle.serde_json.specs.Data.{Data, Items, no_items, item}
 use Rattle.serde_json.specs.Find.{as_object, as_str, as_number, as_array, as_i64}
 use Rattle.cql_value.specs.declared.value.Value.{Value}
 use Rattle.cql_value.specs.declared.value.Value.TheVariants.{Number, Text}
-use Rattle.cql_core.specs.declared.command.ColumnText.{ColumnText}
-use Rattle.cql_core.specs.declared.command.Command.{Command}
-use Rattle.cql_core.specs.declared.command.Command.TheVariants as command
+use Rattle.cql_meaning.specs.declared.command.ColumnText.{ColumnText}
+use Rattle.cql_meaning.specs.declared.command.Command.{Command}
+use Rattle.cql_meaning.specs.declared.command.Command.TheVariants as command
 use Rattle.cql_wire.specs.declared.command.Word.{Word}
-use Rattle.cql_wire.specs.declared.command.Word.TheVariants.{Stream, Put, Beat, Query, Fetch}
+use Rattle.cql_wire.specs.declared.command.Word.TheVariants.{Stream, Grant, Put, Beat, Query, Fetch, Ack, Drop, List as Lists}
 use Rattle.cql_wire.specs.declared.fault.LineFault.{LineFault}
 use Rattle.cql_wire.specs.declared.fault.LineFault.TheVariants.{BadLine, BadCommand, BadKey}
 use Rattle.cql_wire.specs.Tree.{tree_of, text_at, whole_at, array_at, optional_text, optional_whole, has_only, all_of}
@@ -19,19 +19,27 @@ use Rattle.cql_wire.specs.Tree.{tree_of, text_at, whole_at, array_at, optional_t
 abbrev pub word_of : List ℕ → Option Word
 word_of text =
     if bytes_eq text (codes "stream") then Some Stream
+    else (if bytes_eq text (codes "grant") then Some Grant
     else (if bytes_eq text (codes "put") then Some Put
     else (if bytes_eq text (codes "beat") then Some Beat
     else (if bytes_eq text (codes "query") then Some Query
     else (if bytes_eq text (codes "fetch") then Some Fetch
-    else None))))
+    else (if bytes_eq text (codes "ack") then Some Ack
+    else (if bytes_eq text (codes "drop") then Some Drop
+    else (if bytes_eq text (codes "list") then Some Lists
+    else None))))))))
 
 -- beside these, `do` and `tenant` may stand in each line
 abbrev pub own_keys : Word → List (List ℕ)
 own_keys Stream = codes "name" ∷ codes "columns" ∷ []
+own_keys Grant = codes "stream" ∷ codes "to" ∷ []
 own_keys Put = codes "stream" ∷ codes "at" ∷ codes "row" ∷ []
 own_keys Beat = codes "stream" ∷ codes "at" ∷ []
 own_keys Query = codes "name" ∷ codes "text" ∷ []
 own_keys Fetch = codes "name" ∷ codes "until" ∷ []
+own_keys Ack = codes "name" ∷ codes "to" ∷ []
+own_keys Drop = codes "name" ∷ []
+own_keys Lists = []
 
 abbrev pub keys_of : Word → List (List ℕ)
 keys_of word = codes "do" ∷ codes "tenant" ∷ own_keys word
@@ -67,6 +75,9 @@ columns_of d = option_and_then (all_of column_of) (array_at (codes "columns") d)
 abbrev pub stream_of : Data → Option Command
 stream_of d = option_and_then (λ name. option_map (λ columns. command.Stream name columns) (columns_of d)) (text_at (codes "name") d)
 
+abbrev pub grant_of : Data → Option Command
+grant_of d = option_and_then (λ stream. option_map (λ to. command.Grant stream to) (text_at (codes "to") d)) (text_at (codes "stream") d)
+
 abbrev pub put_of : Data → Option Command
 put_of d = option_and_then (λ stream. option_and_then (λ at. option_map (λ row. command.Put stream at row) (row_of d)) (whole_at (codes "at") d)) (text_at (codes "stream") d)
 
@@ -79,12 +90,22 @@ query_of d = option_and_then (λ name. option_map (λ text. command.Query name t
 abbrev pub fetch_of : Data → Option Command
 fetch_of d = option_and_then (λ name. option_map (λ until. command.Fetch name until) (optional_whole (codes "until") d)) (text_at (codes "name") d)
 
+abbrev pub ack_of : Data → Option Command
+ack_of d = option_and_then (λ name. option_map (λ to. command.Ack name to) (whole_at (codes "to") d)) (text_at (codes "name") d)
+
+abbrev pub drop_of : Data → Option Command
+drop_of d = option_map (λ name. command.Drop name) (text_at (codes "name") d)
+
 abbrev pub of_word : Word → Data → Option Command
 of_word Stream d = stream_of d
+of_word Grant d = grant_of d
 of_word Put d = put_of d
 of_word Beat d = beat_of d
 of_word Query d = query_of d
 of_word Fetch d = fetch_of d
+of_word Ack d = ack_of d
+of_word Drop d = drop_of d
+of_word Lists d = Some command.List
 
 -- with the tenant that the line names, if it names one
 abbrev pub addressed_of : Word → Data → Option (Option (List ℕ) × Command)

@@ -1,7 +1,10 @@
+pub mod Advance
 pub mod Asked
 pub mod Command
 pub mod Fault
 pub mod First
+pub mod Gathered
+pub mod Held
 pub mod Line
 pub mod Next
 pub mod Output

@@ -10,10 +10,13 @@ use Rattle.cql_plan.specs.declared.fault.Fault.TheVariants.{Oversize, Overflow}
 use Rattle.cql_out.specs.declared.told.Output.{Output}
 use Rattle.cql_out.specs.declared.told.Output.TheVariants.{Rows, Signed, Fault}
 use Rattle.cql_out.specs.declared.told.Block.{Block}
-use Rattle.cql_core.specs.declared.refusal.Refusal.{Refusal}
-use Rattle.cql_core.specs.declared.refusal.Refusal.TheVariants.{BadQuery}
-use Rattle.cql_core.specs.Refusal as refusal
-use Rattle.cql_core.specs.Told.{Told, Done, Based, Blocks, Refused, no_memory}
+use Rattle.cql_tenants.specs.declared.readable.OwnStream.{OwnStream}
+use Rattle.cql_tenants.specs.declared.readable.ReadStream.{ReadStream}
+use Rattle.cql_meaning.specs.declared.listing.OwnQuery.{OwnQuery}
+use Rattle.cql_meaning.specs.declared.refusal.Refusal.{Refusal}
+use Rattle.cql_meaning.specs.declared.refusal.Refusal.TheVariants.{BadQuery}
+use Rattle.cql_meaning.specs.Refusal as refusal
+use Rattle.cql_meaning.specs.Told.{Told, Done, Based, Blocks, Listed, Refused, no_memory}
 use Rattle.cql_wire.specs.declared.fault.LineFault.{LineFault}
 use Rattle.cql_wire.specs.Fault as fault
 use Rattle.cql_wire.specs.Watched.{Grows}
@@ -58,6 +61,30 @@ block_text b = with_output b.from b.to b.output
 abbrev pub blocks_text : List Block → List ℕ
 blocks_text = list_text block_text
 
+-- ---- what a list tells
+
+abbrev pub query_text : OwnQuery → List ℕ
+query_text q = codes "{\"base\":" ++ (decimal q.base ++ (codes ",\"name\":" ++ (quoted q.name ++ (codes ",\"next\":" ++ (decimal q.next ++ (codes ",\"text\":" ++ (quoted q.text ++ codes "}")))))))
+
+abbrev pub queries_text : List OwnQuery → List ℕ
+queries_text = list_text query_text
+
+-- the stream's owner, a dot and its name
+abbrev pub readable_name : ReadStream → List ℕ
+readable_name s = s.owner ++ (codes "." ++ s.stream)
+
+abbrev pub readable_text : ReadStream → List ℕ
+readable_text s = codes "{\"open\":" ++ (decimal s.opened ++ (codes ",\"stream\":" ++ (quoted (readable_name s) ++ codes "}")))
+
+abbrev pub all_readable_text : List ReadStream → List ℕ
+all_readable_text = list_text readable_text
+
+abbrev pub stream_text : OwnStream → List ℕ
+stream_text s = codes "{\"name\":" ++ (quoted s.name ++ (codes ",\"open\":" ++ (decimal s.opened ++ codes "}")))
+
+abbrev pub streams_text : List OwnStream → List ℕ
+streams_text = list_text stream_text
+
 -- ---- lines, each with its line feed
 
 abbrev pub refused_line : List ℕ → ℕ → List ℕ
@@ -77,6 +104,7 @@ abbrev pub told_line : Told → List ℕ
 told_line Done = codes "{\"ok\":true}\n"
 told_line (Based base) = codes "{\"base\":" ++ (decimal base ++ codes "}\n")
 told_line (Blocks blocks next) = codes "{\"blocks\":" ++ (blocks_text blocks ++ (codes ",\"next\":" ++ (decimal next ++ codes "}\n")))
+told_line (Listed l) = codes "{\"queries\":" ++ (queries_text l.queries ++ (codes ",\"readable\":" ++ (all_readable_text l.readable ++ (codes ",\"streams\":" ++ (streams_text l.streams ++ codes "}\n")))))
 told_line (Refused r) = refusal_line r
 
 -- the line of a line that gives no command
@@ -95,11 +123,12 @@ GrowsEither old new line = Grows old new line ⊎ Grows old new (told_line no_me
 
 -- ---- what is written of a reply
 
--- its line; for blocks, that of a reply that finds no memory may stand in its place
+-- its line; for blocks and for a list, that of a reply that finds no memory may stand in its place
 abbrev pub IsLineOf : Told → List ℕ → Type 0
 IsLineOf Done line = line ≡ told_line Done
 IsLineOf (Based base) line = line ≡ told_line (Based base)
 IsLineOf (Blocks blocks next) line = (line ≡ told_line (Blocks blocks next)) ⊎ (line ≡ told_line no_memory)
+IsLineOf (Listed listing) line = (line ≡ told_line (Listed listing)) ⊎ (line ≡ told_line no_memory)
 IsLineOf (Refused r) line = line ≡ told_line (Refused r)
 
 abbrev pub AppendsReply : Option (List ℕ) → Option (List ℕ) → Told → Type 0

@@ -2,7 +2,7 @@
 ghost use Rattle.std.specs.Prelude.{◌≡◌, map, Some, ok_or, codes};
 ghost use Rattle.serde_json.specs.View.{view, items_view};
 ghost use Rattle.cql_wire.specs.Tree.{text_at, optional_text, all_of};
-ghost use Rattle.cql_wire.specs.Command.{word_of, keys_of, value_of, row_of, column_of, columns_of, stream_of, put_of, beat_of, query_of, fetch_of, of_word, addressed_of, of_keys, of_object, of_data, command_of};
+ghost use Rattle.cql_wire.specs.Command.{word_of, keys_of, value_of, row_of, column_of, columns_of, stream_of, grant_of, put_of, beat_of, query_of, fetch_of, ack_of, drop_of, of_word, addressed_of, of_keys, of_object, of_data, command_of};
 ghost use Rattle.cql_wire.specs.Fault.{Means};
 
 use crate::fault::LineFault;
@@ -18,10 +18,14 @@ use std::alloc::Global;
 #[derive(Clone, Copy)]
 enum Word {
     Stream,
+    Grant,
     Put,
     Beat,
     Query,
     Fetch,
+    Ack,
+    Drop,
+    List,
 }
 
 impl Word {
@@ -30,10 +34,14 @@ impl Word {
     {
         match text {
             "stream" => Some(Word::Stream),
+            "grant" => Some(Word::Grant),
             "put" => Some(Word::Put),
             "beat" => Some(Word::Beat),
             "query" => Some(Word::Query),
             "fetch" => Some(Word::Fetch),
+            "ack" => Some(Word::Ack),
+            "drop" => Some(Word::Drop),
+            "list" => Some(Word::List),
             _ => None,
         }
     }
@@ -44,10 +52,14 @@ impl Word {
     {
         match self {
             Word::Stream => &["do", "tenant", "name", "columns"],
+            Word::Grant => &["do", "tenant", "stream", "to"],
             Word::Put => &["do", "tenant", "stream", "at", "row"],
             Word::Beat => &["do", "tenant", "stream", "at"],
             Word::Query => &["do", "tenant", "name", "text"],
             Word::Fetch => &["do", "tenant", "name", "until"],
+            Word::Ack => &["do", "tenant", "name", "to"],
+            Word::Drop => &["do", "tenant", "name"],
+            Word::List => &["do", "tenant"],
         }
     }
 }
@@ -117,6 +129,14 @@ fn stream_of(alloc: Global, tree: &Json) -> Result<Command, LineFault>
     Ok(Command::Stream { name, columns })
 }
 
+fn grant_of(alloc: Global, tree: &Json) -> Result<Command, LineFault>
+    ensures { Means (ok_or (grant_of (view tree.now)) LineFault.BadKey) result }
+{
+    let stream = text_of(alloc, tree, "stream")?;
+    let to = text_of(alloc, tree, "to")?;
+    Ok(Command::Grant { stream, to })
+}
+
 fn put_of(alloc: Global, tree: &Json) -> Result<Command, LineFault>
     ensures { Means (ok_or (put_of (view tree.now)) LineFault.BadKey) result }
 {
@@ -151,16 +171,35 @@ fn fetch_of(alloc: Global, tree: &Json) -> Result<Command, LineFault>
     Ok(Command::Fetch { name, until })
 }
 
+fn ack_of(alloc: Global, tree: &Json) -> Result<Command, LineFault>
+    ensures { Means (ok_or (ack_of (view tree.now)) LineFault.BadKey) result }
+{
+    let name = text_of(alloc, tree, "name")?;
+    let to = whole_at(tree, "to").ok_or(LineFault::BadKey)?;
+    Ok(Command::Ack { name, to })
+}
+
+fn drop_of(alloc: Global, tree: &Json) -> Result<Command, LineFault>
+    ensures { Means (ok_or (drop_of (view tree.now)) LineFault.BadKey) result }
+{
+    let name = text_of(alloc, tree, "name")?;
+    Ok(Command::Drop { name })
+}
+
 // The command of a word.
 fn of_word(alloc: Global, word: Word, tree: &Json) -> Result<Command, LineFault>
     ensures { Means (ok_or (of_word word (view tree.now)) LineFault.BadKey) result }
 {
     match word {
         Word::Stream => stream_of(alloc, tree),
+        Word::Grant => grant_of(alloc, tree),
         Word::Put => put_of(alloc, tree),
         Word::Beat => beat_of(alloc, tree),
         Word::Query => query_of(alloc, tree),
         Word::Fetch => fetch_of(alloc, tree),
+        Word::Ack => ack_of(alloc, tree),
+        Word::Drop => drop_of(alloc, tree),
+        Word::List => Ok(Command::List),
     }
 }
 

@@ -5,6 +5,7 @@ ghost use Rattle.std.specs.Io.KnownBytes.{Consumes, Keeps, IsAtEnd, prepend_know
 ghost use Rattle.cql_wire.specs.Watched.{inner_of, has_failed, calls_of};
 ghost use Rattle.cql_wire.specs.Text.{is_feed, is_space, line_found, TakesLines};
 ghost use Rattle.cql_wire.specs.Reads.{CountsReads};
+ghost use Rattle.cql_wire.specs.Held.{TakesWhole, TakesHeld};
 ghost use Rattle.cql_wire.specs.Taking.{HasRoom, GoesOn, TakesPiece, Took, ending_bytes, work_left, Finds, found_line};
 
 mod chunk;
@@ -176,6 +177,38 @@ fn find_line<R: Read>(
     }
 }
 
+/// Takes one line, where it is whole in what is held.
+fn take_whole(chunk: &mut Chunk, line: &mut Vec<u8>) -> bool
+    requires { HasRoom line.old }
+    ensures room { HasRoom line.new }
+    ensures takes { TakesWhole chunk.old chunk.new line.new.items result }
+    ensures fewer { result ≡ true → length chunk.new < length chunk.old }
+{
+    let held = chunk.as_slice();
+    let Some(at) = first_feed(held) else {
+        return false;
+    };
+    line.clear();
+    add_piece(line, &held[..at]);
+    chunk.consume(at + 1);
+    true
+}
+
+/// Looks for the first line that isn't blank among those that are whole in what is held.
+fn find_held(chunk: &mut Chunk, line: &mut Vec<u8>) -> bool
+    requires { HasRoom line.old }
+    ensures room { HasRoom line.new }
+    ensures takes { TakesHeld chunk.old chunk.new line.new.items result }
+    ensures fewer { result ≡ true → length chunk.new < length chunk.old }
+{
+    while take_whole(chunk, line) {
+        if counts(line) {
+            return true;
+        }
+    }
+    false
+}
+
 /// A line that isn't blank.
 #[derive(Clone, Copy)]
 pub enum Line<'a> {
@@ -214,8 +247,10 @@ impl Lines {
     ghost use Rattle.std.specs.Borrow.{sem};
     ghost use Rattle.std.specs.Io.BufRead.{Rests};
     ghost use Rattle.cql_wire.specs.contracts.lines.Lines.{the_row};
-    ghost use Rattle.cql_wire.specs.Reading.{coming, GivesLine, found_text};
-    ghost use Rattle.cql_wire.specs.Next.{Next};
+    ghost use Rattle.cql_wire.specs.Reading.{coming, GivesLine, found_text, work};
+    ghost use Rattle.cql_wire.specs.Held.{TakesNext};
+    ghost use Rattle.cql_wire.specs.Next.{Next, text_of};
+    ghost use Rattle.cql_wire.specs.Text.{shown_line};
 
     /// Takes all the memory that reading lines needs, and reads nothing yet. At most 2^40 reads
     /// are made.
@@ -234,7 +269,7 @@ impl Lines {
     }
 
     /// Goes to the next line that isn't blank, which then stands in the buffer.
-    fn advance<R: Read>(&mut self, reader: &mut Watched<R>) -> Result<bool, ReadFault>
+    pub fn advance<R: Read>(&mut self, reader: &mut Watched<R>) -> Result<bool, ReadFault>
         ensures gives { GivesLine (coming self.old (R.remaining (inner_of reader.old))) (coming self.new (R.remaining (inner_of reader.new))) self.old self.new result }
         ensures in_order { OnOk result (TakesLines (coming self.old (R.remaining (inner_of reader.old))) (coming self.new (R.remaining (inner_of reader.new))) (found_text self.new.line result)) }
         ensures counts { CountsReads self.old.reads_left self.new.reads_left (calls_of reader.old) (calls_of reader.new) }
@@ -268,6 +303,30 @@ impl Lines {
         }
     }
 
+    /// Goes to the next line that isn't blank and is whole in what was read, without a read. Where
+    /// there is none, what is left of it is a part of one line.
+    pub fn advance_held(&mut self) -> bool
+        ensures takes { TakesNext self.old self.new result }
+        ensures fewer { result ≡ true → work self.new < work self.old }
+        ensures over { self.old.ended ≡ true → result ≡ false }
+    {
+        if self.ended {
+            return false;
+        }
+        find_held(&mut self.chunk, &mut self.line)
+    }
+
+    /// The line that was found last.
+    pub fn line(&self) -> Line<'_>
+        ensures { text_of result ≡ shown_line self.now.line }
+    {
+        if self.line.len() > MAX_LINE {
+            Line::TooLong
+        } else {
+            Line::Whole(self.line.as_slice())
+        }
+    }
+
     /// The next line that isn't blank, or `None` at the end of the input. A line that is too long
     /// is told once, when its line feed or the end of the input has come.
     ///
@@ -285,10 +344,6 @@ impl Lines {
         if !self.advance(reader)? {
             return Ok(None);
         }
-        if self.line.len() > MAX_LINE {
-            Ok(Some(Line::TooLong))
-        } else {
-            Ok(Some(Line::Whole(self.line.as_slice())))
-        }
+        Ok(Some(self.line()))
     }
 }

@@ -1,14 +1,18 @@
 //! The lines of replies. Each ends with a line feed, its keys ascend, and it has no spaces.
 ghost use Rattle.std.specs.Prelude.{◌≡◌, ◌++◌, ◌||◌, is_err, flat_map, decimal, string_bytes, IfOk, OnOk, OnErr};
 ghost use Rattle.std.specs.Io.KnownBytes.{Appends};
-ghost use Rattle.cql_core.specs.Told.{Done, Based, Blocks, Refused};
+ghost use Rattle.json.specs.Print.{quoted};
+ghost use Rattle.cql_meaning.specs.Told.{Done, Based, Blocks, Listed, Refused};
 ghost use Rattle.cql_wire.specs.Watched.{inner_of, has_failed, Grows};
 ghost use Rattle.cql_wire.specs.Line.{value_text, row_text, rows_text, fault_word, block_text, blocks_text, refused_line, refused_at_line, told_line, fault_line, AppendsEither, GrowsEither, AppendsReply, GrowsReply};
 ghost use Rattle.cql_core.specs.Steps.{told_of};
 
+pub(crate) mod listing;
+
+use self::listing::listing_line;
 use crate::fault::LineFault;
 use crate::watched::{Watched, WriteFault};
-use cql_core::{Refusal, Reply};
+use cql_core::{Listing, Refusal, Reply};
 use cql_out::{Block, Output};
 use cql_plan::Fault;
 use cql_value::{Row, Value};
@@ -23,6 +27,14 @@ fn push_number(line: &mut String, number: u64) -> Result<(), AllocError>
     line.push_str(digits.format(number))
 }
 
+fn push_text(alloc: Global, line: &mut String, text: &str) -> Result<(), AllocError>
+    ensures { OnOk result (string_bytes line.new ≡ string_bytes line.old ++ quoted text.now) }
+{
+    let text = String::from_str(alloc, text)?;
+    let printed = Json::String(text).to_string(alloc)?;
+    line.push_str(printed.as_str())
+}
+
 fn push_value(alloc: Global, line: &mut String, value: &Value) -> Result<(), AllocError>
     ensures { OnOk result (string_bytes line.new ≡ string_bytes line.old ++ value_text value.now) }
 {
@@ -31,11 +43,7 @@ fn push_value(alloc: Global, line: &mut String, value: &Value) -> Result<(), All
             let mut digits = itoa::Buffer::new();
             line.push_str(digits.format(*number))
         }
-        Value::Text(text) => {
-            let text = String::from_str(alloc, text.as_str())?;
-            let quoted = Json::String(text).to_string(alloc)?;
-            line.push_str(quoted.as_str())
-        }
+        Value::Text(text) => push_text(alloc, line, text.as_str()),
     }
 }
 
@@ -124,7 +132,7 @@ fn push_blocks(alloc: Global, line: &mut String, blocks: &[Block]) -> Result<(),
     line.push_str("]")
 }
 
-fn blocks_line(alloc: Global, blocks: &[Block], next: u64) -> Result<String, AllocError>
+pub(crate) fn blocks_line(alloc: Global, blocks: &[Block], next: u64) -> Result<String, AllocError>
     ensures { IfOk result (λ line. string_bytes line ≡ told_line (Blocks blocks.now next)) }
 {
     let mut line = String::from_str(alloc, "{\"blocks\":")?;
@@ -255,7 +263,24 @@ pub fn write_blocks<W: Write>(
     }
 }
 
-/// Writes the line of a reply. The line of an answer is built whole before it is written; where
+/// Writes the line of a list. The line is built whole before it is written; where there is no
+/// memory for it, the line of `NoMemory` (70) is written in its place.
+pub fn write_listing<W: Write>(
+    alloc: Global,
+    writer: &mut Watched<W>,
+    listing: &Listing,
+) -> Result<(), WriteFault>
+    ensures ok { OnOk result (AppendsEither (W.contents (inner_of writer.old)) (W.contents (inner_of writer.new)) (told_line (Listed listing.now))) }
+    ensures err { OnErr result (GrowsEither (W.contents (inner_of writer.old)) (W.contents (inner_of writer.new)) (told_line (Listed listing.now))) }
+    ensures failed { has_failed writer.new ≡ (has_failed writer.old || is_err result) }
+{
+    match listing_line(alloc, listing) {
+        Ok(line) => writer.write_all(line.as_bytes()),
+        Err(_) => write_refusal(writer, Refusal::NoMemory),
+    }
+}
+
+/// Writes the line of a reply. The line of an answer or of a list is built whole before it is written; where
 /// there is no memory for it, the line of `NoMemory` (70) is written in its place.
 pub fn write_reply<W: Write>(
     alloc: Global,
@@ -270,6 +295,7 @@ pub fn write_reply<W: Write>(
         Reply::Ok => write_done(writer),
         Reply::Base(base) => write_base(writer, *base),
         Reply::Blocks(answer) => write_blocks(alloc, writer, answer.blocks(), answer.next()),
+        Reply::Listing(listing) => write_listing(alloc, writer, listing),
         Reply::Refused(refusal) => write_refusal(writer, *refusal),
     }
 }

@@ -1,17 +1,19 @@
 //! Answers each line of a reader on a writer.
 ghost use Rattle.std.specs.Prelude.{◌≡◌, ◌≢◌, ◌⊎◌, ◌||◌, ◌+◌, ◌^◌, ◌<◌, true, false, [], is_err, Err, OnOk};
-ghost use Rattle.cql_core.specs.State.{opening};
+ghost use Rattle.cql_meaning.specs.Machine.{opening};
+ghost use Rattle.cql_wire.specs.Advance.{Advances};
 ghost use Rattle.cql_wire.specs.Asked.{asked_of};
 ghost use Rattle.cql_wire.specs.Next.{text_of};
 ghost use Rattle.cql_wire.specs.Output.{OutputLaw};
+ghost use Rattle.cql_wire.specs.Reading.{coming};
 ghost use Rattle.cql_wire.specs.Reads.{CountsReads};
 ghost use Rattle.cql_wire.specs.Script.{Answers};
 ghost use Rattle.cql_wire.specs.Served.{ServesLine};
 ghost use Rattle.cql_wire.specs.Watched.{inner_of, has_failed, calls_of};
 
 use crate::asked::call_of;
+use crate::gathered::Gathered;
 use crate::lines::{Line, Lines};
-use crate::reply::{write_fault, write_reply};
 use crate::watched::{ReadFault, Watched, WriteFault};
 use cql_core::law::{fetch_law, reply_law};
 use cql_core::{Core, TenantTable, serve};
@@ -70,26 +72,51 @@ pub fn output_law()
     ensures { OutputLaw }
 {}
 
-// Answers one line: serves its command, and writes the reply or the fault.
+// Answers one line: serves its command, and gathers the reply or the fault.
 fn answer_line<W: Write>(
     alloc: Global,
     table: &TenantTable,
     core: &mut Core,
+    gathered: &mut Gathered,
     writer: &mut Watched<W>,
     line: Line<'_>,
 ) -> Result<(), WriteFault>
     ensures serves { ServesLine core.old (asked_of table.now (text_of line.entry)) core.new
-        (W.contents (inner_of writer.old)) (W.contents (inner_of writer.new)) result }
+        (W.contents (inner_of writer.old)) (W.contents (inner_of writer.new)) gathered.old gathered.new result }
     ensures failed { has_failed writer.new ≡ (has_failed writer.old || is_err result) }
 {
     fetch_law();
     match call_of(alloc, table, line) {
         Ok((tenant, command)) => {
             let reply = serve(alloc, core, tenant, command);
-            write_reply(alloc, writer, &reply)
+            gathered.put_reply(alloc, writer, &reply)
         }
-        Err(fault) => write_fault(writer, &fault),
+        Err(fault) => gathered.put_fault(writer, &fault),
     }
+}
+
+// Goes to the next line. Before a read, which may wait, all that is gathered is written.
+fn advance<R: Read, W: Write>(
+    lines: &mut Lines,
+    gathered: &mut Gathered,
+    reader: &mut Watched<R>,
+    writer: &mut Watched<W>,
+) -> Result<bool, ScriptError>
+    requires { lines.old.failed ≡ false }
+    ensures advances { Advances (coming lines.old (R.remaining (inner_of reader.old))) (coming lines.new (R.remaining (inner_of reader.new)))
+        lines.old lines.new (W.contents (inner_of writer.old)) (W.contents (inner_of writer.new)) gathered.old gathered.new result }
+    ensures written { (reader.new ≡ reader.old) ⊎ (gathered.new ≡ []) }
+    ensures cause { result ≡ Err ScriptError.Read → (has_failed reader.new ≡ true) ⊎ (lines.new.reads_left ≡ 0) }
+    ensures counts { CountsReads lines.old.reads_left lines.new.reads_left (calls_of reader.old) (calls_of reader.new) }
+    ensures going { OnOk result (lines.new.failed ≡ false) }
+    ensures steady { OnOk result ((has_failed reader.new ≡ has_failed reader.old) × (has_failed writer.new ≡ has_failed writer.old)) }
+    ensures failed { result ≡ Err ScriptError.Write → has_failed writer.new ≡ true }
+{
+    if lines.advance_held() {
+        return Ok(true);
+    }
+    gathered.flush(writer)?;
+    Ok(lines.advance(reader)?)
 }
 
 // Answers the lines of a reader, of which none was read yet, with a core as it opens.
@@ -98,12 +125,14 @@ fn answer_lines<R: Read, W: Write>(
     table: &TenantTable,
     lines: &mut Lines,
     core: &mut Core,
+    gathered: &mut Gathered,
     reader: &mut Watched<R>,
     writer: &mut Watched<W>,
 ) -> Result<(), ScriptError>
     requires held { lines.old.held ≡ [] }
     requires begins { (lines.old.ended ≡ false) × (lines.old.failed ≡ false) }
     requires opens { core.old ≡ opening table.now }
+    requires nothing { gathered.old ≡ [] }
     ensures answers { Answers table.now (R.remaining (inner_of reader.old)) (R.remaining (inner_of reader.new))
         (W.contents (inner_of writer.old)) (W.contents (inner_of writer.new)) (has_failed writer.new) result }
     ensures cause { result ≡ Err ScriptError.Read → (has_failed reader.new ≡ true) ⊎ (lines.new.reads_left ≡ 0) }
@@ -112,8 +141,8 @@ fn answer_lines<R: Read, W: Write>(
     ensures memory { result ≢ Err ScriptError.NoMemory }
 {
     reply_law();
-    while let Some(line) = lines.next(reader)? {
-        answer_line(alloc, table, core, writer, line)?;
+    while advance(lines, gathered, reader, writer)? {
+        answer_line(alloc, table, core, gathered, writer, lines.line())?;
     }
     Ok(())
 }
@@ -122,6 +151,9 @@ fn answer_lines<R: Read, W: Write>(
 /// line of its fault (10, 11, 12 or 31), or of the reply that CQL's meaning gives to its tenant
 /// from that tenant's view of the lines before. A line that finds no memory is answered 70, and
 /// counts as not sent.
+///
+/// Replies are gathered, up to 65,536 bytes. All that are gathered are written before a read,
+/// which may wait, and at the end.
 pub fn script<R: Read, W: Write>(
     alloc: Global,
     reader: &mut Watched<R>,
@@ -136,6 +168,15 @@ pub fn script<R: Read, W: Write>(
     ensures untouched { result ≡ Err ScriptError.NoMemory → (reader.new ≡ reader.old) × (writer.new ≡ writer.old) }
 {
     let mut lines = Lines::new(alloc)?;
+    let mut gathered = Gathered::new(alloc)?;
     let mut core = Core::new(alloc, table.try_clone(alloc)?)?;
-    answer_lines(alloc, &table, &mut lines, &mut core, reader, writer)
+    answer_lines(
+        alloc,
+        &table,
+        &mut lines,
+        &mut core,
+        &mut gathered,
+        reader,
+        writer,
+    )
 }

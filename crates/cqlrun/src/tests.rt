@@ -14,13 +14,15 @@ use faulty::{NarrowWriter, SlowReader};
 use std::alloc::Global;
 use std::test::Fail;
 
+mod commands;
 mod faulty;
+mod gathering;
 
 const TENANTS: &str =
     r#"{"tenants":[{"hold":100,"key":"ka","name":"a","queries":8,"result":1000,"streams":8}]}"#;
 
 /// The lines of a run, each with its reply.
-const RUN: [(&str, &str); 5] = [
+const RUN: [(&str, &str); 8] = [
     (
         r#"{"columns":[["v","int"]],"do":"stream","name":"s","tenant":"a"}"#,
         r#"{"ok":true}"#,
@@ -41,6 +43,15 @@ const RUN: [(&str, &str); 5] = [
         r#"{"do":"fetch","name":"q","tenant":"a"}"#,
         r#"{"blocks":[{"from":5,"rows":[[1]],"to":5}],"next":9}"#,
     ),
+    (
+        r#"{"do":"ack","name":"q","tenant":"a","to":9}"#,
+        r#"{"ok":true}"#,
+    ),
+    (
+        r#"{"do":"list","tenant":"a"}"#,
+        r#"{"queries":[{"base":0,"name":"q","next":9,"text":"ISTREAM(SELECT * FROM s [RANGE 2])"}],"readable":[],"streams":[{"name":"s","open":9}]}"#,
+    ),
+    (r#"{"do":"drop","name":"q","tenant":"a"}"#, r#"{"ok":true}"#),
 ];
 
 fn push_line(text: &mut Vec<u8>, line: &str) -> Result<(), Fail> {
@@ -126,7 +137,7 @@ fn a_fault_at_each_write(rt: HostRuntime) -> Result<(), Fail> {
     let input = input_of_run(alloc)?;
     let replies = replies_within(alloc, usize::MAX)?;
     let mut has_ended_well = false;
-    for good_calls in 0..100 {
+    for good_calls in 0..200 {
         let mut reader = Watched::new(input.as_slice());
         let mut writer = narrow_writer(alloc, good_calls);
         let told = program(alloc, &[], &mut reader, &mut writer);

@@ -1,5 +1,7 @@
 // Texts that are read, each with its canonical spelling.
-const READ: [(&str, &str); 65] = [
+
+// Streams, columns, expressions and output kinds.
+const QUERIES: [(&str, &str); 35] = [
     (
         "Select Istream(*) From s [Range 2]",
         "ISTREAM(SELECT * FROM s [RANGE 2])",
@@ -131,6 +133,10 @@ const READ: [(&str, &str); 65] = [
         "Select v From s abcdefghijklmnopqrstuvwxyz012345",
         "SELECT v FROM s [RANGE UNBOUNDED] AS abcdefghijklmnopqrstuvwxyz012345",
     ),
+];
+
+// Conditions, windows, groups and white space.
+const CONDITIONS: [(&str, &str); 30] = [
     (
         "Select v From s Where a < b",
         "SELECT v FROM s [RANGE UNBOUNDED] WHERE a < b",
@@ -250,6 +256,10 @@ const READ: [(&str, &str); 65] = [
     ),
 ];
 
-pub(super) fn texts_read() -> &'static [(&'static str, &'static str)] {
-    &READ
+pub(super) fn queries_read() -> &'static [(&'static str, &'static str)] {
+    &QUERIES
+}
+
+pub(super) fn conditions_read() -> &'static [(&'static str, &'static str)] {
+    &CONDITIONS
 }

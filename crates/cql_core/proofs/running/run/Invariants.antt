@@ -1,5 +1,5 @@
 use Rattle.std.proofs.Common.{vec_len}
-use Rattle.cql_core.specs.State.{opening}
+use Rattle.cql_meaning.specs.Machine.{opening}
 use Rattle.cql_core.proofs.Serving.{Served}
 use Rattle.cql_core.proofs.running.run.Given as goal
 

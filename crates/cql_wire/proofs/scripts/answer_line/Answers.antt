@@ -2,9 +2,7 @@ use Rattle.cql_wire.proofs.Serving.{reply_served, fault_served}
 use Rattle.cql_wire.proofs.scripts.answer_line.Goals as goal
 
 pub returns-in-Ok-clause-serves : goal.returns-in-Ok-clause-serves
-returns-in-Ok-clause-serves g c =
-    reply_served c.fetch_law.ensures _ _ _ _ _ _ _ _ c.write_reply.result c.in-Ok.ensures c.serve-reply.ensures c.write_reply.ensures.ok c.write_reply.ensures.err
+returns-in-Ok-clause-serves g c = reply_served c.fetch_law.ensures _ _ _ _ _ _ _ _ _ _ _ c.in-Ok.ensures c.serve-reply.ensures c.put_reply.ensures.gathers
 
 pub returns-in-Err-clause-serves : goal.returns-in-Err-clause-serves
-returns-in-Err-clause-serves g c =
-    fault_served _ _ c.in-Err.fault _ _ c.write_fault.result c.in-Err.ensures c.write_fault.ensures.ok c.write_fault.ensures.err
+returns-in-Err-clause-serves g c = fault_served _ _ c.in-Err.fault _ _ _ _ _ c.in-Err.ensures c.put_fault.ensures.gathers

@@ -1,0 +1,342 @@
+// Commands written short, and what each is told.
+use crate::outputs::{Numbers, Told, are_blocks};
+use crate::tenants::Unmade;
+use cql_core::{Block, ColumnText, Command, Listing, OwnQuery, OwnStream, ReadStream, Reply};
+use cql_value::{Items, Row, Text, Value};
+use std::alloc::Global;
+
+/// A command. Each stream has one column `v int`.
+#[derive(Clone, Copy)]
+pub(crate) enum Say {
+    /// A stream of this name.
+    Stream(&'static str),
+    /// A stream, granted to a tenant.
+    Grant(&'static str, &'static str),
+    /// A stream, an instant and a number.
+    Put(&'static str, u64, i64),
+    /// A stream and an instant.
+    Beat(&'static str, u64),
+    /// A name and a text.
+    Query(&'static str, &'static str),
+    /// A query, fetched up to what is final.
+    Fetch(&'static str),
+    /// A query and an instant.
+    Ack(&'static str, u64),
+    /// A query.
+    Drop(&'static str),
+    /// A list of all.
+    List,
+}
+
+/// What a command is told.
+#[derive(Clone, Copy)]
+pub(crate) enum Want {
+    /// It is done.
+    Done,
+    /// The base of a query.
+    Base(u64),
+    /// Blocks, and the instant after the last that is final.
+    Blocks(&'static [Told], u64),
+    /// A list with so many own streams, streams granted, and queries.
+    Listed(usize, usize, usize),
+    /// A refusal's number.
+    Refused(u64),
+}
+
+/// A tenant, its command, what that is told, and how many rows are held of the stream `s` of `a`
+/// after it.
+pub(crate) type Call = (&'static str, Say, Want, u64);
+
+fn columns(alloc: Global) -> Result<Items<ColumnText>, Unmade> {
+    let name = Text::new(alloc, "v")?;
+    let kind = Text::new(alloc, "int")?;
+    Ok(Items::from_vec(vec![in alloc; ColumnText { name, kind }]?))
+}
+
+fn stream(alloc: Global, name: &str) -> Result<Command, Unmade> {
+    let columns = columns(alloc)?;
+    Ok(Command::Stream {
+        name: Text::new(alloc, name)?,
+        columns,
+    })
+}
+
+fn grant(alloc: Global, stream: &str, to: &str) -> Result<Command, Unmade> {
+    let stream = Text::new(alloc, stream)?;
+    Ok(Command::Grant {
+        stream,
+        to: Text::new(alloc, to)?,
+    })
+}
+
+fn put(alloc: Global, stream: &str, at: u64, number: i64) -> Result<Command, Unmade> {
+    let row = Row::new(vec![in alloc; Value::Number(number)]?);
+    Ok(Command::Put {
+        stream: Text::new(alloc, stream)?,
+        at,
+        row,
+    })
+}
+
+fn query(alloc: Global, name: &str, text: &str) -> Result<Command, Unmade> {
+    let name = Text::new(alloc, name)?;
+    Ok(Command::Query {
+        name,
+        text: Text::new(alloc, text)?,
+    })
+}
+
+/// The command that is meant.
+pub(crate) fn command(alloc: Global, say: Say) -> Result<Command, Unmade> {
+    match say {
+        Say::Stream(name) => stream(alloc, name),
+        Say::Grant(name, to) => grant(alloc, name, to),
+        Say::Put(name, at, number) => put(alloc, name, at, number),
+        Say::Beat(name, at) => Ok(Command::Beat {
+            stream: Text::new(alloc, name)?,
+            at,
+        }),
+        Say::Query(name, text) => query(alloc, name, text),
+        Say::Fetch(name) => Ok(Command::Fetch {
+            name: Text::new(alloc, name)?,
+            until: None,
+        }),
+        Say::Ack(name, to) => Ok(Command::Ack {
+            name: Text::new(alloc, name)?,
+            to,
+        }),
+        Say::Drop(name) => Ok(Command::Drop {
+            name: Text::new(alloc, name)?,
+        }),
+        Say::List => Ok(Command::List),
+    }
+}
+
+/// Whether a reply is what is wanted.
+pub(crate) fn is_told(alloc: Global, reply: &Reply, want: Want) -> Result<bool, Unmade> {
+    match (reply, want) {
+        (Reply::Ok, Want::Done) => Ok(true),
+        (Reply::Base(base), Want::Base(wanted)) => Ok(*base == wanted),
+        (Reply::Blocks(answer), Want::Blocks(blocks, next)) => {
+            Ok(answer.next() == next && are_blocks(alloc, answer.blocks(), blocks)?)
+        }
+        (Reply::Listing(listing), Want::Listed(streams, readable, queries)) => {
+            Ok(
+                listing.streams.as_slice().len() == streams
+                    && listing.readable.as_slice().len() == readable
+                    && listing.queries.as_slice().len() == queries,
+            )
+        }
+        (Reply::Refused(refusal), Want::Refused(number)) => Ok(refusal.number() == number),
+        _ => Ok(false),
+    }
+}
+
+fn are_same_streams(all: &[OwnStream], others: &[OwnStream]) -> bool {
+    for (one, other) in all.iter().zip(others) {
+        if one.name.as_str() != other.name.as_str() || one.opened != other.opened {
+            return false;
+        }
+    }
+    all.len() == others.len()
+}
+
+fn are_same_grants(all: &[ReadStream], others: &[ReadStream]) -> bool {
+    for (one, other) in all.iter().zip(others) {
+        if one.owner.as_str() != other.owner.as_str()
+            || one.stream.as_str() != other.stream.as_str()
+            || one.opened != other.opened
+        {
+            return false;
+        }
+    }
+    all.len() == others.len()
+}
+
+fn are_same_queries(all: &[OwnQuery], others: &[OwnQuery]) -> bool {
+    for (one, other) in all.iter().zip(others) {
+        if one.name.as_str() != other.name.as_str()
+            || one.text.as_str() != other.text.as_str()
+            || one.base != other.base
+            || one.next != other.next
+        {
+            return false;
+        }
+    }
+    all.len() == others.len()
+}
+
+/// Whether two lists show the same.
+pub(crate) fn is_same_listing(one: &Listing, other: &Listing) -> bool {
+    are_same_streams(one.streams.as_slice(), other.streams.as_slice())
+        && are_same_grants(one.readable.as_slice(), other.readable.as_slice())
+        && are_same_queries(one.queries.as_slice(), other.queries.as_slice())
+}
+
+fn are_same_blocks(all: &[Block], others: &[Block]) -> bool {
+    for (one, other) in all.iter().zip(others) {
+        if one.from != other.from || one.to != other.to || !one.output.is(&other.output) {
+            return false;
+        }
+    }
+    all.len() == others.len()
+}
+
+/// Whether two replies tell the same.
+pub(crate) fn is_same_reply(one: &Reply, other: &Reply) -> bool {
+    match (one, other) {
+        (Reply::Ok, Reply::Ok) => true,
+        (Reply::Base(base), Reply::Base(other)) => base == other,
+        (Reply::Blocks(answer), Reply::Blocks(other)) => {
+            answer.next() == other.next() && are_same_blocks(answer.blocks(), other.blocks())
+        }
+        (Reply::Listing(listing), Reply::Listing(other)) => is_same_listing(listing, other),
+        (Reply::Refused(refusal), Reply::Refused(other)) => refusal.number() == other.number(),
+        _ => false,
+    }
+}
+
+// A query that is there before its rows, and its first fetch.
+const FIRST: &[Call] = &[
+    ("a", Say::Stream("s"), Want::Done, 0),
+    (
+        "a",
+        Say::Query("q", "Select Istream(*) From s [Range 2]"),
+        Want::Base(0),
+        0,
+    ),
+    ("a", Say::Put("s", 5, 1), Want::Done, 1),
+    ("a", Say::Beat("s", 8), Want::Done, 1),
+    (
+        "a",
+        Say::Fetch("q"),
+        Want::Blocks(&[(5, 5, Numbers::Rows(&[1]))], 9),
+        1,
+    ),
+];
+
+// Queries of two tenants on one stream, by a grant: rows are held for the one that is behind.
+const SHARED: &[Call] = &[
+    ("a", Say::Stream("s"), Want::Done, 0),
+    ("a", Say::Grant("s", "b"), Want::Done, 0),
+    (
+        "a",
+        Say::Query("p", "Select Istream(*) From s [Range 2]"),
+        Want::Base(0),
+        0,
+    ),
+    (
+        "b",
+        Say::Query("q", "Select Istream(*) From a.s [Range 2]"),
+        Want::Base(0),
+        0,
+    ),
+    ("a", Say::Put("s", 1, 1), Want::Done, 1),
+    ("a", Say::Put("s", 5, 2), Want::Done, 2),
+    ("a", Say::Put("s", 8, 3), Want::Done, 3),
+    ("a", Say::Beat("s", 9), Want::Done, 3),
+    ("a", Say::Ack("p", 9), Want::Done, 3),
+    ("b", Say::Ack("q", 9), Want::Done, 1),
+    ("b", Say::List, Want::Listed(0, 1, 1), 1),
+    ("a", Say::Drop("p"), Want::Done, 1),
+    ("b", Say::Drop("q"), Want::Done, 0),
+];
+
+// The newest row of each part is kept by the window itself.
+const PARTS: &[Call] = &[
+    ("a", Say::Stream("s"), Want::Done, 0),
+    (
+        "a",
+        Say::Query("q", "Select Rstream(*) From s [Partition By v Rows 1]"),
+        Want::Base(0),
+        0,
+    ),
+    ("a", Say::Put("s", 1, 1), Want::Done, 1),
+    ("a", Say::Put("s", 2, 2), Want::Done, 2),
+    ("a", Say::Put("s", 3, 1), Want::Done, 3),
+    ("a", Say::Beat("s", 4), Want::Done, 3),
+    ("a", Say::Ack("q", 5), Want::Done, 0),
+    ("a", Say::Put("s", 6, 2), Want::Done, 1),
+    ("a", Say::Beat("s", 6), Want::Done, 1),
+    (
+        "a",
+        Say::Fetch("q"),
+        Want::Blocks(&[(5, 6, Numbers::Rows(&[1, 2]))], 7),
+        1,
+    ),
+    ("a", Say::List, Want::Listed(1, 0, 1), 1),
+];
+
+// A range that slides by five ticks.
+const SLIDING: &[Call] = &[
+    ("a", Say::Stream("s"), Want::Done, 0),
+    (
+        "a",
+        Say::Query("q", "Select Istream(*) From s [Range 3 Slide 5]"),
+        Want::Base(0),
+        0,
+    ),
+    ("a", Say::Put("s", 1, 1), Want::Done, 1),
+    ("a", Say::Put("s", 4, 2), Want::Done, 2),
+    ("a", Say::Put("s", 6, 3), Want::Done, 3),
+    ("a", Say::Beat("s", 10), Want::Done, 3),
+    ("a", Say::Ack("q", 10), Want::Done, 2),
+    ("a", Say::Ack("q", 11), Want::Done, 0),
+];
+
+// With a quota of two rows the third lets all go.
+const OVERRUN: &[Call] = &[
+    ("a", Say::Stream("s"), Want::Done, 0),
+    (
+        "a",
+        Say::Query("q", "Select Istream(*) From s"),
+        Want::Base(0),
+        0,
+    ),
+    ("a", Say::Put("s", 1, 1), Want::Done, 1),
+    ("a", Say::Put("s", 2, 2), Want::Done, 2),
+    ("a", Say::Put("s", 3, 3), Want::Done, 0),
+    ("a", Say::Fetch("q"), Want::Refused(60), 0),
+    ("a", Say::Drop("q"), Want::Done, 0),
+];
+
+/// Commands in order, under a quota of rows.
+#[derive(Clone, Copy)]
+pub(crate) struct Script {
+    pub(crate) what: &'static str,
+    pub(crate) hold: u64,
+    pub(crate) calls: &'static [Call],
+}
+
+const SCRIPTS: &[Script] = &[
+    Script {
+        what: "a first fetch",
+        hold: 100,
+        calls: FIRST,
+    },
+    Script {
+        what: "two tenants",
+        hold: 100,
+        calls: SHARED,
+    },
+    Script {
+        what: "parts",
+        hold: 100,
+        calls: PARTS,
+    },
+    Script {
+        what: "a sliding range",
+        hold: 100,
+        calls: SLIDING,
+    },
+    Script {
+        what: "an overrun",
+        hold: 2,
+        calls: OVERRUN,
+    },
+];
+
+/// The scripts.
+pub(crate) fn scripts() -> &'static [Script] {
+    SCRIPTS
+}

@@ -11,7 +11,7 @@ help:
 	@echo 'make run     the replies to $(FIRST), from a run that is checked and not proved (a minute)'
 	@echo 'make build   proves and builds $(RUNNER) ($(BUILD_TIME))'
 	@echo 'make test    the gate, and then the built program as users run it (half an hour)'
-	@echo 'make bench   builds the programs, and times puts, query texts, fetches and a store'
+	@echo 'make bench   builds the programs, and times puts, query texts, fetches, shared streams and a store'
 
 # runs the first script with no proof
 run:
@@ -28,11 +28,12 @@ build:
 test:
 	.ci/run
 
-# times puts, texts of two lengths, and fetches over many rows, through the built cqlrun; and
-# appends to one store, through the built stores
+# times puts, texts of two lengths, fetches over many rows, and many readers of one stream, through
+# the built cqlrun; and appends to one store, through the built stores
 bench: build
 	bench/puts $(RUNNER)
 	bench/texts $(RUNNER)
 	bench/fetches $(RUNNER)
+	bench/shared $(RUNNER)
 	@cd crates/stores && rt run > /dev/null
 	bench/stores crates/stores/out/stores

@@ -1,8 +1,8 @@
 # Thin targets over the toolchain's command `rt`.
 RUNNER := crates/cqlrun/out/cqlrun
 FIRST := examples/first.jsonl
-# measured from nothing, on four cores
-BUILD_TIME := about 13 minutes
+# from nothing, on four cores
+BUILD_TIME := a quarter of an hour or more
 
 .PHONY: help run build test bench
 
@@ -10,7 +10,7 @@ BUILD_TIME := about 13 minutes
 help:
 	@echo 'make run     the replies to $(FIRST), from a run that is checked and not proved (a minute)'
 	@echo 'make build   proves and builds $(RUNNER) ($(BUILD_TIME))'
-	@echo 'make test    the gate, and then the built program as users run it (half an hour)'
+	@echo 'make test    the gate, and then the built program as users run it (more than half an hour)'
 	@echo 'make bench   builds the programs, and times puts, query texts, fetches, shared streams and a store'
 
 # runs the first script with no proof

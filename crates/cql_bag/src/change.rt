@@ -1,6 +1,6 @@
 // Changes of bags.
 ghost use Rattle.std.specs.Prelude.{◌≡◌, ◌++◌, replicate, OnOk, OnErr};
-ghost use Rattle.cql_bag.specs.Changes.{changed, change_of, excess, Tells, Grows};
+ghost use Rattle.cql_bag.specs.Changes.{changed, change_of, excess, difference, Tells, Grows};
 
 use crate::Bag;
 use cql_value::row::Row;
@@ -67,7 +67,8 @@ fn tell_excess(
     Ok(())
 }
 
-/// Adds changes to the end of `out` that turn the old bag into the new one.
+/// Adds changes to the end of `out` that turn the old bag into the new one: first the rows that go,
+/// then those that come.
 pub fn tell_difference(
     alloc: Global,
     old: &Bag,
@@ -75,6 +76,7 @@ pub fn tell_difference(
     out: &mut Vec<Change>,
 ) -> Result<(), AllocError>
     ensures ok { OnOk result (Tells out.old.items out.new.items old.now new.now) }
+    ensures rows { OnOk result (out.new.items ≡ out.old.items ++ difference old.now new.now) }
     ensures err { OnErr result (Grows out.old.items out.new.items) }
 {
     let _ = old.entries();

@@ -1,9 +1,10 @@
 // Commands, checked as far as that needs no state.
-ghost use Rattle.std.specs.Prelude.{◌≡◌, IfOk, option_map};
+ghost use Rattle.std.specs.Prelude.{◌≡◌, ◌↔◌, IfOk, IsTrue, option_map};
 ghost use Rattle.std.specs.Arc.{arc_value};
 ghost use Rattle.cql_meaning.specs.Columns.{column_of, columns_of, schema_of};
 ghost use Rattle.cql_core.specs.Prepared.{query_checked, IsReady, command_of};
 
+use crate::same::is_same_command;
 use cql_meaning::{ColumnText, Command, Refusal};
 use cql_text::{ReadError, Syntax, read};
 use cql_value::name::is_name;
@@ -110,6 +111,13 @@ impl Prepared {
         ensures ready { IsReady result.now }
     {
         &self.ready
+    }
+
+    /// Whether it is that command. Takes no memory.
+    pub fn is_same(&self, other: &Prepared) -> bool
+        ensures { IsTrue result ↔ (self.now ≡ other.now) }
+    {
+        is_same_command(&self.ready, &other.ready)
     }
 }
 

@@ -1,4 +1,5 @@
 mod Differences
 mod Exchange
+mod Holding
 mod Quiet
-mod Windows
+mod Steps

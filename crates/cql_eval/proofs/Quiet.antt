@@ -1,46 +1,51 @@
 -- Where nothing changes, and the instants at which something may.
-use Rattle.std.proofs.Common.{◌≡◌, ℕ, zero, suc, ◌+◌, ◌-◌, ◌≤◌, ◌<◌, List, [], ◌∷◌, length, get_or, true, false, cond, nat_lt, ◌⊎◌, inl, inr, refl, sym, ap, ◌∙◌, subst, arith}
+use Rattle.std.proofs.Common.{◌≡◌, ℕ, zero, suc, ◌+◌, ◌-◌, ◌≤◌, ◌<◌, List, [], ◌∷◌, ◌++◌, ◌*◌, length, get_or, true, false, cond, nat_lt, ◌⊎◌, inl, inr, refl, sym, ap, ◌∙◌, subst, arith, Result, Ok, Err}
 use Rattle.std.specs.List.{All, AllByRecursion, Contains}
 use Rattle.std.specs.List.Sorted.{IsStrictlyIncreasing}
 use Rattle.std.proofs.lemmas.Bool.Decides.{nat_tests}
-use Rattle.std.proofs.lemmas.List.Elements.{recursion_from_All}
-use Rattle.cql_value.specs.Element.{Element}
-use Rattle.cql_window.specs.Window.{content, HasSameContent}
+use Rattle.std.proofs.lemmas.List.Elements.{recursion_from_All, Contains-append_left, Contains-append_right}
 use Rattle.cql_window.specs.Pin.{Pinned}
+use Rattle.cql_window.specs.Window.{HasSameContent}
+use Rattle.cql_plan.specs.declared.fault.Fault.{Fault as TheFault}
 use Rattle.cql_plan.specs.declared.plan.OutputKind.{OutputKind}
 use Rattle.cql_plan.specs.declared.plan.OutputKind.TheVariants.{Rstream}
-use Rattle.cql_bag.specs.Bag.{bag_of}
+use Rattle.cql_algebra.specs.PlanValue.{plan_value}
+use Rattle.cql_bag.specs.Bag.{Counts, bag_of}
 use Rattle.cql_out.specs.declared.told.Output.{Output}
-use Rattle.cql_out.specs.declared.relation.Relation.TheVariants.{Bag}
+use Rattle.cql_out.specs.declared.relation.Relation.{Relation}
+use Rattle.cql_out.specs.declared.relation.Relation.TheVariants.{Bag, Fault}
 use Rattle.cql_out.specs.ByKind.{output_of}
 use Rattle.cql_out.specs.Runs.{IsStretch}
+use Rattle.cql_eval.specs.Answer.{rows_in}
 use Rattle.cql_eval.specs.Pin.{PinSeen}
-use Rattle.cql_eval.specs.Relation.{relation_at, shown_at, output_at}
-use Rattle.cql_eval.specs.Shown.{rows_of, IsQuiet, IsQuietUntil, first_change, next_of}
+use Rattle.cql_eval.specs.Relation.{bags_at, relation_of, relation_at, output_at}
+use Rattle.cql_eval.specs.Shown.{rows_of, AreSame, IsQuiet, IsQuietUntil, first_change, next_of}
 
--- ---- the relation of a pin over one window
+-- ---- the relation
 
--- after the base it is the bag of what the window holds
-pub relation_held : (p : PinSeen) (w : Pinned) (c : ℕ) (held : List Element) → p.windows ≡ w ∷ [] → p.base < c → held ≡ content w.window c w.content w.unseen → relation_at p c ≡ bag_of (rows_of held)
+-- after the base it is the plan's value of what the windows hold
+pub relation_after : (p : PinSeen) (c : ℕ) (r : Result Counts TheFault) → p.base < c → plan_value p.plan p.limit (bags_at c p.windows) ≡ r → relation_at p c ≡ relation_of r
 unfolding relation_at
-relation_held p w c held one after is =
+relation_after p c r after is =
     let later : nat_lt p.base c ≡ true = grind (arith, nat_tests) in
-    ap (λ b. cond b (bag_of (shown_at c p.windows)) []) later
-    ∙ ap (λ ws. bag_of (shown_at c ws)) one
-    ∙ ap (λ xs. bag_of (rows_of xs)) (sym is)
+    ap (λ b. cond b (relation_of (plan_value p.plan p.limit (bags_at c p.windows))) (Bag [])) later ∙ ap relation_of is
 
 -- up to the base it is empty
-pub relation_none : (p : PinSeen) (c : ℕ) → c ≤ p.base → relation_at p c ≡ bag_of (rows_of [])
+pub relation_none : (p : PinSeen) (c : ℕ) → c ≤ p.base → relation_at p c ≡ Bag []
 unfolding relation_at
 relation_none p c le =
     let not_yet : nat_lt p.base c ≡ false = grind (arith, nat_tests) in
-    ap (λ b. cond b (bag_of (shown_at c p.windows)) []) not_yet
+    ap (λ b. cond b (relation_of (plan_value p.plan p.limit (bags_at c p.windows))) (Bag [])) not_yet
 
--- where the content stays, the relation does
-pub quiet_at : (p : PinSeen) (w : Pinned) (t : ℕ) → p.windows ≡ w ∷ [] → p.base < t → HasSameContent w.window t w.content w.unseen → IsQuiet p t
-quiet_at p w t one after same =
-    relation_held p w (t + 1) (content w.window (t + 1) w.content w.unseen) one (omega arith) refl
-    ∙ sym (relation_held p w t (content w.window (t + 1) w.content w.unseen) one after same)
+same_bags : (t : ℕ) (ws : List Pinned) → AreSame t ws → bags_at (t + 1) ws ≡ bags_at t ws
+same_bags t [] same = refl
+same_bags t (w ∷ ws) same = λ i. bag_of (rows_of (same.0 i)) ∷ same_bags t ws same.1 i
+
+-- where the contents stay, the relation does
+pub quiet_at : (p : PinSeen) (t : ℕ) → p.base < t → AreSame t p.windows → IsQuiet p t
+quiet_at p t after same =
+    relation_after p (t + 1) (plan_value p.plan p.limit (bags_at t p.windows)) (omega arith) (ap (plan_value p.plan p.limit) (same_bags t p.windows same))
+    ∙ sym (relation_after p t (plan_value p.plan p.limit (bags_at t p.windows)) after refl)
 
 -- ---- quiet stretches
 
@@ -55,28 +60,34 @@ stays p n to t quiet ge le =
     let at : t ≡ n + (t - n) = omega arith in ap (relation_at p) at ∙ stays_for p n (t - n) (λ u ge' lt. quiet u ge' (omega arith))
 
 -- the output of a quiet stretch
-pub quiet_stretch : (p : PinSeen) (n to : ℕ) (kind : OutputKind) (held : List Element) (o : Output) → kind ≡ p.plan.output → IsQuietUntil p n to → n < to → relation_at p n ≡ bag_of (rows_of held)
-    → o ≡ output_of kind (Bag (bag_of (rows_of held))) (Bag (bag_of (rows_of held))) → IsStretch (output_at p) n (to - 1) o
-quiet_stretch p n to kind held o k quiet lt b is u ge le =
-    let now : relation_at p u ≡ bag_of (rows_of held) = stays p n to u quiet ge (omega arith) ∙ b in
-    let next : relation_at p (u + 1) ≡ bag_of (rows_of held) = stays p n to (u + 1) quiet (omega arith) (omega arith) ∙ b in
-    (λ i. output_of p.plan.output (Bag (now i)) (Bag (next i))) ∙ ap (λ q. output_of q (Bag (bag_of (rows_of held))) (Bag (bag_of (rows_of held)))) (sym k) ∙ sym is
+pub quiet_stretch : (p : PinSeen) (n to : ℕ) (o : Output) → IsQuietUntil p n to → n < to → o ≡ output_of p.plan.output (relation_at p n) (relation_at p n) → IsStretch (output_at p) n (to - 1) o
+quiet_stretch p n to o quiet lt is u ge le =
+    let now : relation_at p u ≡ relation_at p n = stays p n to u quiet ge (omega arith) in
+    let next : relation_at p (u + 1) ≡ relation_at p n = stays p n to (u + 1) quiet (omega arith) (omega arith) in
+    (λ i. output_of p.plan.output (now i) (next i)) ∙ sym is
 
 -- the output at an instant
-pub one_instant : (p : PinSeen) (t : ℕ) (kind : OutputKind) (before now : List Element) (o : Output) → kind ≡ p.plan.output → relation_at p t ≡ bag_of (rows_of before) → relation_at p (t + 1) ≡ bag_of (rows_of now)
-    → o ≡ output_of kind (Bag (bag_of (rows_of before))) (Bag (bag_of (rows_of now))) → IsStretch (output_at p) t t o
-one_instant p t kind before now o k b n is u ge le =
-    let at : u ≡ t = omega arith in
-    ap (output_at p) at ∙ (λ i. output_of (sym k i) (Bag (b i)) (Bag (n i))) ∙ sym is
+pub one_instant : (p : PinSeen) (t : ℕ) (o : Output) → o ≡ output_of p.plan.output (relation_at p t) (relation_at p (t + 1)) → IsStretch (output_at p) t t o
+one_instant p t o is u ge le = let at : u ≡ t = omega arith in ap (output_at p) at ∙ sym is
+
+rstream_alone : (a b now : Relation) → output_of Rstream a now ≡ output_of Rstream b now
+rstream_alone (Bag a) (Bag b) (Bag now) = refl
+rstream_alone (Bag a) (Fault g) (Bag now) = refl
+rstream_alone (Fault f) (Bag b) (Bag now) = refl
+rstream_alone (Fault f) (Fault g) (Bag now) = refl
+rstream_alone (Bag a) (Bag b) (Fault now) = refl
+rstream_alone (Bag a) (Fault g) (Fault now) = refl
+rstream_alone (Fault f) (Bag b) (Fault now) = refl
+rstream_alone (Fault f) (Fault g) (Fault now) = refl
 
 -- Rstream tells the same at an instant and as long as nothing changes after it
-pub rstream_stretch : (p : PinSeen) (t to : ℕ) (kind : OutputKind) (before now : List Element) (o : Output) → kind ≡ Rstream → kind ≡ p.plan.output → IsQuietUntil p (t + 1) to → t < to → relation_at p (t + 1) ≡ bag_of (rows_of now)
-    → o ≡ output_of kind (Bag (bag_of (rows_of before))) (Bag (bag_of (rows_of now))) → IsStretch (output_at p) t (to - 1) o
-rstream_stretch p t to kind before now o r k quiet lt n is u ge le =
-    let next : relation_at p (u + 1) ≡ bag_of (rows_of now) = stays p (t + 1) to (u + 1) quiet (omega arith) (omega arith) ∙ n in
-    (λ i. output_of (sym k i) (Bag (relation_at p u)) (Bag (next i)))
-    ∙ ap (λ q. output_of q (Bag (relation_at p u)) (Bag (bag_of (rows_of now)))) r
-    ∙ sym (is ∙ ap (λ q. output_of q (Bag (bag_of (rows_of before))) (Bag (bag_of (rows_of now)))) r)
+pub rstream_stretch : (p : PinSeen) (t to : ℕ) (o : Output) → p.plan.output ≡ Rstream → IsQuietUntil p (t + 1) to → t < to → o ≡ output_of p.plan.output (relation_at p t) (relation_at p (t + 1)) → IsStretch (output_at p) t (to - 1) o
+rstream_stretch p t to o r quiet lt is u ge le =
+    let next : relation_at p (u + 1) ≡ relation_at p (t + 1) = stays p (t + 1) to (u + 1) quiet (omega arith) (omega arith) in
+    (λ i. output_of (r i) (relation_at p u) (next i))
+    ∙ rstream_alone (relation_at p u) (relation_at p t) (relation_at p (t + 1))
+    ∙ ap (λ q. output_of q (relation_at p t) (relation_at p (t + 1))) (sym r)
+    ∙ sym is
 
 -- ---- the instants that are left
 
@@ -176,3 +187,18 @@ left_from_next p n (a ∷ ts) le left =
 pub next_above : (p : PinSeen) (n a : ℕ) (ts : List ℕ) → AreLeft p n (a ∷ ts) → a < next_of ts p.next
 next_above p n a [] left = left.within.0.1
 next_above p n a (t ∷ ts) left = left.rise.0.0
+
+-- ---- the instants of several windows
+
+pub rows_more : (ws : List Pinned) (w : Pinned) → rows_in (ws ++ w ∷ []) ≡ rows_in ws + (length w.content + length w.unseen)
+rows_more [] w = omega arith
+rows_more (v ∷ ws) w = let more = rows_more ws w in omega (arith, more)
+
+pub same_more : (t : ℕ) (ws : List Pinned) (w : Pinned) → AreSame t ws → HasSameContent w.window t w.content w.unseen → AreSame t (ws ++ w ∷ [])
+same_more t [] w same is = (is, tt)
+same_more t (v ∷ ws) w same is = (same.0, same_more t ws w same.1 is)
+
+pub every_more : (ws : List Pinned) (w : Pinned) (ts us : List ℕ) (t : ℕ) → Contains ts t ⊎ AreSame t ws → Contains us t ⊎ HasSameContent w.window t w.content w.unseen → Contains (ts ++ us) t ⊎ AreSame t (ws ++ w ∷ [])
+every_more ws w ts us t (inl h) second = inl (Contains-append_left ts us t h)
+every_more ws w ts us t (inr same) (inl h) = inl (Contains-append_right ts us t h)
+every_more ws w ts us t (inr same) (inr is) = inr (same_more t ws w same is)

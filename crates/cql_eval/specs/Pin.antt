@@ -7,7 +7,7 @@ use Rattle.cql_value.specs.Schema.{HasTypes}
 use Rattle.cql_window.specs.Pin.{Pinned}
 use Rattle.cql_plan.specs.declared.plan.Input.{Input}
 use Rattle.cql_plan.specs.declared.plan.Planned.{Planned}
-use Rattle.cql_plan.specs.Ports.{ports, IsPlain}
+use Rattle.cql_plan.specs.Ports.{ports}
 
 -- a query with the rows of its inputs that its windows need, asked for the instants from one to before another; its relation is empty before the base, and a joined bag of it has at most so many rows
 pub record PinSeen : Type 0 where
@@ -31,10 +31,9 @@ AreWindowsOf (i ∷ is) [] ws = ⊥
 AreWindowsOf (i ∷ is) (c ∷ cs) [] = ⊥
 AreWindowsOf (i ∷ is) (c ∷ cs) (w ∷ ws) = ((w.window ≡ i.window) × AreOf c (w.content ++ w.unseen)) × AreWindowsOf is cs ws
 
--- Its ends are in order, and its windows are its plan's. Only plans of one block over one input, which show what its window holds, are evaluated yet.
+-- its ends are in order, and its windows are its plan's
 pub record IsPin (p : PinSeen) : Type 0 where
   pub begins : p.base ≤ p.from
   pub ends : p.from ≤ p.next
   pub bound : p.next ≤ 2 ^ 62
   pub windows : AreWindowsOf p.plan.inputs (ports p.plan) p.windows
-  pub plain : IsPlain p.plan

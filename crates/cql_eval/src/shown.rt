@@ -1,121 +1,178 @@
-// What a window shows as its pin is walked over.
-ghost use Rattle.std.specs.Prelude.{◌≡◌, ◌≢◌, ◌≤◌, [], List, IfOk};
-ghost use Rattle.cql_value.specs.Element.{Element};
-ghost use Rattle.cql_bag.specs.Bag.{bag_of};
-ghost use Rattle.cql_out.specs.declared.relation.Relation.TheVariants.{Bag as relation};
+// What is shown of a pin.
+ghost use Rattle.std.specs.Prelude.{◌≡◌, ◌≢◌, ◌≤◌, ◌<◌, ℕ, [], IfOk, OnOk};
+ghost use Rattle.cql_bag.specs.Bag.{Counts, IsBag};
+ghost use Rattle.cql_bag.specs.Changes.{changed_by, CanChangeBy};
+ghost use Rattle.cql_ops.specs.Bench.{IsBench, bench_seen};
+ghost use Rattle.cql_out.specs.declared.relation.Relation.{Relation as relation};
+ghost use Rattle.cql_out.specs.declared.relation.Relation.TheVariants.{Bag as bag};
 ghost use Rattle.cql_out.specs.ByKind.{output_of};
 ghost use Rattle.cql_plan.specs.declared.plan.OutputKind.TheVariants.{Rstream};
-ghost use Rattle.cql_window.specs.Window.{content};
-ghost use Rattle.cql_window.specs.Walk.{IsExchange};
-ghost use Rattle.cql_eval.specs.Shown.{rows_of, IsKept};
+ghost use Rattle.cql_eval.specs.Relation.{relation_at};
+ghost use Rattle.cql_eval.specs.Shown.{told_before, StandsFor, LeadsTo, IsShown};
 
-use crate::bags::{add_rows, bag_of_rows, sorted, take_rows};
-use cql_bag::Bag;
-use cql_bag::law::{bag_of_counts, minus_counts, same_counts, take_counts};
+use crate::bags::{add_rows, bag_of_rows, parted, take_rows};
+use crate::pin::Pin;
+use crate::walks::{advance, start};
+use cql_bag::law::{minus_counts, put_all_counts, same_counts, take_counts};
+use cql_bag::{Bag, Change};
+use cql_ops::{BenchOf, Operator, Outcome};
 use cql_out::{Output, Relation, output};
 use cql_plan::OutputKind;
-use cql_window::{Moved, Walk, WindowPin};
+use cql_window::Walk;
 use std::alloc::{AllocError, Global};
 
-/// A walk over a window's rows. For Rstream, which tells the whole relation, the bag of what the
-/// window holds goes with it; the other kinds tell only what came and left.
-#[derive(Drop)]
+/// Walks over the windows, and what is kept of the relation: its fault, and for Rstream, which
+/// tells the whole relation, its bag. The other kinds tell only what came and left, and keep an
+/// empty bag.
 pub(crate) struct Shown<'a> {
-    pub(crate) walk: Walk<'a>,
-    pub(crate) bag: Bag,
+    pub(crate) walks: Vec<Walk<'a>>,
+    pub(crate) relation: Relation,
 }
 
-/// Before the first row.
-pub(crate) fn nothing_shown<'a>(alloc: Global, window: &'a WindowPin) -> Shown<'a>
-    ensures walk { result.walk ≡ record { pin = window.now; cursor = 0; held = [] } }
-    ensures bag { result.bag ≡ [] }
-{
-    Shown {
-        walk: Walk::new(alloc, window),
-        bag: Bag::new(alloc),
+impl<'a> Drop for Shown<'a> {
+    fn drop(self) {
+        let Shown {
+            walks: _,
+            relation: _,
+        } = self;
     }
 }
 
-// The bag of what is held, by that of what was held: with what came, and without what left.
-fn moved_bag(alloc: Global, bag: Bag, moved: &Moved) -> Result<Bag, AllocError>
-    ensures { IfOk result (λ b. (before now : List Element) → bag ≡ bag_of (rows_of before) → IsExchange before moved.now.came.items moved.now.left.items now → b ≡ bag_of (rows_of now)) }
-{
-    same_counts();
-    bag_of_counts();
-    take_counts();
-    let mut bag = bag;
-    add_rows(alloc, &mut bag, &moved.came)?;
-    take_rows(&mut bag, &moved.left);
-    Ok(bag)
+impl<'a> Shown<'a> {
+    fn into_parts(self) -> (Vec<Walk<'a>>, Relation)
+        ensures walks { result.0.items ≡ self.entry.walks.items }
+        ensures relation { result.1 ≡ self.entry.relation }
+    {
+        let Shown { walks, relation } = self;
+        (walks, relation)
+    }
 }
 
-/// The walk up to a cursor, and the rows that came and left.
-pub(crate) fn advance<'a>(
+/// Before the first row, on a bench started anew.
+pub(crate) fn nothing_shown<'a, O: Operator>(
     alloc: Global,
-    kind: OutputKind,
-    shown: Shown<'a>,
-    cursor: u64,
-) -> Result<(Shown<'a>, Moved), AllocError>
-    requires forward { shown.walk.cursor ≤ cursor }
-    requires kept { IsKept kind shown.walk.held shown.bag }
-    ensures window { IfOk result (λ r. r.0.walk.pin ≡ shown.entry.walk.pin) }
-    ensures cursor { IfOk result (λ r. r.0.walk.cursor ≡ cursor) }
-    ensures held { IfOk result (λ r. r.0.walk.held ≡ content shown.entry.walk.pin.window cursor shown.entry.walk.pin.content shown.entry.walk.pin.unseen) }
-    ensures moved { IfOk result (λ r. IsExchange shown.entry.walk.held r.1.came.items r.1.left.items r.0.walk.held) }
-    ensures kept { IfOk result (λ r. IsKept kind r.0.walk.held r.0.bag) }
+    bench: &mut BenchOf<O>,
+    pin: &'a Pin,
+) -> Result<Shown<'a>, AllocError>
+    requires { IsBench O.seen_in bench.old }
+    ensures bench { IsBench O.seen_in bench.new }
+    ensures shown { IfOk result (λ s. (c : ℕ) → c ≤ pin.now.base → IsShown pin.now c s.walks.items s.relation (bench_seen O.seen_in bench.new)) }
 {
-    let Shown { walk, bag } = shown;
-    let (walk, moved) = walk.advance(alloc, cursor)?;
-    let moved = Moved {
-        came: sorted(moved.came),
-        left: sorted(moved.left),
-    };
-    let bag = match kind {
-        OutputKind::Rstream => moved_bag(alloc, bag, &moved)?,
-        _ => bag,
-    };
-    Ok((Shown { walk, bag }, moved))
+    let walks = start(alloc, bench, pin)?;
+    let relation = Relation::Bag(Bag::new(alloc));
+    Ok(Shown { walks, relation })
 }
 
-// What the kinds other than Rstream tell of rows that came and left.
-fn difference(alloc: Global, kind: OutputKind, moved: &Moved) -> Result<Output, AllocError>
-    ensures { IfOk result (λ o. kind ≢ Rstream → (before now : List Element) → IsExchange before moved.now.came.items moved.now.left.items now → o ≡ output_of kind (relation (bag_of (rows_of before))) (relation (bag_of (rows_of now)))) }
+// What Rstream keeps and tells after changes.
+fn list_changes(
+    alloc: Global,
+    kept: Relation,
+    changes: Vec<Change>,
+) -> Result<(Relation, Output), AllocError>
+    ensures { IfOk result (λ r. (before : relation) → StandsFor Rstream kept before → CanChangeBy changes.items (told_before before) → StandsFor Rstream r.0 (bag (changed_by changes.items (told_before before))) × (r.1 ≡ output_of Rstream before (bag (changed_by changes.items (told_before before))))) }
 {
     same_counts();
-    bag_of_counts();
+    put_all_counts();
+    take_counts();
+    let mut bag = match kept {
+        Relation::Bag(bag) => bag,
+        Relation::Fault(_) => Bag::new(alloc),
+    };
+    let (came, left) = parted(alloc, changes)?;
+    add_rows(&mut bag, came)?;
+    take_rows(&mut bag, &left);
+    let told = Output::Rows(bag.listing(alloc)?);
+    Ok((Relation::Bag(bag), told))
+}
+
+// What the other kinds tell of changes of a bag.
+fn difference(alloc: Global, kind: OutputKind, changes: Vec<Change>) -> Result<Output, AllocError>
+    ensures { IfOk result (λ o. kind ≢ Rstream → (before : Counts) → IsBag before → CanChangeBy changes.items before → o ≡ output_of kind (bag before) (bag (changed_by changes.items before))) }
+{
+    same_counts();
+    put_all_counts();
+    take_counts();
     minus_counts();
-    let came = bag_of_rows(alloc, &moved.came)?;
-    let left = bag_of_rows(alloc, &moved.left)?;
+    let (came, left) = parted(alloc, changes)?;
+    let came = bag_of_rows(alloc, came)?;
+    let left = bag_of_rows(alloc, left)?;
     output(alloc, kind, &Relation::Bag(left), &Relation::Bag(came))
 }
 
-/// The output where these rows came and left since the instant before.
-pub(crate) fn changed_output(
+// What the other kinds keep and tell after changes.
+fn tell_changes(
     alloc: Global,
     kind: OutputKind,
-    bag: &Bag,
-    moved: &Moved,
-) -> Result<Output, AllocError>
-    ensures { IfOk result (λ o. (before now : List Element) → IsKept kind now bag.now → IsExchange before moved.now.came.items moved.now.left.items now → o ≡ output_of kind (relation (bag_of (rows_of before))) (relation (bag_of (rows_of now)))) }
+    kept: Relation,
+    changes: Vec<Change>,
+) -> Result<(Relation, Output), AllocError>
+    ensures { IfOk result (λ r. kind ≢ Rstream → (before : relation) → StandsFor kind kept before → CanChangeBy changes.items (told_before before) → StandsFor kind r.0 (bag (changed_by changes.items (told_before before))) × (r.1 ≡ output_of kind before (bag (changed_by changes.items (told_before before))))) }
 {
-    match kind {
-        OutputKind::Rstream => Ok(Output::Rows(bag.listing(alloc)?)),
-        _ => difference(alloc, kind, moved),
+    put_all_counts();
+    take_counts();
+    match kept {
+        Relation::Bag(bag) => {
+            let told = difference(alloc, kind, changes)?;
+            Ok((Relation::Bag(bag), told))
+        }
+        Relation::Fault(fault) => Ok((Relation::Bag(Bag::new(alloc)), Output::Fault(fault))),
     }
 }
 
+// What is kept and told after a bench answered.
+fn tell(
+    alloc: Global,
+    kind: OutputKind,
+    kept: Relation,
+    outcome: Outcome,
+) -> Result<(Relation, Output), AllocError>
+    ensures { IfOk result (λ r. (before now : relation) → StandsFor kind kept before → LeadsTo outcome before now → StandsFor kind r.0 now × (r.1 ≡ output_of kind before now)) }
+{
+    match outcome {
+        Outcome::Changed(changes) => match kind {
+            OutputKind::Rstream => list_changes(alloc, kept, changes),
+            _ => tell_changes(alloc, kind, kept, changes),
+        },
+        Outcome::Faulty(fault) => Ok((Relation::Fault(fault), Output::Fault(fault))),
+    }
+}
+
+/// What is shown at a later cursor, and the output from the one to the other. After a fault the
+/// bench is started anew.
+pub(crate) fn step<'a, O: Operator>(
+    alloc: Global,
+    bench: &mut BenchOf<O>,
+    pin: &'a Pin,
+    shown: Shown<'a>,
+    cursor: u64,
+) -> Result<(Shown<'a>, Output), AllocError>
+    requires bench { IsBench O.seen_in bench.old }
+    requires based { pin.now.base < cursor }
+    requires shown { (c : ℕ) × (c ≤ cursor) × IsShown pin.now c shown.walks.items shown.relation (bench_seen O.seen_in bench.old) }
+    ensures bench { IsBench O.seen_in bench.new }
+    ensures shown { IfOk result (λ r. IsShown pin.now cursor r.0.walks.items r.0.relation (bench_seen O.seen_in bench.new)) }
+    ensures told { IfOk result (λ r. (c : ℕ) → IsShown pin.now c shown.entry.walks.items shown.entry.relation (bench_seen O.seen_in bench.old) → r.1 ≡ output_of pin.now.plan.output (relation_at pin.now c) (relation_at pin.now cursor)) }
+{
+    let (walks, relation) = shown.into_parts();
+    let walks = advance(alloc, bench, pin, walks, cursor)?;
+    let outcome = bench.emit(alloc, pin.plan(), pin.limit())?;
+    let walks = match &outcome {
+        Outcome::Changed(_) => walks,
+        Outcome::Faulty(_) => start(alloc, bench, pin)?,
+    };
+    let (relation, told) = tell(alloc, pin.plan().output(), relation, outcome)?;
+    Ok((Shown { walks, relation }, told))
+}
+
 /// The output where nothing changed since the instant before.
-pub(crate) fn same_output(alloc: Global, kind: OutputKind, bag: &Bag) -> Result<Output, AllocError>
-    ensures { IfOk result (λ o. (held : List Element) → IsKept kind held bag.now → o ≡ output_of kind (relation (bag_of (rows_of held))) (relation (bag_of (rows_of held)))) }
+pub(crate) fn same_output(
+    alloc: Global,
+    kind: OutputKind,
+    kept: &Relation,
+) -> Result<Output, AllocError>
+    ensures { IfOk result (λ o. (now : relation) → StandsFor kind kept.now now → o ≡ output_of kind now now) }
 {
     same_counts();
-    bag_of_counts();
     minus_counts();
-    match kind {
-        OutputKind::Rstream => Ok(Output::Rows(bag.listing(alloc)?)),
-        _ => {
-            let none = Relation::Bag(Bag::new(alloc));
-            output(alloc, kind, &none, &none)
-        }
-    }
+    output(alloc, kind, kept, kept)
 }

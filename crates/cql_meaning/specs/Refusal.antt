@@ -3,7 +3,7 @@ use Rattle.std.specs.Prelude.{ℕ, List, codes}
 use Rattle.cql_tenants.specs.declared.refusal.StreamRefusal.{StreamRefusal}
 use Rattle.cql_tenants.specs.declared.refusal.StreamRefusal.TheVariants as refused
 use Rattle.cql_meaning.specs.declared.refusal.Refusal.{Refusal}
-use Rattle.cql_meaning.specs.declared.refusal.Refusal.TheVariants.{StreamExists, BadName, BadColumns, TooManyStreams, UnknownStream, UnknownTenant, AlreadyGranted, SelfGrant, WrongRow, Late, AtTooLarge, BadQuery, UnknownColumn, AmbiguousColumn, TypeMismatch, TooManyQueries, QueryExists, UnknownQuery, NotYet, Overrun, Ahead, Behind, NoMemory}
+use Rattle.cql_meaning.specs.declared.refusal.Refusal.TheVariants.{StreamExists, BadName, BadColumns, TooManyStreams, UnknownStream, UnknownTenant, AlreadyGranted, SelfGrant, WrongRow, Late, AtTooLarge, BadQuery, UnknownColumn, AmbiguousColumn, TypeMismatch, TooManyQueries, QueryExists, UnknownQuery, Overrun, Ahead, Behind, NoMemory}
 
 abbrev pub number_of : Refusal → ℕ
 number_of StreamExists = 20
@@ -24,7 +24,6 @@ number_of TypeMismatch = 54
 number_of TooManyQueries = 55
 number_of QueryExists = 56
 number_of UnknownQuery = 57
-number_of NotYet = 58
 number_of Overrun = 60
 number_of Ahead = 61
 number_of Behind = 62
@@ -49,7 +48,6 @@ name_of TypeMismatch = codes "TypeMismatch"
 name_of TooManyQueries = codes "TooManyQueries"
 name_of QueryExists = codes "QueryExists"
 name_of UnknownQuery = codes "UnknownQuery"
-name_of NotYet = codes "NotYet"
 name_of Overrun = codes "Overrun"
 name_of Ahead = codes "Ahead"
 name_of Behind = codes "Behind"

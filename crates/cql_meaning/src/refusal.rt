@@ -5,7 +5,7 @@ ghost use Rattle.cql_meaning.specs.Refusal.{number_of, name_of};
 use cql_tenants::StreamRefusal;
 
 /// Why a command is refused. A refusal changes nothing.
-#[derive(Clone, Copy, Drop)]
+#[derive(Clone, Copy, PartialEq, Eq, Drop)]
 pub enum Refusal {
     /// The tenant has a stream of that name (20).
     StreamExists,
@@ -45,9 +45,6 @@ pub enum Refusal {
     QueryExists,
     /// The tenant has no query of that name (57).
     UnknownQuery,
-    /// The query is right, and can't be evaluated yet: it isn't one block over one input that
-    /// says `*` and has no DISTINCT, WHERE and GROUP BY (58).
-    NotYet,
     /// A window of the query had more rows to hold than its tenant may have (60).
     Overrun,
     /// The instant is above the query's limit (61).
@@ -82,7 +79,6 @@ impl Refusal {
             Refusal::TooManyQueries => 55,
             Refusal::QueryExists => 56,
             Refusal::UnknownQuery => 57,
-            Refusal::NotYet => 58,
             Refusal::Overrun => 60,
             Refusal::Ahead => 61,
             Refusal::Behind => 62,
@@ -113,7 +109,6 @@ impl Refusal {
             Refusal::TooManyQueries => "TooManyQueries",
             Refusal::QueryExists => "QueryExists",
             Refusal::UnknownQuery => "UnknownQuery",
-            Refusal::NotYet => "NotYet",
             Refusal::Overrun => "Overrun",
             Refusal::Ahead => "Ahead",
             Refusal::Behind => "Behind",

@@ -103,13 +103,13 @@ pub column_type : (columns : List ColumnType) (at : ℕ) → expr_type columns (
 unfolding expr_type
 column_type columns at = ap (fold-Expr (Option ColumnType) (type_step columns)) (sym (rolls-Column at)) ∙ fold-roll-Expr (Option ColumnType) (type_step columns) (Expr-F.Column at)
 
+pub constant_kind : (written : WrittenConstant) → type_of (value_of written) ≡ kind_of written
+constant_kind (constant.Number n) = refl
+constant_kind (constant.Text t) = refl
+
 constant_type : (columns : List ColumnType) (written : WrittenConstant) → expr_type columns (e.Constant (value_of written)) ≡ Some (kind_of written)
 unfolding expr_type
-constant_type columns written = ap (fold-Expr (Option ColumnType) (type_step columns)) (sym (rolls-Constant (value_of written))) ∙ fold-roll-Expr (Option ColumnType) (type_step columns) (Expr-F.Constant (value_of written)) ∙ ap (λ k. Some k) (kind written)
-  where
-    kind : (written : WrittenConstant) → type_of (value_of written) ≡ kind_of written
-    kind (constant.Number n) = refl
-    kind (constant.Text t) = refl
+constant_type columns written = ap (fold-Expr (Option ColumnType) (type_step columns)) (sym (rolls-Constant (value_of written))) ∙ fold-roll-Expr (Option ColumnType) (type_step columns) (Expr-F.Constant (value_of written)) ∙ ap (λ k. Some k) (constant_kind written)
 
 binary_type : (columns : List ColumnType) (op : Operation) (a b : Expr) → expr_type columns (e.Binary op a b) ≡ number_type (expr_type columns a) (expr_type columns b)
 unfolding expr_type

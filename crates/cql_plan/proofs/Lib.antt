@@ -5,6 +5,7 @@ mod Few
 mod Meant
 mod Firsts
 mod FitExpressions
+mod FitConditions
 mod Fits
 mod Joined
 mod Qualified

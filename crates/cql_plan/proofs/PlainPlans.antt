@@ -111,7 +111,7 @@ block_plain readable query c plain h =
 plan_plain : (readable : Readable) (output : OutputKind) (first : Checked) (written : Option Second) (plan : Planned) → written ≡ None → IsPlainBlock first → with_second readable output first written ≡ Ok plan → IsPlain plan
 unfolding with_second
 plan_plain readable output first None plan none plain h =
-    subst IsPlain (ok_is (alone output first) plan h) (record { columns = plain.columns; join = plain.join; shape = plain.shape; distinct = plain.distinct; second = refl; set_op = refl })
+    subst IsPlain (ok_is (alone output first) plan h) (record { columns = plain.columns; join = plain.join; shape = plain.shape; distinct = plain.distinct; combined = refl })
 plan_plain readable output first (Some written) plan none plain h = absurd cc
 
 pub plain_law : IsPlainLaw

@@ -1,22 +1,20 @@
--- Expressions and shapes that fit columns of given types.
-use Rattle.std.specs.Prelude.{◌≡◌, ℕ, List, [], ◌∷◌, ◌++◌, Option, Some, None, Ok, IfSome, Bool, true, false, not, ◌||◌, slice_get}
+-- Expressions, conditions and shapes that fit columns of given types.
+use Rattle.std.specs.Prelude.{◌≡◌, ℕ, List, [], ◌∷◌, ◌++◌, Option, Some, None, Bool, true, false, not, ◌&&◌, ◌||◌, slice_get}
 use Rattle.std.specs.List.{AllByRecursion, Contains, list_any}
 pub use Rattle.cql_value.specs.Schema.{type_of}
 use Rattle.cql_value.specs.declared.schema.ColumnType.{ColumnType}
 use Rattle.cql_value.specs.declared.schema.ColumnType.TheVariants.{Number, Text}
-use Rattle.cql_syntax.specs.declared.syntax.Query.{Query}
+use Rattle.cql_plan.specs.declared.condition.Operand.{Operand}
+use Rattle.cql_plan.specs.declared.condition.Operand.TheVariants as operand
+use Rattle.cql_plan.specs.declared.condition.Condition.{Condition, fold-Condition}
+use Rattle.cql_plan.specs.declared.condition.Condition.TheOpen.{Condition-F}
 use Rattle.cql_plan.specs.declared.expr.Expr.{Expr, fold-Expr}
 use Rattle.cql_plan.specs.declared.expr.Expr.TheOpen.{Expr-F}
 use Rattle.cql_plan.specs.declared.expr.Expr.TheVariants as expr
-use Rattle.cql_plan.specs.declared.node.Join.{Join}
 use Rattle.cql_plan.specs.declared.node.Shape.{Shape}
 use Rattle.cql_plan.specs.declared.node.Item.{Item}
 use Rattle.cql_plan.specs.declared.node.Item.TheVariants as i
-use Rattle.cql_plan.specs.declared.node.Node.TheVariants as node
-use Rattle.cql_plan.specs.declared.plan.Branch.{Branch}
-use Rattle.cql_plan.specs.declared.plan.Planned.{Planned}
-use Rattle.cql_plan.specs.Sources.{Readable}
-use Rattle.cql_plan.specs.Typing.{typing, is_empty}
+use Rattle.cql_plan.specs.Typing.{is_empty, same_kind}
 
 -- ---- expressions
 
@@ -73,22 +71,37 @@ pub record IsTyped (shape : Shape) : Type 0 where
   pub groups : AllByRecursion (HasColumn shape.columns) shape.groups
   pub grouped : is_grouped shape ≡ true → AllByRecursion (IsGroupedItem shape.groups) shape.items
 
--- ---- plans
+-- ---- conditions
+
+-- the type of an operand over columns of these types, if it has one
+abbrev pub operand_type : List ColumnType → Operand → Option ColumnType
+operand_type columns (operand.Column at) = slice_get columns at
+operand_type columns (operand.Constant v) = Some (type_of v)
+
+-- both are there, and one type
+abbrev pub are_one_type : Option ColumnType → Option ColumnType → Bool
+are_one_type None b = false
+are_one_type (Some a) None = false
+are_one_type (Some a) (Some b) = same_kind a b
+
+-- one level of the test of a condition, with that of its parts
+abbrev pub condition_step : List ColumnType → Condition-F Bool → Bool
+condition_step columns Condition-F.Always = true
+condition_step columns (Condition-F.Compare left how right) = are_one_type (operand_type columns left) (operand_type columns right)
+condition_step columns (Condition-F.Not part) = part
+condition_step columns (Condition-F.And left right) = left && right
+condition_step columns (Condition-F.Or left right) = left && right
+
+-- whether each comparison is between two of one type, over columns of these types
+unfoldable pub is_typed_condition : List ColumnType → Condition → Bool
+is_typed_condition columns = fold-Condition Bool (condition_step columns)
+
+abbrev pub IsTypedCondition : List ColumnType → Condition → Type 0
+IsTypedCondition columns condition = is_typed_condition columns condition ≡ true
+
+-- ---- joins
 
 -- the columns of all ports, in order
 abbrev pub all_columns : List (List ColumnType) → List ColumnType
 all_columns [] = []
 all_columns (columns ∷ ports) = columns ++ all_columns ports
-
--- a block's shape stands over the columns of its join, and fits them
-pub record IsTypedBlock (block : Branch) : Type 0 where
-  pub join : Join
-  pub shape : Shape
-  pub is_join : block.join ≡ node.Join join
-  pub is_shape : block.shape ≡ node.Shape shape
-  pub columns : shape.columns ≡ all_columns join.ports
-  pub typed : IsTyped shape
-
--- each block of a plan
-abbrev pub IsFitLaw : Type 0
-IsFitLaw = (readable : Readable) (query : Query) (plan : Planned) → typing readable query ≡ Ok plan → IsTypedBlock plan.first × IfSome plan.second IsTypedBlock

@@ -1,11 +1,11 @@
 pub mod Expr
 pub mod Condition
-pub mod Node
 pub mod Outcome
-pub mod Plan
 pub mod Columns
 pub mod Sources
 pub mod Typing
-pub mod Law
 pub mod Fit
+pub mod Node
 pub mod Ports
+pub mod Plan
+pub mod Law

@@ -15,7 +15,7 @@ use Rattle.cql_plan.specs.declared.node.Item.{Item}
 use Rattle.cql_plan.specs.declared.node.Item.TheVariants.{Value as value}
 use Rattle.cql_plan.specs.declared.node.Node.{Node}
 use Rattle.cql_plan.specs.declared.node.Node.TheVariants as node
-use Rattle.cql_plan.specs.declared.plan.Branch.{Branch}
+use Rattle.cql_plan.specs.declared.plan.Combined.{Combined}
 use Rattle.cql_plan.specs.declared.plan.Input.{Input}
 use Rattle.cql_plan.specs.declared.plan.Planned.{Planned}
 use Rattle.cql_plan.specs.Sources.{Readable}
@@ -28,13 +28,13 @@ ports_in (node.Shape s) = []
 ports_in (node.Distinct c) = []
 ports_in (node.SetOp s) = []
 
-abbrev pub later_ports : Option Branch → List (List ColumnType)
+abbrev pub later_ports : Option Combined → List (List ColumnType)
 later_ports None = []
-later_ports (Some block) = ports_in block.join
+later_ports (Some combined) = ports_in combined.branch.join
 
 -- the ports of both blocks, in order
 abbrev pub ports : Planned → List (List ColumnType)
-ports p = ports_in p.first.join ++ later_ports p.second
+ports p = ports_in p.first.join ++ later_ports p.combined
 
 -- a window parts by places among these columns
 abbrev pub PartsAmong : Window → List ColumnType → Type 0
@@ -79,8 +79,7 @@ pub record IsPlain (p : Planned) : Type 0 where
   pub join : p.first.join ≡ node.Join (record { ports = columns ∷ []; condition = Always })
   pub shape : p.first.shape ≡ node.Shape (record { columns = columns; items = columns_from 0 columns; groups = [] })
   pub distinct : p.first.distinct ≡ None
-  pub second : p.second ≡ None
-  pub set_op : p.set_op ≡ None
+  pub combined : p.combined ≡ None
 
 -- a query of one block over one input, which says `*` and has no DISTINCT, WHERE and GROUP BY
 pub record IsPlainQuery (q : Query) : Type 0 where

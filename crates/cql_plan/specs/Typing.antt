@@ -268,15 +268,14 @@ output_of (Some stream.Rstream) = Rstream
 
 -- a query of one block
 abbrev pub alone : OutputKind → Checked → Planned
-alone output first = record { inputs = first.inputs; first = first.branch; second = None; set_op = None; output = output }
+alone output first = record { inputs = first.inputs; first = first.branch; combined = None; output = output }
 
 -- a query of two blocks
 abbrev pub combined : OutputKind → SetOperator → Checked → Checked → Planned
 combined output operator first second = record {
   inputs = first.inputs ++ second.inputs;
   first = first.branch;
-  second = Some second.branch;
-  set_op = Some (node.SetOp (record { kind = operator; columns = first.kinds }));
+  combined = Some (record { branch = second.branch; set_op = node.SetOp (record { kind = operator; columns = first.kinds }) });
   output = output;
 }
 

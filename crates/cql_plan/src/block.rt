@@ -1,7 +1,6 @@
 // Blocks.
 ghost use Rattle.std.specs.Prelude.{◌≡◌, IfOk};
 ghost use Rattle.cql_plan.specs.Outcome.{Answers};
-ghost use Rattle.cql_plan.specs.Plan.{HasKinds};
 ghost use Rattle.cql_plan.specs.Sources.{AreBounded};
 ghost use Rattle.cql_plan.specs.Typing as spec;
 
@@ -93,8 +92,7 @@ fn checked_of(
 // WHERE, then GROUP BY, then the items, each from the left, over the columns of the inputs.
 #[tactic(auto, unfolding(crate::specs::Typing::body_of))]
 fn body_of(alloc: Global, sources: Vec<Source>, block: &SelectBlock) -> Result<Checked, PlanError>
-    ensures value { Answers (spec.body_of sources.items block.now) result }
-    ensures kinds { IfOk result (λ c. HasKinds c.branch) }
+    ensures { Answers (spec.body_of sources.items block.now) result }
 {
     let Joined { inputs, ports, row } = joined_of(alloc, sources)?;
     let row = row.as_slice();
@@ -114,8 +112,7 @@ pub(crate) fn block_of<L: Lookup>(
     block: &SelectBlock,
 ) -> Result<Checked, PlanError>
     requires { AreBounded block.now.inputs }
-    ensures value { Answers (spec.block_of (L.readable lookup.now) block.now) result }
-    ensures kinds { IfOk result (λ c. HasKinds c.branch) }
+    ensures { Answers (spec.block_of (L.readable lookup.now) block.now) result }
 {
     let sources = sources(alloc, lookup, block.inputs.as_slice())?;
     if !are_apart(&sources) {

@@ -4,6 +4,7 @@ ghost use Rattle.cql_plan.specs.Law.{
   IsFirstFaultLaw,
   IsQualifiedLaw,
 };
+ghost use Rattle.cql_plan.specs.Plan.{IsFormLaw};
 ghost use Rattle.cql_plan.specs.Ports.{IsPortsLaw, IsPlainLaw};
 
 /// A written column means the one column of the joined row that it may mean; it is unknown where
@@ -28,6 +29,12 @@ pub fn qualified_law()
 /// types of the stream's columns.
 pub fn ports_law()
     ensures { IsPortsLaw }
+{}
+
+/// A plan's nodes fit each other: conditions compare columns of one type, items are typed over the
+/// joined row, what one node gives goes into the next, and two blocks have the same columns.
+pub fn form_law()
+    ensures { IsFormLaw }
 {}
 
 /// The plan of a query of one block over one input, which says `*` and has no DISTINCT, WHERE and

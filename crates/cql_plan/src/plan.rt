@@ -1,5 +1,5 @@
 // What is computed for a query.
-ghost use Rattle.std.specs.Prelude.{◌≡◌, ◌↔◌, IsTrue, option_copied};
+ghost use Rattle.std.specs.Prelude.{◌≡◌, ◌↔◌, IsTrue, IfSome, option_copied};
 ghost use Rattle.cql_plan.specs.Plan as spec;
 ghost use Rattle.cql_plan.specs.Ports.{ports, HavePorts};
 
@@ -37,13 +37,18 @@ pub enum OutputKind {
     Signed,
 }
 
-/// What a plan says: the inputs of both blocks in order, the blocks, and the set operation where
-/// there are two.
+/// A second block, and the set operation on what both blocks give.
+pub struct Combined {
+    pub branch: Branch,
+    pub set_op: Node,
+}
+
+/// What a plan says: the inputs of its blocks in order, the first block, and the second where there
+/// is one.
 pub struct Planned {
     pub inputs: Items<Input>,
     pub first: Branch,
-    pub second: Option<Branch>,
-    pub set_op: Option<Node>,
+    pub combined: Option<Combined>,
     pub output: OutputKind,
 }
 
@@ -89,13 +94,21 @@ impl Drop for Branch {
     }
 }
 
+impl Drop for Combined {
+    fn drop(self) {
+        let Combined {
+            branch: _,
+            set_op: _,
+        } = self;
+    }
+}
+
 impl Drop for Planned {
     fn drop(self) {
         let Planned {
             inputs: _,
             first: _,
-            second: _,
-            set_op: _,
+            combined: _,
             output: _,
         } = self;
     }
@@ -129,25 +142,25 @@ impl Plan {
     /// Its first block.
     pub fn first(&self) -> &Branch
         ensures value { result.now ≡ self.now.first }
-        ensures kinds { spec.HasKinds result.now }
+        ensures block { spec.IsBlock result.now }
     {
         &self.planned.first
     }
 
-    /// Its second block, where there are two.
-    pub fn second(&self) -> Option<&Branch>
-        ensures value { option_copied result ≡ self.now.second }
-        ensures valid { spec.IsPlan self.now }
+    /// Its second block with the set operation on both, where there is one.
+    pub fn combined(&self) -> Option<&Combined>
+        ensures value { option_copied result ≡ self.now.combined }
+        ensures valid { IfSome self.now.combined (spec.IsCombined self.now.first) }
     {
-        self.planned.second.as_ref()
+        self.planned.combined.as_ref()
     }
 
-    /// The set operation on the two blocks, where there are two.
-    pub fn set_op(&self) -> Option<&Node>
-        ensures value { option_copied result ≡ self.now.set_op }
-        ensures valid { spec.IsPlan self.now }
+    /// That it is a plan: each node is of its place's kind and fits the columns that go in, what
+    /// one gives goes into the next, and each input stands beside a port of a join.
+    pub fn keeps_form(&self)
+        ensures { spec.IsPlan self.now }
     {
-        self.planned.set_op.as_ref()
+        let _ = &self.planned;
     }
 
     /// What it tells at each instant.

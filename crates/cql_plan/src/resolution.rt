@@ -2,7 +2,6 @@
 ghost use Rattle.std.specs.Prelude.{◌≡◌, IfOk, IfErr, IfSome, Ok};
 ghost use Rattle.std.specs.List.{list_all, zip};
 ghost use Rattle.cql_plan.specs.Outcome.{Answers, Tells};
-ghost use Rattle.cql_plan.specs.Plan.{HasKinds, HasNodes};
 ghost use Rattle.cql_plan.specs.Sources.{AreBounded};
 ghost use Rattle.cql_plan.specs.Typing as spec;
 ghost use Rattle.cql_plan.specs.Typing.{typing};
@@ -11,7 +10,7 @@ use crate::block::{Checked, block_of};
 use crate::error::{PlanError, PlanFault};
 use crate::lookup::Lookup;
 use crate::node::{Node, SetOp};
-use crate::plan::{OutputKind, Plan, Planned};
+use crate::plan::{Combined, OutputKind, Plan, Planned};
 use crate::typed::same_kind;
 use cql_syntax::syntax::{Query, Second, SetOperator, StreamOperator};
 use cql_text::Syntax;
@@ -48,15 +47,12 @@ fn same_kinds(left: &[ColumnType], right: &[ColumnType]) -> bool
 
 // A query of one block.
 fn alone(output: OutputKind, first: Checked) -> Planned
-    requires { HasKinds first.branch }
-    ensures value { result ≡ spec.alone output first }
-    ensures kinds { HasNodes result }
+    ensures { result ≡ spec.alone output first }
 {
     Planned {
         inputs: first.inputs,
         first: first.branch,
-        second: None,
-        set_op: None,
+        combined: None,
         output,
     }
 }
@@ -68,21 +64,20 @@ fn combined(
     first: Checked,
     second: Checked,
 ) -> Result<Planned, AllocError>
-    requires first { HasKinds first.branch }
-    requires second { HasKinds second.branch }
-    ensures value { IfOk result (λ p. p ≡ spec.combined output operator first second) }
-    ensures kinds { IfOk result (λ p. HasNodes p) }
+    ensures { IfOk result (λ p. p ≡ spec.combined output operator first second) }
 {
     let mut inputs = first.inputs;
     inputs.append(second.inputs)?;
     Ok(Planned {
         inputs,
         first: first.branch,
-        second: Some(second.branch),
-        set_op: Some(Node::SetOp(SetOp {
-            kind: operator,
-            columns: first.kinds,
-        })),
+        combined: Some(Combined {
+            branch: second.branch,
+            set_op: Node::SetOp(SetOp {
+                kind: operator,
+                columns: first.kinds,
+            }),
+        }),
         output,
     })
 }
@@ -96,10 +91,8 @@ fn with_second<L: Lookup>(
     first: Checked,
     written: &Option<Second>,
 ) -> Result<Planned, PlanError>
-    requires first { HasKinds first.branch }
-    requires second { IfSome written.now (λ s. AreBounded s.block.inputs) }
-    ensures value { Answers (spec.with_second (L.readable lookup.now) output first written.now) result }
-    ensures kinds { IfOk result (λ p. HasNodes p) }
+    requires { IfSome written.now (λ s. AreBounded s.block.inputs) }
+    ensures { Answers (spec.with_second (L.readable lookup.now) output first written.now) result }
 {
     match written {
         None => Ok(alone(output, first)),
@@ -117,8 +110,7 @@ fn with_second<L: Lookup>(
 fn planned<L: Lookup>(alloc: Global, query: &Query, lookup: &L) -> Result<Planned, PlanError>
     requires first { AreBounded query.now.first.inputs }
     requires second { IfSome query.now.second (λ s. AreBounded s.block.inputs) }
-    ensures value { Answers (typing (L.readable lookup.now) query.now) result }
-    ensures kinds { IfOk result (λ p. HasNodes p) }
+    ensures { Answers (typing (L.readable lookup.now) query.now) result }
 {
     let first = block_of(alloc, lookup, &query.first)?;
     with_second(alloc, lookup, output_of(query.output), first, &query.second)

@@ -4,7 +4,7 @@ ghost use Rattle.std.specs.Prelude.{◌≡◌, ◌↔◌, IsTrue};
 use crate::condition::{Condition, Operand};
 use crate::expr::Expr;
 use crate::node::{Item, Join, Node, SetOp, Shape};
-use crate::plan::{Branch, Input, Planned};
+use crate::plan::{Branch, Combined, Input, Planned};
 use cql_value::Same;
 
 impl Same for Expr {
@@ -118,12 +118,17 @@ impl Same for Branch {
     }
 }
 
+impl Same for Combined {
+    fn is_same(&self, other: &Combined) -> bool {
+        self.branch.is_same(&other.branch) && self.set_op.is_same(&other.set_op)
+    }
+}
+
 impl Same for Planned {
     fn is_same(&self, other: &Planned) -> bool {
         self.inputs.is_same(&other.inputs)
             && self.first.is_same(&other.first)
-            && self.second.is_same(&other.second)
-            && self.set_op.is_same(&other.set_op)
+            && self.combined.is_same(&other.combined)
             && self.output == other.output
     }
 }

@@ -8,6 +8,7 @@ mod homes;
 pub mod law;
 mod readable;
 mod refusal;
+mod same;
 pub mod shelf;
 mod stream;
 mod tenants;

@@ -318,8 +318,12 @@ fn moves(rt: HostRuntime) -> Result<(), Fail> {
     {
         return Err(Fail::new("no memory"));
     }
-    shelf.go_to("x", 3);
-    shelf.go_to("y", 4);
+    assert!(rt; shelf.find("y").is_none());
+    let Some((place, thing)) = shelf.find("x") else {
+        return Err(Fail::new("no thing"));
+    };
+    assert_eq!(rt; (place, thing.to), (0, 0));
+    shelf.go_to(place, 3);
     assert!(rt; shelf.take("y").is_none());
     assert_eq!(rt; shelf.take("x").map(|thing| thing.to), Some(3));
     assert_eq!(rt; shelf.len(), 0);

@@ -28,8 +28,7 @@ whole = record {
 pub record IsWhole (p : Planned) : Type 0 where
   pub one : length p.inputs ≡ 1
   pub first : p.first ≡ whole
-  pub second : p.second ≡ None
-  pub set_op : p.set_op ≡ None
+  pub combined : p.combined ≡ None
 
 -- rows of one number, in order of their times
 pub record AreFit (xs : List Element) : Type 0 where

@@ -3,7 +3,7 @@ use cql_core::law::{
     alone_law, fetch_law, held_law as rows_held_law, history_law, isolation_law, language_law,
     limit_law, query_law, refusal_law, relation_law, reply_law, solo_law, stub_law,
 };
-use cql_plan::law::{column_law, first_fault_law, plain_law, ports_law, qualified_law};
+use cql_plan::law::{column_law, first_fault_law, form_law, plain_law, ports_law, qualified_law};
 use cql_syntax::reserved_law;
 use cql_text::read_law;
 use cql_value::law::types_law;
@@ -28,6 +28,7 @@ fn laws() {
     first_fault_law();
     qualified_law();
     ports_law();
+    form_law();
     plain_law();
     reserved_law();
     read_law();

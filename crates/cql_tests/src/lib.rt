@@ -5,6 +5,8 @@
 #[cfg(test)]
 mod answers;
 #[cfg(test)]
+mod benches;
+#[cfg(test)]
 mod laws;
 #[cfg(test)]
 mod memory;

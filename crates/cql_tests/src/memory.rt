@@ -1,8 +1,13 @@
 // Commands where memory may run out: `rt try --test --fail-alloc` passes here with every number.
+ghost use Rattle.cql_ops.specs.Bench.{IsBench};
+
 use crate::scripts::{Call, Say, Script, Want, command, is_same_reply, is_told, scripts};
 use crate::tenants::{Unmade, table_with};
-use cql_core::{Command, Core, Refusal, Reply, TenantId, TenantTable, run, serve};
-use std::alloc::Global;
+use cql_core::{
+    BenchOf, Command, Core, Operator, Refusal, Reply, TenantId, TenantTable, run, serve,
+};
+use cql_ops::plain_bench;
+use std::alloc::{AllocError, Global};
 use std::test::Fail;
 
 fn table_of(alloc: Global, script: &Script) -> Result<TenantTable, Unmade> {
@@ -36,15 +41,19 @@ struct Shown {
     held: Option<u64>,
 }
 
-fn shown_of(
+fn shown_of<O: Operator>(
     alloc: Global,
     core: &mut Core,
+    bench: &mut BenchOf<O>,
     table: &TenantTable,
     by: TenantId,
-) -> Result<Shown, Unmade> {
+) -> Result<Shown, Unmade>
+    requires { IsBench O.seen_in bench.old }
+    ensures { IsBench O.seen_in bench.new }
+{
     let owner = table.find("a").ok_or(Unmade::Wrong)?;
     let held = core.rows_held(owner, "s");
-    let list = serve(alloc, core, by, Command::List);
+    let list = serve(alloc, core, bench, by, Command::List);
     if !matches!(&list, Reply::Listing(_)) {
         return Err(Unmade::Wrong);
     }
@@ -52,15 +61,19 @@ fn shown_of(
 }
 
 // The same, asked once more where there was no memory.
-fn shown_at_last(
+fn shown_at_last<O: Operator>(
     alloc: Global,
     core: &mut Core,
+    bench: &mut BenchOf<O>,
     table: &TenantTable,
     by: TenantId,
-) -> Result<Shown, Unmade> {
-    match shown_of(alloc, core, table, by) {
+) -> Result<Shown, Unmade>
+    requires { IsBench O.seen_in bench.old }
+    ensures { IsBench O.seen_in bench.new }
+{
+    match shown_of(alloc, core, bench, table, by) {
         Ok(shown) => Ok(shown),
-        Err(_why) => shown_of(alloc, core, table, by),
+        Err(_why) => shown_of(alloc, core, bench, table, by),
     }
 }
 
@@ -81,21 +94,25 @@ fn is_told_at_last(alloc: Global, reply: &Reply, want: Want) -> Result<bool, Unm
 
 // Whether a command is told what it is to be told. One that was told of no memory must have changed
 // nothing, and is sent once more.
-fn is_served(
+fn is_served<O: Operator>(
     alloc: Global,
     core: &mut Core,
+    bench: &mut BenchOf<O>,
     table: &TenantTable,
     call: &Call,
-) -> Result<bool, Unmade> {
+) -> Result<bool, Unmade>
+    requires { IsBench O.seen_in bench.old }
+    ensures { IsBench O.seen_in bench.new }
+{
     let (by, say, told, _) = *call;
     let by = table.find(by).ok_or(Unmade::Wrong)?;
-    let before = shown_at_last(alloc, core, table, by)?;
-    let reply = serve(alloc, core, by, command_at_last(alloc, say)?);
+    let before = shown_at_last(alloc, core, bench, table, by)?;
+    let reply = serve(alloc, core, bench, by, command_at_last(alloc, say)?);
     let Reply::Refused(Refusal::NoMemory) = &reply else {
         return is_told_at_last(alloc, &reply, told);
     };
-    let after = shown_of(alloc, core, table, by)?;
-    let again = serve(alloc, core, by, command(alloc, say)?);
+    let after = shown_of(alloc, core, bench, table, by)?;
+    let again = serve(alloc, core, bench, by, command(alloc, say)?);
     Ok(
         before.held == after.held
             && is_same_reply(&before.list, &after.list)
@@ -103,11 +120,21 @@ fn is_served(
     )
 }
 
+// The same with a bench of its own.
+fn is_served_alone(
+    alloc: Global,
+    core: &mut Core,
+    table: &TenantTable,
+    call: &Call,
+) -> Result<bool, Unmade> {
+    is_served(alloc, core, &mut plain_bench(alloc), table, call)
+}
+
 fn are_all_served(alloc: Global, script: &Script) -> Result<bool, Unmade> {
     let table = table_at_last(alloc, script)?;
     let mut core = core_at_last(alloc, script)?;
     for call in script.calls {
-        if !is_served(alloc, &mut core, &table, call)? {
+        if !is_served_alone(alloc, &mut core, &table, call)? {
             return Ok(false);
         }
     }
@@ -143,10 +170,18 @@ fn commands(
     Ok(commands)
 }
 
+fn run_alone(
+    alloc: Global,
+    table: TenantTable,
+    commands: Vec<(TenantId, Command)>,
+) -> Result<Vec<Reply>, AllocError> {
+    run(alloc, table, commands, &mut plain_bench(alloc))
+}
+
 fn replies(alloc: Global, script: &Script, without: Option<usize>) -> Result<Vec<Reply>, Unmade> {
     let table = table_of(alloc, script)?;
     let commands = commands(alloc, &table, script, without)?;
-    Ok(run(alloc, table, commands)?)
+    Ok(run_alone(alloc, table, commands)?)
 }
 
 // The same, once more where the run itself had no memory.

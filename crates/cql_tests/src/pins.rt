@@ -105,10 +105,7 @@ fn is_alone(plan: &Plan, block: &Branch) -> bool
     requires { block.now ≡ whole }
     ensures { IsTrue result → IsWhole plan.now }
 {
-    plan.inputs().len() == 1
-        && plan.first().is_same(block)
-        && plan.second().is_none()
-        && plan.set_op().is_none()
+    plan.inputs().len() == 1 && plan.first().is_same(block) && plan.combined().is_none()
 }
 
 fn input(plan: &Plan) -> &Input

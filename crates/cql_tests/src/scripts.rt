@@ -300,6 +300,72 @@ const OVERRUN: &[Call] = &[
     ("a", Say::Drop("q"), Want::Done, 0),
 ];
 
+// Six inputs of one stream, three of them by parts: two joins and a set operation.
+const SIX_INPUTS: &[Call] = &[
+    ("a", Say::Stream("s"), Want::Done, 0),
+    (
+        "a",
+        Say::Query(
+            "q",
+            "Rstream(Select Count(*) From s [Partition By v Rows 1] a, s [Partition By v Rows 1] b, \
+             s [Now] c Union All Select Count(*) From s [Partition By v Rows 2] a, s [Rows 2] b, \
+             s [Range 3] c)",
+        ),
+        Want::Base(0),
+        0,
+    ),
+    ("a", Say::Put("s", 1, 1), Want::Done, 1),
+    ("a", Say::Put("s", 2, 2), Want::Done, 2),
+    ("a", Say::Beat("s", 3), Want::Done, 2),
+    (
+        "a",
+        Say::Fetch("q"),
+        Want::Blocks(
+            &[
+                (0, 0, Numbers::Rows(&[0, 0])),
+                (1, 1, Numbers::Rows(&[1, 1])),
+                (2, 2, Numbers::Rows(&[4, 8])),
+                (3, 3, Numbers::Rows(&[0, 8])),
+            ],
+            4,
+        ),
+        2,
+    ),
+    ("a", Say::Ack("q", 3), Want::Done, 2),
+    (
+        "a",
+        Say::Fetch("q"),
+        Want::Blocks(&[(3, 3, Numbers::Rows(&[0, 8]))], 4),
+        2,
+    ),
+    ("a", Say::Drop("q"), Want::Done, 0),
+];
+
+// A join, groups, DISTINCT and a set operation, in one query.
+const OPERATORS: &[Call] = &[
+    ("a", Say::Stream("s"), Want::Done, 0),
+    (
+        "a",
+        Say::Query(
+            "q",
+            "Rstream(Select Distinct v From s [Rows 3] Except All Select Max(x.v) From \
+             s [Rows 1] x, s [Rows 1] y Where x.v = y.v Group By x.v)",
+        ),
+        Want::Base(0),
+        0,
+    ),
+    ("a", Say::Put("s", 1, 1), Want::Done, 1),
+    ("a", Say::Put("s", 2, 1), Want::Done, 2),
+    ("a", Say::Put("s", 3, 2), Want::Done, 3),
+    ("a", Say::Beat("s", 3), Want::Done, 3),
+    (
+        "a",
+        Say::Fetch("q"),
+        Want::Blocks(&[(3, 3, Numbers::Rows(&[1]))], 4),
+        3,
+    ),
+];
+
 /// Commands in order, under a quota of rows.
 #[derive(Clone, Copy)]
 pub(crate) struct Script {
@@ -333,6 +399,16 @@ const SCRIPTS: &[Script] = &[
         what: "an overrun",
         hold: 2,
         calls: OVERRUN,
+    },
+    Script {
+        what: "six inputs",
+        hold: 100,
+        calls: SIX_INPUTS,
+    },
+    Script {
+        what: "every operator",
+        hold: 100,
+        calls: OPERATORS,
     },
 ];
 

@@ -1,29 +1,46 @@
 // How many rows a stream holds as its queries go on, and are dropped.
+ghost use Rattle.cql_ops.specs.Bench.{IsBench};
+
 use crate::scripts::{Call, Script, command, is_told, scripts};
 use crate::tenants::{Unmade, table_with};
-use cql_core::{Core, TenantTable, serve};
+use cql_core::{BenchOf, Core, Operator, TenantTable, serve};
+use cql_ops::plain_bench;
 use std::alloc::Global;
 use std::test::Fail;
 
 // Whether a command is told what it is to be told, and so many rows are held after it.
-fn is_right(
+fn is_right<O: Operator>(
+    alloc: Global,
+    core: &mut Core,
+    bench: &mut BenchOf<O>,
+    table: &TenantTable,
+    call: &Call,
+) -> Result<bool, Unmade>
+    requires { IsBench O.seen_in bench.old }
+    ensures { IsBench O.seen_in bench.new }
+{
+    let (by, say, told, held) = *call;
+    let by = table.find(by).ok_or(Unmade::Wrong)?;
+    let owner = table.find("a").ok_or(Unmade::Wrong)?;
+    let reply = serve(alloc, core, bench, by, command(alloc, say)?);
+    Ok(is_told(alloc, &reply, told)? && core.rows_held(owner, "s") == Some(held))
+}
+
+// The same with a bench of its own.
+fn is_right_alone(
     alloc: Global,
     core: &mut Core,
     table: &TenantTable,
     call: &Call,
 ) -> Result<bool, Unmade> {
-    let (by, say, told, held) = *call;
-    let by = table.find(by).ok_or(Unmade::Wrong)?;
-    let owner = table.find("a").ok_or(Unmade::Wrong)?;
-    let reply = serve(alloc, core, by, command(alloc, say)?);
-    Ok(is_told(alloc, &reply, told)? && core.rows_held(owner, "s") == Some(held))
+    is_right(alloc, core, &mut plain_bench(alloc), table, call)
 }
 
 fn are_right(alloc: Global, script: &Script) -> Result<bool, Unmade> {
     let table = table_with(alloc, &["a", "b"], script.hold)?;
     let mut core = Core::new(alloc, table_with(alloc, &["a", "b"], script.hold)?)?;
     for call in script.calls {
-        if !is_right(alloc, &mut core, &table, call)? {
+        if !is_right_alone(alloc, &mut core, &table, call)? {
             return Ok(false);
         }
     }

@@ -40,8 +40,8 @@ fn shape_of(branch: &Branch) -> Option<&Shape> {
 }
 
 fn set_op_of(plan: &Plan) -> Option<&SetOp> {
-    match plan.set_op() {
-        Some(Node::SetOp(op)) => Some(op),
+    match &plan.combined()?.set_op {
+        Node::SetOp(op) => Some(op),
         _ => None,
     }
 }
@@ -117,7 +117,7 @@ fn inputs_of_a_join(rt: HostRuntime) -> Result<(), Fail> {
 fn values_of_a_join(rt: HostRuntime) -> Result<(), Fail> {
     let a = rt.alloc();
     let plan = plan_of(a, JOINED)?;
-    assert!(rt; plan.second().is_none() && plan.output() == OutputKind::Istream);
+    assert!(rt; plan.combined().is_none() && plan.output() == OutputKind::Istream);
     assert!(rt; plan.first().join.kind() == OperatorKind::Join);
     assert_eq!(rt; first_value(a, &plan, 41)?, Some(Value::Number(42)));
     assert!(rt; is_met(a, &plan, 7)?);
@@ -142,7 +142,7 @@ fn parts_of_two_blocks(rt: HostRuntime) -> Result<(), Fail> {
     assert!(rt; parts_by(&parted.window, &[1, 0], 4));
     assert!(rt; shape_of(plan.first()).is_some_and(sums_by_first));
     assert!(rt; matches!(&plan.first().distinct, Some(Node::Distinct(_))));
-    let second = plan.second().and_then(shape_of);
+    let second = plan.combined().and_then(|both| shape_of(&both.branch));
     assert!(rt; second.is_some_and(|shape| shape.items.len() == 2 && shape.groups.is_empty()));
     assert!(rt; set_op_of(&plan).is_some_and(|op| op.kind == SetOperator::ExceptAll));
     assert!(rt; set_op_of(&plan).is_some_and(|op| op.columns.as_slice() == TYPES.as_slice()));

@@ -8,7 +8,7 @@ ghost use Rattle.cql_window.specs.Pin.{HasColumns};
 ghost use Rattle.cql_window.specs.Places.{AreUpTo};
 ghost use Rattle.cql_window.specs.Queues.{AreQueued};
 ghost use Rattle.cql_window.specs.Window.{content, last_of_parts};
-ghost use Rattle.cql_window.specs.Walk.{IsExchange};
+ghost use Rattle.cql_window.specs.Walk.{IsExchange, IsSegment};
 
 use crate::amount::Count;
 use crate::pin::WindowPin;
@@ -81,6 +81,7 @@ impl<'a> Walk<'a> {
         ensures cursor { IfOk result (λ r. r.0.cursor ≡ cursor) }
         ensures held { IfOk result (λ r. r.0.held ≡ content self.entry.pin.window cursor self.entry.pin.content self.entry.pin.unseen) }
         ensures moved { IfOk result (λ r. IsExchange self.entry.held r.1.came.items r.1.left.items r.0.held) }
+        ensures came { IfOk result (λ r. IsSegment (self.entry.pin.content ++ self.entry.pin.unseen) r.1.came.items) }
     {
         let Walk {
             pin,
@@ -130,7 +131,8 @@ fn slide(alloc: Global, pin: &WindowPin, from: Places, to: Places) -> Result<Mov
     requires order { from.low ≤ from.high }
     requires order_then { to.low ≤ to.high }
     requires within { to.high ≤ length pin.now.content + length pin.now.unseen }
-    ensures { IfOk result (λ m. IsExchange (between from.low from.high (pin.now.content ++ pin.now.unseen)) m.came.items m.left.items (between to.low to.high (pin.now.content ++ pin.now.unseen))) }
+    ensures came { IfOk result (λ m. IsSegment (pin.now.content ++ pin.now.unseen) m.came.items) }
+    ensures moved { IfOk result (λ m. IsExchange (between from.low from.high (pin.now.content ++ pin.now.unseen)) m.came.items m.left.items (between to.low to.high (pin.now.content ++ pin.now.unseen))) }
 {
     let came = rows_between(alloc, pin, to.low.max(from.high), to.high)?;
     let left = rows_between(alloc, pin, from.low, to.low.min(from.high))?;
@@ -174,6 +176,7 @@ fn come(
     requires order { from ≤ to }
     requires within { to ≤ length pin.now.content + length pin.now.unseen }
     ensures queued { OnOk result (AreQueued columns.now count (take to (pin.now.content ++ pin.now.unseen)) queues.new) }
+    ensures came { IfOk result (λ m. IsSegment (pin.now.content ++ pin.now.unseen) m.came.items) }
     ensures moved { IfOk result (λ m. IsExchange (last_of_parts columns.now count (take from (pin.now.content ++ pin.now.unseen))) m.came.items m.left.items (last_of_parts columns.now count (take to (pin.now.content ++ pin.now.unseen)))) }
 {
     let (first, second) = segment(pin.content(), pin.unseen(), from, to);

@@ -25,7 +25,6 @@ others r.TypeMismatch other = refl
 others r.TooManyQueries other = refl
 others r.QueryExists other = refl
 others r.UnknownQuery other = refl
-others r.NotYet other = refl
 others r.Overrun other = refl
 others r.Ahead other = refl
 others r.Behind other = refl

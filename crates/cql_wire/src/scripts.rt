@@ -1,6 +1,7 @@
 //! Answers each line of a reader on a writer.
 ghost use Rattle.std.specs.Prelude.{◌≡◌, ◌≢◌, ◌⊎◌, ◌||◌, ◌+◌, ◌^◌, ◌<◌, true, false, [], is_err, Err, OnOk};
 ghost use Rattle.cql_meaning.specs.Machine.{opening};
+ghost use Rattle.cql_ops.specs.Bench.{IsBench};
 ghost use Rattle.cql_wire.specs.Advance.{Advances};
 ghost use Rattle.cql_wire.specs.Asked.{asked_of};
 ghost use Rattle.cql_wire.specs.Next.{text_of};
@@ -16,7 +17,7 @@ use crate::gathered::Gathered;
 use crate::lines::{Line, Lines};
 use crate::watched::{ReadFault, Watched, WriteFault};
 use cql_core::law::{fetch_law, reply_law};
-use cql_core::{Core, TenantTable, serve};
+use cql_core::{BenchOf, Core, Operator, TenantTable, serve};
 use std::alloc::{AllocError, Global};
 use std::io::{Read, Write};
 use thiserror::Error;
@@ -73,14 +74,17 @@ pub fn output_law()
 {}
 
 // Answers one line: serves its command, and gathers the reply or the fault.
-fn answer_line<W: Write>(
+fn answer_line<W: Write, O: Operator>(
     alloc: Global,
     table: &TenantTable,
     core: &mut Core,
+    bench: &mut BenchOf<O>,
     gathered: &mut Gathered,
     writer: &mut Watched<W>,
     line: Line<'_>,
 ) -> Result<(), WriteFault>
+    requires { IsBench O.seen_in bench.old }
+    ensures bench { IsBench O.seen_in bench.new }
     ensures serves { ServesLine core.old (asked_of table.now (text_of line.entry)) core.new
         (W.contents (inner_of writer.old)) (W.contents (inner_of writer.new)) gathered.old gathered.new result }
     ensures failed { has_failed writer.new ≡ (has_failed writer.old || is_err result) }
@@ -88,7 +92,7 @@ fn answer_line<W: Write>(
     fetch_law();
     match call_of(alloc, table, line) {
         Ok((tenant, command)) => {
-            let reply = serve(alloc, core, tenant, command);
+            let reply = serve(alloc, core, bench, tenant, command);
             gathered.put_reply(alloc, writer, &reply)
         }
         Err(fault) => gathered.put_fault(writer, &fault),
@@ -120,11 +124,12 @@ fn advance<R: Read, W: Write>(
 }
 
 // Answers the lines of a reader, of which none was read yet, with a core as it opens.
-fn answer_lines<R: Read, W: Write>(
+fn answer_lines<R: Read, W: Write, O: Operator>(
     alloc: Global,
     table: &TenantTable,
     lines: &mut Lines,
     core: &mut Core,
+    bench: &mut BenchOf<O>,
     gathered: &mut Gathered,
     reader: &mut Watched<R>,
     writer: &mut Watched<W>,
@@ -133,6 +138,8 @@ fn answer_lines<R: Read, W: Write>(
     requires begins { (lines.old.ended ≡ false) × (lines.old.failed ≡ false) }
     requires opens { core.old ≡ opening table.now }
     requires nothing { gathered.old ≡ [] }
+    requires bench { IsBench O.seen_in bench.old }
+    ensures bench { IsBench O.seen_in bench.new }
     ensures answers { Answers table.now (R.remaining (inner_of reader.old)) (R.remaining (inner_of reader.new))
         (W.contents (inner_of writer.old)) (W.contents (inner_of writer.new)) (has_failed writer.new) result }
     ensures cause { result ≡ Err ScriptError.Read → (has_failed reader.new ≡ true) ⊎ (lines.new.reads_left ≡ 0) }
@@ -142,7 +149,7 @@ fn answer_lines<R: Read, W: Write>(
 {
     reply_law();
     while advance(lines, gathered, reader, writer)? {
-        answer_line(alloc, table, core, gathered, writer, lines.line())?;
+        answer_line(alloc, table, core, bench, gathered, writer, lines.line())?;
     }
     Ok(())
 }
@@ -153,13 +160,16 @@ fn answer_lines<R: Read, W: Write>(
 /// counts as not sent.
 ///
 /// Replies are gathered, up to 65,536 bytes. All that are gathered are written before a read,
-/// which may wait, and at the end.
-pub fn script<R: Read, W: Write>(
+/// which may wait, and at the end. Queries are evaluated by the bench that is handed in.
+pub fn script<R: Read, W: Write, O: Operator>(
     alloc: Global,
     reader: &mut Watched<R>,
     writer: &mut Watched<W>,
     table: TenantTable,
+    bench: &mut BenchOf<O>,
 ) -> Result<(), ScriptError>
+    requires { IsBench O.seen_in bench.old }
+    ensures bench { IsBench O.seen_in bench.new }
     ensures answers { Answers table (R.remaining (inner_of reader.old)) (R.remaining (inner_of reader.new))
         (W.contents (inner_of writer.old)) (W.contents (inner_of writer.new)) (has_failed writer.new) result }
     ensures cause { result ≡ Err ScriptError.Read → (has_failed reader.new ≡ true)
@@ -175,6 +185,7 @@ pub fn script<R: Read, W: Write>(
         &table,
         &mut lines,
         &mut core,
+        bench,
         &mut gathered,
         reader,
         writer,

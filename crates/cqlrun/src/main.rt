@@ -6,29 +6,50 @@ mod program;
 #[cfg(test)]
 mod tests;
 
+use cql_ops::{Bench, DistinctOp, Operator, PlainJoin, PlainShape, SetOperation};
 use cql_wire::Watched;
 use ending::Ending;
 use program::program;
+use std::alloc::AllocError;
 use std::process::ExitCode;
 use std::{env, io};
 
 fn main(rt: HostRuntime) -> ExitCode {
-    let (status, text) = outcome(&rt);
+    let (status, text) = match outcome(&rt) {
+        Ok(outcome) => outcome,
+        Err(AllocError) => Ending::NoMemory.outcome(),
+    };
     if !text.is_empty() {
         let _ = rt.eprintln(text);
     }
     ExitCode::from(status)
 }
 
-fn outcome(rt: &HostRuntime) -> (u8, &'static str) {
+fn outcome(rt: &HostRuntime) -> Result<(u8, &'static str), AllocError> {
     let alloc = rt.alloc();
     let Ok(args) = env::args(rt) else {
-        return Ending::Words.outcome();
+        return Ok(Ending::Words.outcome());
     };
-    let Ok(words) = args.skip(1).collect::<Vec<String>>(alloc) else {
-        return Ending::NoMemory.outcome();
+    // Operators of the caller's own may stand in the place of these.
+    let mut boxes: Vec<Box<dyn Operator + Send>> = Vec::with_capacity(alloc, 7)?;
+    boxes.push_reserved(Box::new(alloc, PlainJoin::new(alloc))?);
+    boxes.push_reserved(Box::new(alloc, PlainShape::new(alloc))?);
+    boxes.push_reserved(Box::new(alloc, DistinctOp::new(alloc))?);
+    boxes.push_reserved(Box::new(alloc, PlainJoin::new(alloc))?);
+    boxes.push_reserved(Box::new(alloc, PlainShape::new(alloc))?);
+    boxes.push_reserved(Box::new(alloc, DistinctOp::new(alloc))?);
+    boxes.push_reserved(Box::new(alloc, SetOperation::new(alloc))?);
+    let Ok(mut bench) = Bench::new(boxes) else {
+        return Ok(Ending::NoMemory.outcome());
     };
+    let words = args.skip(1).collect::<Vec<String>>(alloc)?;
     let mut reader = Watched::new(rt.reader());
     let mut writer = Watched::new(io::writer(rt));
-    program(alloc, words.as_slice(), &mut reader, &mut writer)
+    Ok(program(
+        alloc,
+        words.as_slice(),
+        &mut reader,
+        &mut writer,
+        &mut bench,
+    ))
 }

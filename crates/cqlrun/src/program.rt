@@ -1,12 +1,13 @@
 // The body of main, over any reader and writer.
 ghost use Rattle.std.specs.Prelude.{◌≡◌, ◌≢◌, ◌≤◌, ◌+◌, [], true, false, Err, IsOk, MatchResult};
+ghost use Rattle.cql_ops.specs.Bench.{IsBench};
 ghost use Rattle.cql_wire.specs.Watched.{inner_of, has_failed, calls_of};
 ghost use Rattle.cqlrun.specs.declared.ending.Ending.{Ending};
 ghost use Rattle.cqlrun.specs.Ending.{status_of, text_of};
 ghost use Rattle.cqlrun.specs.Run.{TellsTable, EndsBefore, IsRun, IsReadFault};
 
 use crate::ending::Ending;
-use cql_core::TenantTable;
+use cql_core::{BenchOf, Operator, TenantTable};
 use cql_wire::{FirstFault, ScriptError, TenantsFault, Watched, first_line, read_tenants, script};
 use std::alloc::Global;
 use std::io::{Read, Write};
@@ -35,11 +36,13 @@ fn tenants<R: Read>(alloc: Global, reader: &mut Watched<R>) -> Result<TenantTabl
 }
 
 // How a run without words ends.
-fn ending<R: Read, W: Write>(
+fn ending<R: Read, W: Write, O: Operator>(
     alloc: Global,
     reader: &mut Watched<R>,
     writer: &mut Watched<W>,
+    bench: &mut BenchOf<O>,
 ) -> Ending
+    requires bench { IsBench O.seen_in bench.old }
     requires reader { has_failed reader.old ≡ false }
     requires writer { has_failed writer.old ≡ false }
     ensures run { IsRun (R.remaining (inner_of reader.old)) (R.remaining (inner_of reader.new))
@@ -50,7 +53,7 @@ fn ending<R: Read, W: Write>(
         Ok(table) => table,
         Err(ending) => return ending,
     };
-    match script(alloc, reader, writer, table) {
+    match script(alloc, reader, writer, table, bench) {
         Ok(()) => Ending::Done,
         Err(ScriptError::Read) => Ending::Reading,
         Err(ScriptError::Write) => Ending::Writing,
@@ -62,12 +65,14 @@ fn ending<R: Read, W: Write>(
 /// bytes, then a script. Gives the status of the program and its text on standard error: 0
 /// without a text, 2 for words or a bad tenants line, 3 for a failed read, 4 for a failed write,
 /// 5 for want of memory.
-pub fn program<R: Read, W: Write>(
+pub fn program<R: Read, W: Write, O: Operator>(
     alloc: Global,
     words: &[String],
     reader: &mut Watched<R>,
     writer: &mut Watched<W>,
+    bench: &mut BenchOf<O>,
 ) -> (u8, &'static str)
+    requires bench { IsBench O.seen_in bench.old }
     requires reader { has_failed reader.old ≡ false }
     requires writer { has_failed writer.old ≡ false }
     ensures run { words.now ≡ [] → (ending : Ending) × (result.0 ≡ status_of ending) × (result.1.now ≡ text_of ending)
@@ -80,5 +85,5 @@ pub fn program<R: Read, W: Write>(
     if !words.is_empty() {
         return Ending::Words.outcome();
     }
-    ending(alloc, reader, writer).outcome()
+    ending(alloc, reader, writer, bench).outcome()
 }

@@ -4,6 +4,7 @@ ghost use Rattle.std.specs.Prelude.{◌≡◌, false};
 ghost use Rattle.cql_wire.specs.Watched.{has_failed};
 
 use crate::program::program;
+use cql_ops::plain_bench;
 use cql_out::{Block, Output};
 use cql_plan::Fault;
 use cql_value::{Items, Row, Value};
@@ -112,7 +113,13 @@ fn a_fault_at_each_read(rt: HostRuntime) -> Result<(), Fail> {
     for good_calls in 0..=whole {
         let mut reader = slow_reader(&input, good_calls);
         let mut writer = Watched::new(Vec::new(alloc));
-        let told = program(alloc, &[], &mut reader, &mut writer);
+        let told = program(
+            alloc,
+            &[],
+            &mut reader,
+            &mut writer,
+            &mut plain_bench(alloc),
+        );
         let wanted = if good_calls < whole {
             (3, "cqlrun: reading failed")
         } else {
@@ -140,7 +147,13 @@ fn a_fault_at_each_write(rt: HostRuntime) -> Result<(), Fail> {
     for good_calls in 0..200 {
         let mut reader = Watched::new(input.as_slice());
         let mut writer = narrow_writer(alloc, good_calls);
-        let told = program(alloc, &[], &mut reader, &mut writer);
+        let told = program(
+            alloc,
+            &[],
+            &mut reader,
+            &mut writer,
+            &mut plain_bench(alloc),
+        );
         let has_failed = writer.has_failed();
         let NarrowWriter { taken, calls, .. } = writer.into_inner();
         assert!(rt;
@@ -168,7 +181,13 @@ fn a_writer_that_takes_nothing(rt: HostRuntime) -> Result<(), Fail> {
     let mut reader = Watched::new(input.as_slice());
     let mut room: [u8; 14] = [0; 14];
     let mut writer = Watched::new(room.as_mut_slice());
-    let told = program(alloc, &[], &mut reader, &mut writer);
+    let told = program(
+        alloc,
+        &[],
+        &mut reader,
+        &mut writer,
+        &mut plain_bench(alloc),
+    );
     assert!(rt; told == (4, "cqlrun: writing failed"));
     assert!(rt; &room == b"{\"ok\":true}\n{\"");
     Ok(())
@@ -193,7 +212,13 @@ fn words(rt: HostRuntime) -> Result<(), Fail> {
     words.push(String::from_str(alloc, "-v")?)?;
     let mut reader = Watched::new(TENANTS.as_bytes());
     let mut writer = Watched::new(Vec::new(alloc));
-    let told = program(alloc, words.as_slice(), &mut reader, &mut writer);
+    let told = program(
+        alloc,
+        words.as_slice(),
+        &mut reader,
+        &mut writer,
+        &mut plain_bench(alloc),
+    );
     assert!(rt; told == (2, "cqlrun: takes no words"));
     assert!(rt; reader.calls() == 0);
     assert!(rt; writer.calls() == 0);
@@ -208,7 +233,13 @@ fn want_of_memory(rt: HostRuntime) -> Result<(), Fail> {
     let input = input_of_run(alloc)?;
     let mut reader = Watched::new(input.as_slice());
     let mut writer = Watched::new(Vec::new(alloc));
-    let told = program(alloc, &[], &mut reader, &mut writer);
+    let told = program(
+        alloc,
+        &[],
+        &mut reader,
+        &mut writer,
+        &mut plain_bench(alloc),
+    );
     let written = writer.into_inner();
     if told == (5, "cqlrun: no memory") {
         assert!(rt; written.is_empty());

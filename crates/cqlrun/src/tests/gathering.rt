@@ -5,6 +5,7 @@ ghost use Rattle.cql_wire.specs.Watched.{has_failed};
 use super::faulty::NarrowWriter;
 use super::{TENANTS, input_of_run, narrow_writer, push_line, replies_within, slow_reader};
 use crate::program::program;
+use cql_ops::plain_bench;
 use cql_wire::Watched;
 use std::cell::Cell;
 use std::io;
@@ -82,7 +83,13 @@ fn each_reply_before_the_next_read(rt: HostRuntime) -> Result<(), Fail> {
     let written = Cell::new(0);
     let mut reader = line_reader(&input, &written, Vec::new(alloc));
     let mut writer = counting_writer(&written);
-    let told = program(alloc, &[], &mut reader, &mut writer);
+    let told = program(
+        alloc,
+        &[],
+        &mut reader,
+        &mut writer,
+        &mut plain_bench(alloc),
+    );
     assert!(rt; told == (0, ""));
     let seen = reader.into_inner().seen;
     for (given, bytes) in &seen {
@@ -106,7 +113,13 @@ fn many_replies_in_few_writes(rt: HostRuntime) -> Result<(), Fail> {
     let written = Cell::new(0);
     let mut reader = Watched::new(input.as_slice());
     let mut writer = counting_writer(&written);
-    let told = program(alloc, &[], &mut reader, &mut writer);
+    let told = program(
+        alloc,
+        &[],
+        &mut reader,
+        &mut writer,
+        &mut plain_bench(alloc),
+    );
     assert!(rt; told == (0, ""));
     // {"name":"BadCommand","refused":11} and a line feed, for each line
     assert!(rt; written.get() == 350_000);
@@ -124,7 +137,13 @@ fn a_fault_at_each_write_between_reads(rt: HostRuntime) -> Result<(), Fail> {
     for good_calls in 0..200 {
         let mut reader = slow_reader(&input, usize::MAX);
         let mut writer = narrow_writer(alloc, good_calls);
-        let told = program(alloc, &[], &mut reader, &mut writer);
+        let told = program(
+            alloc,
+            &[],
+            &mut reader,
+            &mut writer,
+            &mut plain_bench(alloc),
+        );
         let has_failed = writer.has_failed();
         let NarrowWriter { taken, calls, .. } = writer.into_inner();
         assert!(rt;

@@ -15,6 +15,7 @@ loop-core-init g c = record {
   reader = refl;
   writer = refl;
   counts = counts_none _ _;
+  bench = c.requires.bench;
 }
 
 pub loop-core-preserved : goal.loop-core-preserved
@@ -24,6 +25,7 @@ loop-core-preserved g c = record {
   reader = c.in_ok-advance.ensures.steady.0 ∙ c.loop-core.invariant.reader;
   writer = c.in_ok-answer_line.ensures.failed ∙ or-false _ ∙ c.in_ok-advance.ensures.steady.1 ∙ c.loop-core.invariant.writer;
   counts = counts_more _ _ _ _ _ _ c.loop-core.invariant.counts c.in_ok-advance.ensures.counts;
+  bench = c.in_ok-answer_line.ensures.bench;
 }
 
 pub returns-in_err-answer_line-clause-answers : goal.returns-in_err-answer_line-clause-answers

@@ -1,5 +1,6 @@
 -- The lines so far came of the input, and of their replies the front was written that is not gathered.
 use Rattle.std.proofs.Common.{◌≡◌, false}
+use Rattle.cql_ops.specs.Bench.{IsBench}
 use Rattle.cql_wire.specs.Watched.{inner_of, has_failed, calls_of}
 use Rattle.cql_wire.specs.Reads.{CountsReads}
 use Rattle.cql_wire.specs.Reading.{coming, work}
@@ -14,6 +15,7 @@ invariant-loop-core g l = record {
   reader : has_failed l.reader ≡ has_failed l.initial.reader;
   writer : has_failed l.writer ≡ has_failed l.initial.writer;
   counts : CountsReads l.initial.lines.reads_left l.lines.reads_left (calls_of l.initial.reader) (calls_of l.reader);
+  bench : IsBench g.O.Operator.seen_in l.bench;
 }
 
 abbrev pub decreases-loop-core : goal.decreases-loop-core

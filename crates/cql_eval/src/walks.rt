@@ -1,0 +1,125 @@
+// Walks over the windows of a pin, whose rows a bench is told.
+ghost use Rattle.std.specs.Prelude.{◌≡◌, ◌≤◌, ◌<◌, ◌++◌, [], length, map, slice_set, IfOk, OnOk};
+ghost use Rattle.cql_bag.specs.Bag.{bag_of};
+ghost use Rattle.cql_bag.specs.Changes.{changed_by, CanChangeBy};
+ghost use Rattle.cql_plan.specs.Ports.{ports};
+ghost use Rattle.cql_algebra.specs.Ports.{port_of};
+ghost use Rattle.cql_ops.specs.Bench.{IsBench, bench_seen};
+ghost use Rattle.cql_ops.specs.Seen.{columns_at};
+ghost use Rattle.cql_ops.specs.Running.{RunsPlan, contents_of, told_of};
+ghost use Rattle.cql_window.specs.Walk.{IsExchange, IsSegment};
+ghost use Rattle.cql_eval.specs.Pin.{AreOf};
+ghost use Rattle.cql_eval.specs.Relation.{bags_at};
+ghost use Rattle.cql_eval.specs.Shown.{rows_of, changes_of, IsWalk, HasReached, fresh, bags_held, IsReady, HasPushed};
+
+use crate::pin::Pin;
+use cql_bag::Change;
+use cql_bag::law::{put_all_counts, same_counts, take_counts};
+use cql_ops::{BenchOf, Operator};
+use cql_value::Timed;
+use cql_window::{Moved, Walk};
+use std::alloc::{AllocError, Global};
+
+// A walk over each window, before the first row.
+fn new_walks<'a>(alloc: Global, pin: &'a Pin) -> Result<Vec<Walk<'a>>, AllocError>
+    ensures { IfOk result (λ v. v.items ≡ map fresh pin.now.windows) }
+{
+    let mut walks = Vec::new(alloc);
+    for window in pin.windows() {
+        walks.push(Walk::new(alloc, window))?;
+    }
+    Ok(walks)
+}
+
+/// The bench started anew over walks before the first row.
+pub(crate) fn start<'a, O: Operator>(
+    alloc: Global,
+    bench: &mut BenchOf<O>,
+    pin: &'a Pin,
+) -> Result<Vec<Walk<'a>>, AllocError>
+    requires { IsBench O.seen_in bench.old }
+    ensures bench { IsBench O.seen_in bench.new }
+    ensures ready { IfOk result (λ v. IsReady pin.now 0 v.items (bench_seen O.seen_in bench.new)) }
+    ensures told { OnOk result (told_of pin.now.plan (bench_seen O.seen_in bench.new) ≡ []) }
+{
+    let _ = pin.windows();
+    bench.start(pin.plan(), pin.limit())?;
+    new_walks(alloc, pin)
+}
+
+// Tells the bench that rows came into one window, or left it.
+fn push_rows<O: Operator>(
+    alloc: Global,
+    bench: &mut BenchOf<O>,
+    pin: &Pin,
+    input: usize,
+    plus: bool,
+    rows: &[Timed],
+) -> Result<(), AllocError>
+    requires bench { IsBench O.seen_in bench.old }
+    requires runs { RunsPlan pin.now.plan pin.now.limit (bench_seen O.seen_in bench.old) }
+    requires input { input < length (ports pin.now.plan) }
+    requires within { input < length (contents_of pin.now.plan (bench_seen O.seen_in bench.old)) }
+    requires columns { AreOf (columns_at (ports pin.now.plan) input) rows.now }
+    requires there { CanChangeBy (changes_of plus rows.now) (port_of (contents_of pin.now.plan (bench_seen O.seen_in bench.old)) input) }
+    ensures bench { IsBench O.seen_in bench.new }
+    ensures pushed { OnOk result (HasPushed pin.now input (changed_by (changes_of plus rows.now) (port_of (contents_of pin.now.plan (bench_seen O.seen_in bench.old)) input)) (bench_seen O.seen_in bench.old) (bench_seen O.seen_in bench.new)) }
+{
+    for element in rows {
+        let row = element.row().try_clone(alloc)?;
+        bench.push(pin.plan(), pin.limit(), input, &Change { plus, row })?;
+    }
+    Ok(())
+}
+
+// Goes on to a cursor with the walk over one window.
+fn advance_one<'a, O: Operator>(
+    alloc: Global,
+    bench: &mut BenchOf<O>,
+    pin: &Pin,
+    input: usize,
+    walk: Walk<'a>,
+    cursor: u64,
+) -> Result<Walk<'a>, AllocError>
+    requires bench { IsBench O.seen_in bench.old }
+    requires runs { RunsPlan pin.now.plan pin.now.limit (bench_seen O.seen_in bench.old) }
+    requires input { input < length (ports pin.now.plan) }
+    requires within { input < length (contents_of pin.now.plan (bench_seen O.seen_in bench.old)) }
+    requires walk { IsWalk cursor (columns_at (ports pin.now.plan) input) walk.pin walk }
+    requires held { port_of (contents_of pin.now.plan (bench_seen O.seen_in bench.old)) input ≡ bag_of (rows_of walk.held) }
+    ensures bench { IsBench O.seen_in bench.new }
+    ensures walk { IfOk result (λ w. IsWalk cursor (columns_at (ports pin.now.plan) input) walk.entry.pin w) }
+    ensures reached { IfOk result (HasReached cursor) }
+    ensures pushed { IfOk result (λ w. HasPushed pin.now input (bag_of (rows_of w.held)) (bench_seen O.seen_in bench.old) (bench_seen O.seen_in bench.new)) }
+{
+    same_counts();
+    put_all_counts();
+    take_counts();
+    let (walk, moved) = walk.advance(alloc, cursor)?;
+    push_rows(alloc, bench, pin, input, true, &moved.came)?;
+    push_rows(alloc, bench, pin, input, false, &moved.left)?;
+    Ok(walk)
+}
+
+/// Goes on to a cursor with every walk: the bench's inputs then hold what the windows do.
+pub(crate) fn advance<'a, O: Operator>(
+    alloc: Global,
+    bench: &mut BenchOf<O>,
+    pin: &Pin,
+    walks: Vec<Walk<'a>>,
+    cursor: u64,
+) -> Result<Vec<Walk<'a>>, AllocError>
+    requires bench { IsBench O.seen_in bench.old }
+    requires ready { IsReady pin.now cursor walks.items (bench_seen O.seen_in bench.old) }
+    ensures bench { IsBench O.seen_in bench.new }
+    ensures ready { IfOk result (λ v. IsReady pin.now cursor v.items (bench_seen O.seen_in bench.new)) }
+    ensures bags { IfOk result (λ v. bags_held v.items ≡ bags_at cursor pin.now.windows) }
+    ensures told { OnOk result (told_of pin.now.plan (bench_seen O.seen_in bench.new) ≡ told_of pin.now.plan (bench_seen O.seen_in bench.old)) }
+{
+    let mut reached = Vec::new(alloc);
+    for walk in walks {
+        let walk = advance_one(alloc, bench, pin, reached.len(), walk, cursor)?;
+        reached.push(walk)?;
+    }
+    Ok(reached)
+}

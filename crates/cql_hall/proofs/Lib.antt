@@ -1,0 +1,6 @@
+pub mod Goes
+pub mod Crosses
+pub mod Places
+pub mod Claiming
+pub mod Receipts
+pub mod Calls

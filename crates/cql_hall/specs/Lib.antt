@@ -1,0 +1,4 @@
+pub mod Entering
+pub mod Audit
+pub mod Tracks
+pub mod Laws

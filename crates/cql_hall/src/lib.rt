@@ -1,0 +1,21 @@
+//! The hall: many callers, and one core under a lock. A call holds the lock for one step and its
+//! entry in the journal; what a fetch pins is answered outside it.
+#![tactic(auto)]
+
+mod audits;
+mod book;
+mod claims;
+mod gate;
+mod journal;
+pub mod laws;
+mod lobby;
+mod replaying;
+
+pub use audits::{AuditError, audit};
+pub use book::{Book, Entered};
+pub use gate::{Gate, OpenGate, Point};
+pub use journal::{Bare, Entry, Journal, Kept};
+pub use lobby::{Ended, Hall, Pending, Receipt, Seat, SeatsMissing};
+
+#[cfg(test)]
+mod tests;

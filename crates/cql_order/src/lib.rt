@@ -3,8 +3,6 @@
 
 mod clock;
 mod least;
-#[cfg(test)]
-mod tests;
 
 pub use clock::{Clock, ClockError};
 pub use least::limit;

@@ -5,8 +5,6 @@ mod by_kind;
 pub mod law;
 mod relation;
 mod runs;
-#[cfg(test)]
-mod tests;
 mod told;
 
 pub use by_kind::output;

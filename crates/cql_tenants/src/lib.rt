@@ -12,8 +12,6 @@ mod same;
 pub mod shelf;
 mod stream;
 mod tenants;
-#[cfg(test)]
-mod tests;
 
 pub use directory::Directory;
 pub use readable::{Found, OwnStream, ReadStream, Readable};

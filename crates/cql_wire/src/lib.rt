@@ -6,7 +6,7 @@ mod asked;
 pub mod command;
 pub mod fault;
 pub mod first;
-mod gathered;
+pub mod gathered;
 pub mod lines;
 pub mod reply;
 pub mod scripts;
@@ -17,10 +17,11 @@ pub mod watched;
 pub use command::read_command;
 pub use fault::LineFault;
 pub use first::{FirstFault, first_line};
+pub use gathered::Gathered;
 pub use lines::{Line, Lines};
 pub use reply::{
     write_base, write_blocks, write_done, write_fault, write_listing, write_refusal, write_reply,
 };
-pub use scripts::{ScriptError, script};
+pub use scripts::{ScriptError, advance, script};
 pub use tenants::{TenantsFault, read_tenants};
 pub use watched::{ReadFault, Watched, WriteFault};

@@ -99,8 +99,10 @@ fn answer_line<W: Write, O: Operator>(
     }
 }
 
-// Goes to the next line. Before a read, which may wait, all that is gathered is written.
-fn advance<R: Read, W: Write>(
+/// Goes to the next line that isn't blank: false where there is none. Before a read, which may
+/// wait, and where there is no line, all that is gathered is written. `Read` where the reader has
+/// failed or no read is left, and `Write` where the writer has failed; never `NoMemory`.
+pub fn advance<R: Read, W: Write>(
     lines: &mut Lines,
     gathered: &mut Gathered,
     reader: &mut Watched<R>,

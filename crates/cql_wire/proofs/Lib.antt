@@ -1,6 +1,7 @@
 mod Advancing
 mod Answering
 mod Columns
+mod Comparing
 mod Counting
 mod Finding
 mod Firsts

@@ -7,7 +7,7 @@ use Rattle.cql_core.specs.Running.{Serves}
 use Rattle.cql_meaning.specs.Law.{IsFetchLaw}
 use Rattle.cql_core.specs.Language.{cql}
 use Rattle.cql_wire.specs.declared.fault.LineFault.{LineFault}
-use Rattle.cql_wire.specs.declared.fault.LineFault.TheVariants.{BadLine, BadCommand, BadKey, UnknownTenant, NoMemory}
+use Rattle.cql_wire.specs.declared.fault.LineFault.TheVariants.{BadLine, BadCommand, BadKey, WrongKey, UnknownTenant, NoMemory}
 use Rattle.cql_wire.specs.declared.watched.WriteFault.{WriteFault}
 use Rattle.cql_wire.specs.Asked.{Asked}
 use Rattle.cql_wire.specs.Fault.{Means}
@@ -53,6 +53,7 @@ fault_told : (old : State) (asked : Asked) (fault : LineFault) → Means asked (
 fault_told old asked BadLine means = refused old asked BadLine means
 fault_told old asked BadCommand means = refused old asked BadCommand means
 fault_told old asked BadKey means = refused old asked BadKey means
+fault_told old asked WrongKey means = refused old asked WrongKey means
 fault_told old asked UnknownTenant means = refused old asked UnknownTenant means
 fault_told old asked NoMemory means = without_memory old asked
 

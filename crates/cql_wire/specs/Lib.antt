@@ -6,6 +6,7 @@ pub mod First
 pub mod Gathered
 pub mod Held
 pub mod Line
+pub mod Login
 pub mod Next
 pub mod Output
 pub mod Reading

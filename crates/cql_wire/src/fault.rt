@@ -1,11 +1,11 @@
-//! Why a line gives no command.
+//! Why a line gives no command, or no login.
 ghost use Rattle.std.specs.Prelude.{◌≡◌};
 ghost use Rattle.cql_wire.specs.Fault.{number_of, name_of};
 
 use std::alloc::{AllocError, AllocFailed};
 use thiserror::Error;
 
-/// Why a line gives no command. Nothing is changed by such a line.
+/// Why a line gives no command, or no login. Nothing is changed by such a line.
 #[derive(Clone, Copy, Debug, PartialEq, Eq, Error)]
 pub enum LineFault {
     /// The line is no JSON object, or it is too long (10).
@@ -17,6 +17,9 @@ pub enum LineFault {
     /// Another key is missing, unknown or of another kind (12).
     #[error("bad key")]
     BadKey,
+    /// The first line of a session isn't the login of a tenant of the table (13).
+    #[error("wrong key")]
+    WrongKey,
     /// The tenant that it names isn't in the table (31).
     #[error("unknown tenant")]
     UnknownTenant,
@@ -54,6 +57,7 @@ impl LineFault {
             LineFault::BadLine => 10,
             LineFault::BadCommand => 11,
             LineFault::BadKey => 12,
+            LineFault::WrongKey => 13,
             LineFault::UnknownTenant => 31,
             LineFault::NoMemory => 70,
         }
@@ -67,6 +71,7 @@ impl LineFault {
             LineFault::BadLine => "BadLine",
             LineFault::BadCommand => "BadCommand",
             LineFault::BadKey => "BadKey",
+            LineFault::WrongKey => "WrongKey",
             LineFault::UnknownTenant => "UnknownTenant",
             LineFault::NoMemory => "NoMemory",
         }

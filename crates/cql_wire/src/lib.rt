@@ -1,5 +1,5 @@
-//! Lines of bytes in, lines of bytes out: commands, replies, scripts, and the faults of readers and
-//! writers.
+//! Lines of bytes in, lines of bytes out: commands, logins, replies, scripts, and the faults of
+//! readers and writers.
 #![tactic(auto)]
 
 mod asked;
@@ -8,6 +8,7 @@ pub mod fault;
 pub mod first;
 pub mod gathered;
 pub mod lines;
+pub mod login;
 pub mod reply;
 pub mod scripts;
 pub mod tenants;
@@ -19,6 +20,7 @@ pub use fault::LineFault;
 pub use first::{FirstFault, first_line};
 pub use gathered::Gathered;
 pub use lines::{Line, Lines};
+pub use login::read_login;
 pub use reply::{
     write_base, write_blocks, write_done, write_fault, write_listing, write_refusal, write_reply,
 };

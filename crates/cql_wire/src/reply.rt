@@ -235,7 +235,8 @@ pub fn write_refusal<W: Write>(writer: &mut Watched<W>, refusal: Refusal) -> Res
     }
 }
 
-/// Writes the line of a line that gives no command (10, 11, 12, 31 or 70). Takes no memory.
+/// Writes the line of a line that gives no command or no login (10 to 13, 31 or 70). Takes no
+/// memory.
 pub fn write_fault<W: Write>(writer: &mut Watched<W>, fault: &LineFault) -> Result<(), WriteFault>
     ensures ok { OnOk result (Appends (W.contents (inner_of writer.old)) (W.contents (inner_of writer.new)) (fault_line fault.now)) }
     ensures err { OnErr result (Grows (W.contents (inner_of writer.old)) (W.contents (inner_of writer.new)) (fault_line fault.now)) }

@@ -1,0 +1,87 @@
+// The login of a session.
+ghost use Rattle.std.specs.Prelude.{◌≡◌, [], false, IfOk, IfSome, IfNone};
+ghost use Rattle.cql_session.specs.Asked.{logged_in};
+ghost use Rattle.cql_wire.specs.Login.{LogsIn};
+ghost use Rattle.cql_wire.specs.Next.{text_of};
+
+use cql_core::{Reply, TenantId, TenantTable};
+use cql_wire::{Gathered, Line, LineFault, Lines, ScriptError, Watched, advance, read_login};
+use std::alloc::Global;
+use std::io::{Read, Write};
+
+/// A session of which the login is answered. The answer may still be gathered.
+pub(crate) struct Begun {
+    pub lines: Lines,
+    pub gathered: Gathered,
+    pub tenant: TenantId,
+}
+
+impl Drop for Begun {
+    fn drop(self) {
+        let Begun {
+            lines: _,
+            gathered: _,
+            tenant: _,
+        } = self;
+    }
+}
+
+/// Begins a session by its first line. `None` where there is no line, and where it was refused
+/// and told so (13). Where memory is refused nothing is told.
+pub(crate) fn begin<R: Read, W: Write>(
+    alloc: Global,
+    table: &TenantTable,
+    reader: &mut Watched<R>,
+    writer: &mut Watched<W>,
+) -> Result<Option<Begun>, ScriptError>
+    ensures { IfOk result (λ begun. IfSome begun (λ b. b.lines.failed ≡ false)) }
+{
+    let mut lines = Lines::new(alloc)?;
+    let mut gathered = Gathered::new(alloc)?;
+    if !advance(&mut lines, &mut gathered, reader, writer)? {
+        return Ok(None);
+    }
+    let Some(tenant) = answer_login(alloc, table, lines.line(), &mut gathered, writer)? else {
+        return Ok(None);
+    };
+    Ok(Some(Begun {
+        lines,
+        gathered,
+        tenant,
+    }))
+}
+
+// Whose login the line is.
+fn tenant_of(alloc: Global, table: &TenantTable, line: Line<'_>) -> Result<TenantId, LineFault>
+    ensures { LogsIn (logged_in table.now (text_of line.entry)) result }
+{
+    match line {
+        Line::Whole(bytes) => read_login(alloc, bytes, table),
+        Line::TooLong => Err(LineFault::WrongKey),
+    }
+}
+
+// Answers the login. The answer of one that is refused is written at once.
+fn answer_login<W: Write>(
+    alloc: Global,
+    table: &TenantTable,
+    line: Line<'_>,
+    gathered: &mut Gathered,
+    writer: &mut Watched<W>,
+) -> Result<Option<TenantId>, ScriptError>
+    ensures whose { IfOk result (λ tenant. tenant ≡ logged_in table.now (text_of line.entry)) }
+    ensures told { IfOk result (λ tenant. IfNone tenant (gathered.new ≡ [])) }
+{
+    match tenant_of(alloc, table, line) {
+        Ok(tenant) => {
+            gathered.put_reply(alloc, writer, &Reply::Ok)?;
+            Ok(Some(tenant))
+        }
+        Err(LineFault::NoMemory) => Err(ScriptError::NoMemory),
+        Err(fault) => {
+            gathered.put_fault(writer, &fault)?;
+            gathered.flush(writer)?;
+            Ok(None)
+        }
+    }
+}

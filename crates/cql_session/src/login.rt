@@ -1,28 +1,48 @@
 // The login of a session.
-ghost use Rattle.std.specs.Prelude.{◌≡◌, [], false, IfOk, IfSome, IfNone};
+ghost use Rattle.std.specs.Prelude.{◌≡◌, [], false, IfOk, IfSome, IfNone, OnOk};
 ghost use Rattle.cql_session.specs.Asked.{logged_in};
 ghost use Rattle.cql_wire.specs.Login.{LogsIn};
 ghost use Rattle.cql_wire.specs.Next.{text_of};
 
 use cql_core::{Reply, TenantId, TenantTable};
 use cql_wire::{Gathered, Line, LineFault, Lines, ScriptError, Watched, advance, read_login};
-use std::alloc::Global;
+use std::alloc::{AllocError, Global};
 use std::io::{Read, Write};
+
+/// What lines come through, and what replies go through.
+pub(crate) struct Desk {
+    pub lines: Lines,
+    pub gathered: Gathered,
+}
+
+impl Drop for Desk {
+    fn drop(self) {
+        let Desk {
+            lines: _,
+            gathered: _,
+        } = self;
+    }
+}
+
+impl Desk {
+    fn new(alloc: Global) -> Result<Desk, AllocError>
+        ensures { IfOk result (λ desk. desk.lines.failed ≡ false) }
+    {
+        let lines = Lines::new(alloc)?;
+        let gathered = Gathered::new(alloc)?;
+        Ok(Desk { lines, gathered })
+    }
+}
 
 /// A session of which the login is answered. The answer may still be gathered.
 pub(crate) struct Begun {
-    pub lines: Lines,
-    pub gathered: Gathered,
+    pub desk: Desk,
     pub tenant: TenantId,
 }
 
 impl Drop for Begun {
     fn drop(self) {
-        let Begun {
-            lines: _,
-            gathered: _,
-            tenant: _,
-        } = self;
+        let Begun { desk: _, tenant: _ } = self;
     }
 }
 
@@ -34,21 +54,30 @@ pub(crate) fn begin<R: Read, W: Write>(
     reader: &mut Watched<R>,
     writer: &mut Watched<W>,
 ) -> Result<Option<Begun>, ScriptError>
-    ensures { IfOk result (λ begun. IfSome begun (λ b. b.lines.failed ≡ false)) }
+    ensures { IfOk result (λ begun. IfSome begun (λ b. b.desk.lines.failed ≡ false)) }
 {
-    let mut lines = Lines::new(alloc)?;
-    let mut gathered = Gathered::new(alloc)?;
-    if !advance(&mut lines, &mut gathered, reader, writer)? {
+    let mut desk = Desk::new(alloc)?;
+    match log_in(alloc, table, &mut desk, reader, writer)? {
+        Some(tenant) => Ok(Some(Begun { desk, tenant })),
+        None => Ok(None),
+    }
+}
+
+// Goes to the first line, and answers it.
+fn log_in<R: Read, W: Write>(
+    alloc: Global,
+    table: &TenantTable,
+    desk: &mut Desk,
+    reader: &mut Watched<R>,
+    writer: &mut Watched<W>,
+) -> Result<Option<TenantId>, ScriptError>
+    requires { desk.old.lines.failed ≡ false }
+    ensures { OnOk result (desk.new.lines.failed ≡ false) }
+{
+    if !advance(&mut desk.lines, &mut desk.gathered, reader, writer)? {
         return Ok(None);
     }
-    let Some(tenant) = answer_login(alloc, table, lines.line(), &mut gathered, writer)? else {
-        return Ok(None);
-    };
-    Ok(Some(Begun {
-        lines,
-        gathered,
-        tenant,
-    }))
+    answer_login(alloc, table, desk.lines.line(), &mut desk.gathered, writer)
 }
 
 // Whose login the line is.

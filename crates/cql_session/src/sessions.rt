@@ -104,7 +104,7 @@ fn attend<H: Wait, J: Journal, O: Operator, G: Gate, R: Read, W: Write>(
     writer: &mut Watched<W>,
 ) -> SessionEnd
     requires bench { IsBench O.seen_in bench.old }
-    requires going { begun.lines.failed ≡ false }
+    requires going { begun.desk.lines.failed ≡ false }
     ensures bench { IsBench O.seen_in bench.new }
     ensures tallies { IfSome result.seat (λ s. Tallies J.keeps s result.receipts.items) }
     ensures seated { is_some result.seat ≡ true }
@@ -114,8 +114,8 @@ fn attend<H: Wait, J: Journal, O: Operator, G: Gate, R: Read, W: Write>(
     let served = caller.answer_lines(
         service,
         bench,
-        &mut begun.lines,
-        &mut begun.gathered,
+        &mut begun.desk.lines,
+        &mut begun.desk.gathered,
         reader,
         writer,
     );

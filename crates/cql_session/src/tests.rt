@@ -61,7 +61,12 @@ fn run<J: Journal>(
 
 // Whether the hall closes with the session's seat, or with none.
 fn closes<J: Journal>(hall: Hall<J>, end: SessionEnd) -> bool {
-    match end.seat {
+    let SessionEnd {
+        seat,
+        receipts: _,
+        fault: _,
+    } = end;
+    match seat {
         Some(seat) => hall.close(&[seat]).is_ok(),
         None => hall.close(&[]).is_ok(),
     }

@@ -24,6 +24,8 @@ const TOLD: &[&[u8]] = &[
 
 const NO_MEMORY: &[u8] = b"{\"name\":\"NoMemory\",\"refused\":70}";
 
+const NO_MEMORY_LINE: &[u8] = b"{\"name\":\"NoMemory\",\"refused\":70}\n";
+
 fn table_at_last(alloc: Global) -> Result<TenantTable, Unmade> {
     match table(alloc) {
         Ok(table) => Ok(table),
@@ -46,32 +48,31 @@ fn room_at_last(alloc: Global) -> Result<Vec<u8>, AllocError> {
     }
 }
 
-// How many lines aren't as they are with ample memory, but tell that there was none (70); or
-// `None` where a line tells anything else.
-fn missing(written: &[u8]) -> Option<usize> {
-    let mut count = 0;
+// Whether the lines are those with ample memory, but for one at most which tells that there was
+// none (70).
+fn are_told(written: &[u8]) -> bool {
     let mut wanted = TOLD;
+    let mut is_missed = false;
     for line in written.split(|byte| *byte == b'\n') {
         let [want, later @ ..] = wanted else {
-            return None;
+            return false;
         };
-        if line == NO_MEMORY {
-            count += 1;
-        } else if line != *want {
-            return None;
+        if line != *want {
+            if is_missed || line != NO_MEMORY {
+                return false;
+            }
+            is_missed = true;
         }
         wanted = later;
     }
-    if wanted.is_empty() { Some(count) } else { None }
+    wanted.is_empty()
 }
 
 // Whether all was told but one line at most; or nothing, for want of memory, and then that.
 fn is_told(written: &[u8], end: &SessionEnd) -> bool {
     match end.fault {
-        None => missing(written).is_some_and(|count| count <= 1),
-        Some(ScriptError::NoMemory) => {
-            written == b"{\"name\":\"NoMemory\",\"refused\":70}\n".as_slice() && end.seat.is_none()
-        }
+        None => are_told(written),
+        Some(ScriptError::NoMemory) => written == NO_MEMORY_LINE && end.seat.is_none(),
         Some(_) => false,
     }
 }

@@ -1,0 +1,59 @@
+-- What sessions leave, taken apart.
+use Rattle.std.proofs.Common.{◌≡◌, ℕ, ◌+◌, ◌++◌, ◌∷◌, [], List, ◌∙◌, ap, sym, refl, subst, map, append-nil, arith}
+use Rattle.std.specs.Prelude.{Option, None, Some, Result, Ok, Err, OnOk, is_some, sum_by, if◌then◌else◌}
+use Rattle.std.specs.List.{filter_map, cons_option}
+use Rattle.std.proofs.Math.Nat.{zero-add}
+use Rattle.std.proofs.lemmas.List.Elements.{filter_map-append}
+use Rattle.std.proofs.lemmas.List.Sums.{sum_by-cons}
+use Rattle.cql_hall.specs.declared.lobby.Seat.{Seat}
+use Rattle.cql_hall.specs.declared.lobby.Receipt.{Receipt}
+use Rattle.cql_hall.specs.Audit.{Heard, heard, in_order}
+use Rattle.cql_hall.specs.Laws.{placed as placed_heard}
+use Rattle.cql_hall.proofs.Calls.{has_each_call_once}
+use Rattle.cql_session.specs.Tallies.{placed}
+use Rattle.cql_server.specs.Agreed.{counted_by, Agreed, AgreedOnce}
+use Rattle.cql_server.specs.declared.ending.Ending.{Ending}
+
+pub filter_map_more : {X Y : Type 0} (h : X → Option Y) (xs : List X) (x : X) (y : Y) → h x ≡ Some y → filter_map h (xs ++ x ∷ []) ≡ filter_map h xs ++ y ∷ []
+filter_map_more h xs x y is = filter_map-append h xs (x ∷ []) ∙ ap (λ o. filter_map h xs ++ cons_option o []) is
+
+pub filter_map_same : {X Y : Type 0} (h : X → Option Y) (xs : List X) (x : X) → h x ≡ None → filter_map h (xs ++ x ∷ []) ≡ filter_map h xs
+filter_map_same h xs x is = filter_map-append h xs (x ∷ []) ∙ ap (λ o. filter_map h xs ++ cons_option o []) is ∙ append-nil (filter_map h xs)
+
+placed_list : (caller : ℕ) (rs : List Receipt) (rest : List Heard) → placed_heard (map (heard caller) rs ++ rest) ≡ placed rs + placed_heard rest
+placed_list caller [] rest = sym (zero-add (placed_heard rest))
+placed_list caller (r ∷ rs) rest =
+    let more = placed_list caller rs rest in
+    let one = sum_by-cons (λ r. if is_some r.place then 1 else 0) r rs in
+    omega (arith, more, one)
+
+counted_more : (o : Option Seat) (ss : List Seat) → sum_by (λ s. s.count) (cons_option o ss) ≡ counted_by o + sum_by (λ s. s.count) ss
+counted_more None ss = sym (zero-add (sum_by (λ s. s.count) ss))
+counted_more (Some s) ss = sum_by-cons (λ s. s.count) s ss
+
+-- as many receipts have a place as the seats have counted
+placed_counted : (caller : ℕ) (ends : List Ending) → placed_heard (in_order caller (map (λ e. e.receipts.items) ends)) ≡ sum_by (λ s. s.count) (filter_map (λ e. e.seat) ends)
+placed_counted caller [] = refl
+placed_counted caller (e ∷ es) =
+    let rest = in_order (caller + 1) (map (λ e. e.receipts.items) es) in
+    let list = placed_list caller e.receipts.items rest in
+    let more = placed_counted (caller + 1) es in
+    let seats = counted_more e.seat (filter_map (λ e. e.seat) es) in
+    let one = e.counted in
+    omega (arith, list, more, seats, one)
+
+pub lists_of : (ends : List Ending) → map (λ list. list.items) (map (λ e. e.receipts) ends) ≡ map (λ e. e.receipts.items) ends
+lists_of [] = refl
+lists_of (e ∷ es) = ap (λ l. e.receipts.items ∷ l) (lists_of es)
+
+on_ok : {T E : Type 0} (r : Result T E) (P : Type 0) → P → OnOk r P
+on_ok (Ok x) P p = p
+on_ok (Err e) P p = tt
+
+-- where receipts agree with a journal of as many entries as the seats have counted, each entry is one receipt's call
+pub agreed_once : {T E : Type 0} (r : Result T E) (ends : List Ending) (lists : List (List Receipt)) (seats : List Seat) (many : ℕ) → lists ≡ map (λ e. e.receipts.items) ends → seats ≡ filter_map (λ e. e.seat) ends → Agreed (in_order 0 lists) many → sum_by (λ s. s.count) seats ≡ many → OnOk r (AgreedOnce (in_order 0 (map (λ e. e.receipts.items) ends)))
+agreed_once r ends lists seats many same from agreed counted =
+    let hs = in_order 0 (map (λ e. e.receipts.items) ends) in
+    let a = subst (λ l. Agreed (in_order 0 l) many) same agreed in
+    let all = placed_counted 0 ends ∙ ap (sum_by (λ s. s.count)) (sym from) ∙ counted ∙ sym a.entries in
+    on_ok r (AgreedOnce hs) (record { journal = a.journal; legal = a.legal; agree = a.agree; once = has_each_call_once a.journal hs a.legal a.agree all })

@@ -1,0 +1,124 @@
+// What is left at the end, and whether it agrees.
+ghost use Rattle.std.specs.Prelude.{◌≡◌, ◌≤◌, map, length, sum_by, IfOk, OnOk};
+ghost use Rattle.std.specs.List.{filter_map};
+ghost use Rattle.cql_hall.specs.Audit.{in_order};
+ghost use Rattle.cql_session.specs.Tallies.{placed};
+ghost use Rattle.cql_server.specs.Agreed.{Agreed, AgreedOnce};
+
+use crate::ending::Ending;
+use crate::failure::Failure;
+use crate::tables::is_same_table;
+use cql_core::TenantTable;
+use cql_hall::{AuditError, Hall, Kept, Receipt, Seat, audit};
+use std::alloc::{AllocError, Global};
+use std::io::Write;
+
+// The seats of sessions whose callers have logged in, and the receipts of each session.
+struct Heard {
+    seats: Vec<Seat>,
+    lists: Vec<Vec<Receipt>>,
+}
+
+impl Drop for Heard {
+    fn drop(self) {
+        let Heard { seats: _, lists: _ } = self;
+    }
+}
+
+/// Closes the hall of these sessions, which has to be the table's, audits what they were told, and
+/// writes the line of an audit
+/// that agreed. Then each entry of the hall's journal is the call of one receipt.
+pub(crate) fn close_and_audit<W: Write>(
+    alloc: Global,
+    out: &mut W,
+    table: &TenantTable,
+    hall: Hall<Kept>,
+    ends: Vec<Ending>,
+) -> Result<(), Failure>
+    ensures { OnOk result (AgreedOnce (in_order 0 (map (λ e. e.receipts.items) ends.items))) }
+{
+    let heard = heard_of(alloc, ends)?;
+    let receipts = placed(&heard.lists);
+    let entries = agree(alloc, table, hall, &heard.seats, &heard.lists)?;
+    tell(out, entries, receipts)
+}
+
+fn heard_of(alloc: Global, ends: Vec<Ending>) -> Result<Heard, AllocError>
+    ensures seats { IfOk result (λ h. h.seats.items ≡ filter_map (λ e. e.seat) ends.items) }
+    ensures lists { IfOk result (λ h. h.lists.items ≡ map (λ e. e.receipts) ends.items) }
+{
+    let mut seats = Vec::with_capacity(alloc, ends.len())?;
+    let mut lists = Vec::with_capacity(alloc, ends.len())?;
+    for end in ends {
+        lists.push(end.receipts)?;
+        if let Some(seat) = end.seat {
+            seats.push(seat)?;
+        }
+    }
+    Ok(Heard { seats, lists })
+}
+
+// How many receipts have a place.
+fn placed(lists: &[Vec<Receipt>]) -> u128
+    ensures { result ≡ sum_by (λ list. placed list.items) lists.now }
+{
+    let mut sum: u128 = 0;
+    for list in lists {
+        sum += u128::from(placed_in(list));
+    }
+    sum
+}
+
+fn placed_in(receipts: &[Receipt]) -> u64
+    ensures { result ≡ placed receipts.now }
+{
+    let mut count: u64 = 0;
+    for receipt in receipts {
+        if receipt.place.is_some() {
+            count += 1;
+        }
+    }
+    count
+}
+
+// How many entries the hall has, where its seats have counted these, and the receipts of each
+// session agree with them.
+fn agree(
+    alloc: Global,
+    table: &TenantTable,
+    hall: Hall<Kept>,
+    seats: &[Seat],
+    lists: &[Vec<Receipt>],
+) -> Result<usize, Failure>
+    ensures agreed { IfOk result (Agreed (in_order 0 (map (λ list. list.items) lists.now))) }
+    ensures counted { IfOk result (λ many. sum_by (λ s. s.count) seats.now ≡ many) }
+{
+    let ended = match hall.close(seats) {
+        Ok(ended) => ended,
+        Err(missing) => {
+            return Err(Failure::Audit {
+                at: missing.counted,
+            });
+        }
+    };
+    if !is_same_table(&ended.table, table) {
+        return Err(Failure::Audit { at: 0 });
+    }
+    let entries = ended.entries.len();
+    match audit(alloc, ended.table, &ended.entries, lists) {
+        Ok(()) => Ok(entries),
+        Err(AuditError::Mismatch { place }) => Err(Failure::Audit {
+            at: u128::from(place),
+        }),
+        Err(AuditError::NoMemory) => Err(Failure::NoMemory),
+    }
+}
+
+fn tell<W: Write>(out: &mut W, entries: usize, receipts: u128) -> Result<(), Failure> {
+    let told = writeln!(out, "audit: {entries} entries, {receipts} receipts, agreed");
+    if told.is_ok() && out.flush().is_ok() {
+        Ok(())
+    } else {
+        Err(Failure::Writing)
+    }
+}

@@ -1,0 +1,168 @@
+//! Serves continuous queries to callers on 127.0.0.1.
+#![tactic(auto)]
+
+ghost use Rattle.std.specs.Prelude.{All};
+ghost use Rattle.cql_ops.specs.Bench.{IsBench};
+
+mod benches;
+mod operators;
+mod words;
+
+use benches::benches_of;
+use clap::error::ErrorKind;
+use cql_core::{Bench, Operator, TenantTable};
+use cql_hall::OpenGate;
+use cql_server::{Failure, serve};
+use cql_wire::{FirstFault, TenantsFault, Watched, first_line, read_tenants};
+use operators::Operators;
+use std::alloc::Global;
+use std::io::Read;
+use std::net::{Net, TcpListener, TcpStream};
+use std::process::ExitCode;
+use std::sync::Wait;
+use std::thread::Threads;
+use std::time::Clock;
+use std::{env, io};
+use words::{Config, read_words};
+
+fn main(rt: HostRuntime) -> ExitCode {
+    let config = match config_of(&rt) {
+        Ok(config) => config,
+        Err(status) => return ExitCode::from(status),
+    };
+    match outcome(&rt, rt.alloc(), config) {
+        Ok(()) => ExitCode::SUCCESS,
+        Err(failure) => ExitCode::from(told(&rt, failure)),
+    }
+}
+
+/// Tells a failure, and gives its status.
+fn told(rt: &impl Eprint, failure: Failure) -> u8 {
+    let _ = eprintln!(rt; "cqld: {failure}");
+    failure.status()
+}
+
+/// The words, of which the first is the program's name.
+fn words_of(rt: &HostRuntime) -> io::Result<Vec<String>> {
+    let words = env::args(rt)?.collect::<Vec<String>>(rt.alloc())?;
+    Ok(words)
+}
+
+/// What the words ask for; else their fault or their help is told, and this is the status.
+fn config_of(rt: &HostRuntime) -> Result<Config, u8> {
+    let words = match words_of(rt) {
+        Ok(words) => words,
+        Err(error) if error.kind() == io::ErrorKind::OutOfMemory => {
+            return Err(told(rt, Failure::NoMemory));
+        }
+        Err(_) => {
+            let _ = rt.eprintln("cqld: a word is no text");
+            return Err(2);
+        }
+    };
+    match read_words(rt.alloc(), words.as_slice()) {
+        Ok(config) => Ok(config),
+        Err(error) if error.kind() == ErrorKind::OutOfMemory => Err(told(rt, Failure::NoMemory)),
+        Err(error) => {
+            let _ = error.print(rt);
+            Err(if error.use_stderr() { 2 } else { 0 })
+        }
+    }
+}
+
+/// Reads the tenants line, makes a bench for each worker, listens, and serves.
+fn outcome<R>(rt: &R, alloc: Global, config: Config) -> Result<(), Failure>
+where
+    R: Threads
+        + Wait
+        + Clock
+        + Net<Listener = TcpListener, Stream = TcpStream>
+        + Input
+        + Print
+        + Sync,
+{
+    if config.audit && config.sessions == 0 {
+        return Err(Failure::NoSessions);
+    }
+    let table = tenants(alloc, &mut Watched::new(rt.reader()))?;
+    let mut lists = Vec::new(alloc);
+    for _ in 0..config.workers {
+        let mut boxes: Vec<Box<dyn Operator + Send>> = Vec::new(alloc);
+        if boxes.reserve(7).is_err() {
+            return Err(Failure::NoMemory);
+        }
+        let Ok(operators) = Operators::new(alloc) else {
+            return Err(Failure::NoMemory);
+        };
+        // Operators of the caller's own may stand in the place of these.
+        let Operators {
+            left,
+            right,
+            set_op,
+        } = operators;
+        boxes.push_reserved(left.join);
+        boxes.push_reserved(left.shape);
+        boxes.push_reserved(left.distinct);
+        boxes.push_reserved(right.join);
+        boxes.push_reserved(right.shape);
+        boxes.push_reserved(right.distinct);
+        boxes.push_reserved(set_op);
+        if lists.push(boxes).is_err() {
+            return Err(Failure::NoMemory);
+        }
+    }
+    let Ok(benches) = benches_of(alloc, lists) else {
+        return Err(Failure::NoMemory);
+    };
+    listen(rt, alloc, config, &table, benches)
+}
+
+/// The tenants of the first line.
+fn tenants<R: Read>(alloc: Global, reader: &mut Watched<R>) -> Result<TenantTable, Failure> {
+    let line = match first_line(alloc, reader) {
+        Ok(line) => line,
+        Err(FirstFault::TooLong) => return Err(Failure::Tenants),
+        Err(FirstFault::Read) => return Err(Failure::Reading),
+        Err(FirstFault::NoMemory) => return Err(Failure::NoMemory),
+    };
+    match read_tenants(alloc, line.as_slice()) {
+        Ok(table) => Ok(table),
+        Err(TenantsFault::Refused) => Err(Failure::Tenants),
+        Err(TenantsFault::NoMemory) => Err(Failure::NoMemory),
+    }
+}
+
+/// Tells the port that it listens on, and serves.
+fn listen<R>(
+    rt: &R,
+    alloc: Global,
+    config: Config,
+    table: &TenantTable,
+    benches: Vec<Bench>,
+) -> Result<(), Failure>
+where
+    R: Threads + Wait + Clock + Net<Listener = TcpListener, Stream = TcpStream> + Print + Sync,
+    requires benches { All (IsBench seen_in) benches.items }
+{
+    let Ok(listener) = TcpListener::bind(rt, ("127.0.0.1", config.port)) else {
+        return Err(Failure::Listening);
+    };
+    let Ok(addr) = listener.local_addr() else {
+        return Err(Failure::Listening);
+    };
+    let port = addr.port();
+    if println!(rt; "listening on 127.0.0.1:{port}").is_err() {
+        return Err(Failure::Writing);
+    }
+    serve(
+        rt,
+        alloc,
+        &listener,
+        &mut io::writer(rt),
+        table,
+        benches,
+        config.sessions,
+        config.audit,
+        &OpenGate,
+    )
+}

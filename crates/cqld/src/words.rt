@@ -1,0 +1,151 @@
+// What the words of the command line say.
+ghost use Rattle.std.specs.Prelude.{◌≤◌, IfOk};
+
+use clap::{Arg, ArgAction, Command, Error};
+use std::alloc::Global;
+
+/// What is served, and how.
+#[derive(Clone, Copy, Debug, PartialEq, Eq)]
+pub struct Config {
+    /// The port of 127.0.0.1; at 0 the system chooses one.
+    pub port: u16,
+    /// How many sessions are served at once, 1 to 64.
+    pub workers: u8,
+    /// How many sessions are served in all; at 0 there is no end.
+    pub sessions: u16,
+    /// Whether each call is kept, and checked after the last session.
+    pub audit: bool,
+}
+
+/// Reads the words, of which the first is the program's name.
+pub fn read_words(alloc: Global, words: &[String]) -> Result<Config, Error>
+    ensures workers { IfOk result (λ c. (1 ≤ c.workers) × (c.workers ≤ 64)) }
+{
+    let port = Arg::new(alloc, "port")
+        .long("port")
+        .value_name("N")
+        .value_parser(clap::value_parser!(u16))
+        .default_value("0")
+        .help("The port of 127.0.0.1, or 0 for one that the system chooses");
+    let workers = Arg::new(alloc, "workers")
+        .long("workers")
+        .value_name("N")
+        .value_parser(clap::value_parser!(u8).range(1..=64))
+        .default_value("4")
+        .help("How many sessions are served at once, 1 to 64");
+    let sessions = Arg::new(alloc, "sessions")
+        .long("sessions")
+        .value_name("N")
+        .value_parser(clap::value_parser!(u16))
+        .default_value("0")
+        .help("How many sessions are served in all, or 0 for no end");
+    let audit = Arg::new(alloc, "audit")
+        .long("audit")
+        .action(ArgAction::SetTrue)
+        .help("Keep each call, and check them after the last session");
+    let command = Command::new(alloc, "cqld")
+        .about("Serves continuous queries to the tenants of the first line of standard input")
+        .arg(port)?
+        .arg(workers)?
+        .arg(sessions)?
+        .arg(audit)?;
+    let matches = command.try_get_matches_from(words)?;
+    Ok(Config {
+        port: matches.get_one::<u16>("port").unwrap_or(0),
+        workers: matches.get_one::<u8>("workers").unwrap_or(4).clamp(1, 64),
+        sessions: matches.get_one::<u16>("sessions").unwrap_or(0),
+        audit: matches.get_flag("audit"),
+    })
+}
+
+#[cfg(test)]
+mod tests {
+    use super::*;
+    use clap::error::ErrorKind;
+    use std::alloc::AllocError;
+    use std::test::Fail;
+
+    fn words_of(alloc: Global, words: &[&str]) -> Result<Vec<String>, AllocError> {
+        let mut all = Vec::new(alloc);
+        for word in words {
+            all.push(String::from_str(alloc, word)?)?;
+        }
+        Ok(all)
+    }
+
+    #[test]
+    fn has_defaults(rt: HostRuntime) -> Result<(), Fail> {
+        let alloc = rt.alloc();
+        let words = words_of(alloc, &["cqld"])?;
+        let config = read_words(alloc, words.as_slice())?;
+        let wanted = Config {
+            port: 0,
+            workers: 4,
+            sessions: 0,
+            audit: false,
+        };
+        assert!(rt; config == wanted);
+        Ok(())
+    }
+
+    #[test]
+    fn reads_each(rt: HostRuntime) -> Result<(), Fail> {
+        let alloc = rt.alloc();
+        let words = [
+            "cqld",
+            "--port=65535",
+            "--workers",
+            "64",
+            "--sessions",
+            "65535",
+            "--audit",
+        ];
+        let words = words_of(alloc, &words)?;
+        let config = read_words(alloc, words.as_slice())?;
+        let wanted = Config {
+            port: 65535,
+            workers: 64,
+            sessions: 65535,
+            audit: true,
+        };
+        assert!(rt; config == wanted);
+        Ok(())
+    }
+
+    /// What it says to one word, or to an option and its value.
+    fn said(alloc: Global, words: &[&str]) -> Result<Option<Error>, AllocError> {
+        let words = words_of(alloc, words)?;
+        Ok(read_words(alloc, words.as_slice()).err())
+    }
+
+    #[test]
+    fn refuses(rt: HostRuntime) -> Result<(), Fail> {
+        let alloc = rt.alloc();
+        for (option, value) in [
+            ("--workers", "0"),
+            ("--workers", "65"),
+            ("--port", "65536"),
+            ("--port", ""),
+            ("--sessions", "65536"),
+            ("--sessions", "-1"),
+            ("--join", "plain"),
+            ("--audit", "x"),
+        ] {
+            let Some(error) = said(alloc, &["cqld", option, value])? else {
+                return Err(Fail::from("taken"));
+            };
+            assert!(rt; error.exit_code() == 2, "{option} {value}");
+        }
+        Ok(())
+    }
+
+    #[test]
+    fn helps(rt: HostRuntime) -> Result<(), Fail> {
+        let Some(error) = said(rt.alloc(), &["cqld", "--help"])? else {
+            return Err(Fail::from("taken"));
+        };
+        assert!(rt; error.kind() == ErrorKind::DisplayHelp);
+        assert!(rt; !error.use_stderr());
+        Ok(())
+    }
+}

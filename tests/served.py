@@ -1,0 +1,147 @@
+"""Starts a cqld and talks to it, for tests/server and the scripts of bench/. Each wait ends after
+SECONDS with an error.
+"""
+import collections
+import json
+import os
+import select
+import socket
+import struct
+import subprocess
+import tempfile
+import time
+
+SECONDS = 60
+
+DONE = b'{"ok":true}\n'
+
+# How a program ended: its status, and all that it wrote on standard error and on standard output
+# behind the line that tells its port.
+Ended = collections.namedtuple("Ended", "status said written")
+
+
+def line_of(**keys):
+    """A line of JSON as the server writes it: no blanks, keys in order, texts as they are."""
+    text = json.dumps(keys, separators=(",", ":"), sort_keys=True, ensure_ascii=False)
+    return text.encode() + b"\n"
+
+
+def refused(number, name):
+    return line_of(name=name, refused=number)
+
+
+def tenants(names, streams=8, queries=8, hold=100, result=1000):
+    """A tenants line; the key of each is its name behind a k."""
+    quotas = {"hold": hold, "queries": queries, "result": result, "streams": streams}
+    return line_of(tenants=[{"key": "k" + name, "name": name, **quotas} for name in names])
+
+
+def login(name):
+    return line_of(key="k" + name, tenant=name)
+
+
+def audit(entries):
+    """The line of an audit that agrees, of so many calls."""
+    return b"audit: %d entries, %d receipts, agreed\n" % (entries, entries)
+
+
+class Stalled(OSError):
+    """A wait was too long."""
+
+
+class Server:
+    """A cqld that listens. It is killed at the end of the `with`, if it is still there."""
+
+    def __init__(self, program, table, **words):
+        """Of the words --some-word N is written some_word=N, and --word alone word=True."""
+        spelled = []
+        for name, value in words.items():
+            spelled += ["--" + name.replace("_", "-")] + [str(value)] * (value is not True)
+        with tempfile.TemporaryFile() as given:
+            given.write(table)
+            given.seek(0)
+            self.child = subprocess.Popen(
+                [program, *spelled], stdin=given, stdout=subprocess.PIPE, stderr=subprocess.PIPE
+            )
+        try:
+            line = self.first_line()
+            said, _, port = line.partition(b":")
+            if said != b"listening on 127.0.0.1":
+                raise OSError(f"it says {line!r}")
+            self.port = int(port)
+        except BaseException:
+            self.__exit__()
+            raise
+
+    def first_line(self):
+        """What it writes up to its first line feed."""
+        line, end = b"", time.monotonic() + SECONDS
+        while not line.endswith(b"\n"):
+            ready = select.select([self.child.stdout], [], [], max(0, end - time.monotonic()))[0]
+            if not ready:
+                raise Stalled("it doesn't say that it listens")
+            byte = os.read(self.child.stdout.fileno(), 1)
+            if not byte:
+                raise OSError(f"it ended before it listened: {self.end()}")
+            line += byte
+        return line
+
+    def __enter__(self):
+        return self
+
+    def __exit__(self, *_):
+        self.child.kill()
+        self.child.wait()
+        self.child.stdout.close()
+        self.child.stderr.close()
+
+    def end(self, seconds=SECONDS):
+        """Waits for its end."""
+        written, said = self.child.communicate(timeout=seconds)
+        return Ended(self.child.returncode, said, written)
+
+
+class Caller:
+    """One connection. With a tenant's name it logs in, and the reply has to be right."""
+
+    def __init__(self, server, tenant=None, window=None, seconds=SECONDS):
+        """`window`: how many bytes the system is to hold for it that it hasn't read. `seconds`: how
+        long one call may wait."""
+        self.socket = socket.socket()
+        self.socket.settimeout(seconds)
+        if window:
+            self.socket.setsockopt(socket.SOL_SOCKET, socket.SO_RCVBUF, window)
+        self.socket.setsockopt(socket.IPPROTO_TCP, socket.TCP_NODELAY, 1)
+        self.socket.connect(("127.0.0.1", server.port))
+        self.replies = self.socket.makefile("rb")
+        if tenant is not None and self.ask(login(tenant)) != DONE:
+            raise OSError(f"{tenant} isn't let in")
+
+    def __enter__(self):
+        return self
+
+    def __exit__(self, *_):
+        self.replies.close()
+        self.socket.close()
+
+    def send(self, *lines):
+        self.socket.sendall(b"".join(lines))
+
+    def ask(self, line):
+        """The reply to a line, or what there is of it at the end."""
+        self.send(line)
+        return self.replies.readline()
+
+    def is_silent(self, seconds):
+        """Whether nothing comes for so long."""
+        return not select.select([self.socket], [], [], seconds)[0]
+
+    def rest(self):
+        """Says that no more lines come, and reads to the end."""
+        self.socket.shutdown(socket.SHUT_WR)
+        return self.replies.read()
+
+    def reset(self):
+        """Breaks off at once: what isn't sent is let go, and the other end's calls fail."""
+        self.socket.setsockopt(socket.SOL_SOCKET, socket.SO_LINGER, struct.pack("ii", 1, 0))
+        self.__exit__()

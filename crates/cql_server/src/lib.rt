@@ -12,3 +12,6 @@ mod workers;
 pub use cql_session::{SessionEnd, session};
 pub use failure::Failure;
 pub use serving::serve;
+
+#[cfg(test)]
+mod tests;

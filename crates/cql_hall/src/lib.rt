@@ -16,6 +16,3 @@ pub use book::{Book, Entered};
 pub use gate::{Gate, OpenGate, Point};
 pub use journal::{Bare, Entry, Journal, Kept};
 pub use lobby::{Ended, Hall, Pending, Receipt, Seat, SeatsMissing};
-
-#[cfg(test)]
-mod tests;

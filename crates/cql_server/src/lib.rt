@@ -12,6 +12,3 @@ mod workers;
 pub use cql_session::{SessionEnd, session};
 pub use failure::Failure;
 pub use serving::serve;
-
-#[cfg(test)]
-mod tests;

@@ -7,6 +7,3 @@ mod login;
 mod sessions;
 
 pub use sessions::{SessionEnd, session};
-
-#[cfg(test)]
-mod tests;

@@ -1,8 +1,8 @@
 // Receipts that agree with the entries of a hall, and some that don't.
-use super::{QUOTAS, Unmade, fetch, hall, put, query, receipt, stream};
-use crate::{AuditError, Ended, Hall, Kept, OpenGate, Receipt, Seat, audit};
-use cql_core::{Command, Quotas, Tenant, TenantTable};
-use cql_value::{Name, Text};
+use crate::halls::{fetch, hall, put, query, receipt, stream};
+use crate::made::{Unmade, other_table};
+use cql_core::{Command, TenantTable};
+use cql_hall::{AuditError, Ended, Hall, Kept, OpenGate, Receipt, Seat, audit};
 use std::alloc::{AllocError, Global};
 use std::mem::swap;
 use std::sync::Wait;
@@ -128,22 +128,6 @@ fn neighbours_are_exchanged(rt: HostRuntime) -> Result<(), Fail> {
     exchange(&mut ran.lists, 1, 2)?;
     assert_eq!(rt; failing_here(alloc, &ran)?, Some(1));
     Ok(())
-}
-
-// A table whose joined bags may have fewer rows.
-fn other_table(alloc: Global) -> Result<TenantTable, Unmade> {
-    let name = Name::read(alloc, "a").map_err(|_| Unmade::Wrong)?;
-    let key = Text::new(alloc, "key")?;
-    let tenant = Tenant {
-        name,
-        key,
-        quotas: Quotas {
-            result: 10,
-            ..QUOTAS
-        },
-    };
-    let tenants = Vec::from_array(alloc, [tenant])?;
-    TenantTable::new(tenants).map_err(|_| Unmade::Wrong)
 }
 
 // The first fetch is pinned with another limit.

@@ -1,8 +1,9 @@
 // A session where one request for memory is refused: `tests/memory` refuses each in turn.
-use super::{Unmade, closes, hall, run, table};
-use crate::SessionEnd;
+use super::{closes, hall, run};
+use crate::made::{Unmade, table_at_last};
 use cql_core::TenantTable;
 use cql_hall::{Hall, Kept};
+use cql_session::SessionEnd;
 use cql_wire::ScriptError;
 use std::alloc::{AllocError, Global};
 use std::test::Fail;
@@ -25,13 +26,6 @@ const TOLD: &[&[u8]] = &[
 const NO_MEMORY: &[u8] = b"{\"name\":\"NoMemory\",\"refused\":70}";
 
 const NO_MEMORY_LINE: &[u8] = b"{\"name\":\"NoMemory\",\"refused\":70}\n";
-
-fn table_at_last(alloc: Global) -> Result<TenantTable, Unmade> {
-    match table(alloc) {
-        Ok(table) => Ok(table),
-        Err(_why) => table(alloc),
-    }
-}
 
 fn hall_at_last(alloc: Global, table: &TenantTable) -> Result<Hall<Kept>, Unmade> {
     match hall(alloc, table) {

@@ -1,63 +1,18 @@
 // Halls of two threads. What each test looks at doesn't depend on the schedule.
-use crate::{Bare, Entry, Gate, Hall, Journal, Kept, OpenGate, Pending, Point, Receipt, Seat};
-use cql_core::{
-    ColumnText, Command, Core, Mark, Quotas, Refusal, Reply, Tenant, TenantId, TenantTable, prepare,
-};
+use crate::holding::Holding;
+use crate::made::{Unmade, table, table_at_last};
+use cql_core::{ColumnText, Command, Core, Mark, Refusal, Reply, TenantId, TenantTable, prepare};
+use cql_hall::{Bare, Entry, Gate, Hall, Journal, Kept, OpenGate, Pending, Receipt, Seat};
 use cql_ops::plain_bench;
-use cql_value::{Items, Name, Row, Text, Value};
-use std::alloc::{AllocError, AllocFailed, Global};
+use cql_value::{Items, Row, Text, Value};
+use std::alloc::{AllocError, Global};
 use std::sync::Wait;
-use std::sync::atomic::{AtomicU64, Ordering};
 use std::test::Fail;
 use std::thread;
 use std::thread::Threads;
-use std::time::{Clock, Duration};
-
-mod audits;
+use std::time::Clock;
 
 const PUTS: u64 = 50;
-
-const QUOTAS: Quotas = Quotas {
-    streams: 8,
-    queries: 8,
-    hold: 100,
-    result: 1000,
-};
-
-/// Why a value of a test wasn't made.
-#[derive(Debug, Drop)]
-enum Unmade {
-    NoMemory,
-    Wrong,
-}
-
-impl From<AllocError> for Unmade {
-    fn from(_error: AllocError) -> Unmade {
-        Unmade::NoMemory
-    }
-}
-
-impl<T: Drop> From<AllocFailed<T>> for Unmade {
-    fn from(_failed: AllocFailed<T>) -> Unmade {
-        Unmade::NoMemory
-    }
-}
-
-fn tenants(alloc: Global) -> Result<Vec<Tenant>, Unmade> {
-    let name = Name::read(alloc, "a").map_err(|_| Unmade::Wrong)?;
-    let key = Text::new(alloc, "key")?;
-    let tenant = Tenant {
-        name,
-        key,
-        quotas: QUOTAS,
-    };
-    Ok(Vec::from_array(alloc, [tenant])?)
-}
-
-// A table of one tenant.
-fn table(alloc: Global) -> Result<TenantTable, Unmade> {
-    TenantTable::new(tenants(alloc)?).map_err(|_| Unmade::Wrong)
-}
 
 fn columns(alloc: Global) -> Result<Items<ColumnText>, AllocError> {
     let name = Text::new(alloc, "v")?;
@@ -65,25 +20,25 @@ fn columns(alloc: Global) -> Result<Items<ColumnText>, AllocError> {
     Ok(Items::from_vec(Vec::from_array(alloc, [ColumnText { name, kind }])?))
 }
 
-fn stream(alloc: Global, name: &str) -> Result<Command, AllocError> {
+pub(crate) fn stream(alloc: Global, name: &str) -> Result<Command, AllocError> {
     let columns = columns(alloc)?;
     let name = Text::new(alloc, name)?;
     Ok(Command::Stream { name, columns })
 }
 
-fn put(alloc: Global, stream: &str, at: u64) -> Result<Command, AllocError> {
+pub(crate) fn put(alloc: Global, stream: &str, at: u64) -> Result<Command, AllocError> {
     let row = Row::new(Vec::from_array(alloc, [Value::Number(1)])?);
     let stream = Text::new(alloc, stream)?;
     Ok(Command::Put { stream, at, row })
 }
 
-fn query(alloc: Global) -> Result<Command, AllocError> {
+pub(crate) fn query(alloc: Global) -> Result<Command, AllocError> {
     let name = Text::new(alloc, "q")?;
     let text = Text::new(alloc, "Select Istream(*) From s [Rows 2]")?;
     Ok(Command::Query { name, text })
 }
 
-fn fetch(alloc: Global) -> Result<Command, AllocError> {
+pub(crate) fn fetch(alloc: Global) -> Result<Command, AllocError> {
     let name = Text::new(alloc, "q")?;
     Ok(Command::Fetch { name, until: None })
 }
@@ -93,7 +48,7 @@ fn finish(alloc: Global, pending: Pending, gate: &impl Gate) -> Receipt {
     pending.finish(alloc, &mut plain_bench(alloc), gate)
 }
 
-fn receipt<J: Journal>(
+pub(crate) fn receipt<J: Journal>(
     rt: &impl Wait,
     alloc: Global,
     hall: &Hall<J>,
@@ -135,11 +90,15 @@ fn make_streams(
     Ok(())
 }
 
-fn hall(alloc: Global) -> Result<(Hall<Kept>, TenantId), Unmade> {
-    let table = table(alloc)?;
+// A hall and its first tenant.
+fn open<J: Journal>(alloc: Global, table: TenantTable) -> Result<(Hall<J>, TenantId), Unmade> {
     let tenant = table.find("a").ok_or(Unmade::Wrong)?;
     let hall = Hall::new(alloc, table)?;
     Ok((hall, tenant))
+}
+
+pub(crate) fn hall(alloc: Global) -> Result<(Hall<Kept>, TenantId), Unmade> {
+    open(alloc, table(alloc)?)
 }
 
 // Whether a core tells each entry its mark, from the opening of the table.
@@ -212,54 +171,6 @@ fn a_seat_is_left_out(rt: HostRuntime) -> Result<(), Fail> {
     Ok(())
 }
 
-// Holds the first call at `Pinned` until two others are answered.
-#[derive(Drop)]
-struct Holding<C> {
-    clock: C,
-    pinned: AtomicU64,
-    answered: AtomicU64,
-    expired: AtomicU64,
-}
-
-const TURNS: u32 = 100_000;
-
-impl<C: Clock> Holding<C> {
-    fn new(clock: C) -> Holding<C> {
-        Holding {
-            clock,
-            pinned: AtomicU64::new(0),
-            answered: AtomicU64::new(0),
-            expired: AtomicU64::new(0),
-        }
-    }
-
-    // Waits until the number is as great, or the turns of a millisecond are used up.
-    fn wait_for(&self, number: &AtomicU64, least: u64) {
-        for _ in 0..TURNS {
-            if number.load(Ordering::SeqCst) >= least {
-                return;
-            }
-            thread::sleep(&self.clock, Duration::from_millis(1));
-        }
-        self.expired.store(1, Ordering::SeqCst);
-    }
-}
-
-impl<C: Clock + Sync> Gate for Holding<C> {
-    fn at(&self, point: Point) {
-        match point {
-            Point::Pinned => {
-                if self.pinned.fetch_add(1, Ordering::SeqCst) == 0 {
-                    self.wait_for(&self.answered, 2);
-                }
-            }
-            Point::Answered => {
-                self.answered.fetch_add(1, Ordering::SeqCst);
-            }
-        }
-    }
-}
-
 // A put and a fetch, once the other seat's fetch is pinned.
 fn pass_by<C: Clock + Sync>(
     rt: &impl Wait,
@@ -268,7 +179,7 @@ fn pass_by<C: Clock + Sync>(
     seat: &mut Seat,
     gate: &Holding<C>,
 ) -> Result<(), AllocError> {
-    gate.wait_for(&gate.pinned, 1);
+    gate.wait_for_pinned();
     let command = put(alloc, "s", 7)?;
     let _put = receipt(rt, alloc, hall, seat, gate, command)?;
     fetch_through(rt, alloc, hall, seat, gate)
@@ -339,18 +250,18 @@ fn fetch_beside<R: Threads + Wait + Sync, C: Clock + Sync>(
 fn a_fetch_is_held(rt: HostRuntime) -> Result<(), Fail> {
     let alloc = rt.alloc();
     let (hall, tenant) = hall(alloc)?;
-    let gate = Holding::new(rt);
+    let gate = Holding::new(rt, 2);
     let (mut one, mut two) = (hall.seat(tenant), hall.seat(tenant));
     make_query(&rt, alloc, &hall, &mut one)?;
     fetch_beside(&rt, alloc, &hall, &mut one, &mut two, &gate)?;
-    assert_eq!(rt; gate.expired.load(Ordering::SeqCst), 0);
+    assert!(rt; !gate.is_expired());
     let ended = hall.close(&[one, two])?;
     assert!(rt; have_marks(&ended.entries, MARKS));
     Ok(())
 }
 
 fn hall_at_last(alloc: Global) -> Result<(Hall<Kept>, TenantId), Unmade> {
-    match hall(alloc) {
+    match open(alloc, table_at_last(alloc)?) {
         Ok(made) => Ok(made),
         Err(_why) => hall(alloc),
     }
@@ -420,17 +331,10 @@ fn a_call_without_memory(rt: HostRuntime) -> Result<(), Fail> {
     Ok(())
 }
 
-fn bare_hall(alloc: Global) -> Result<(Hall<Bare>, TenantId), Unmade> {
-    let table = table(alloc)?;
-    let tenant = table.find("a").ok_or(Unmade::Wrong)?;
-    let hall = Hall::new(alloc, table)?;
-    Ok((hall, tenant))
-}
-
 #[test]
 fn nothing_is_kept(rt: HostRuntime) -> Result<(), Fail> {
     let alloc = rt.alloc();
-    let (hall, tenant) = bare_hall(alloc)?;
+    let (hall, tenant): (Hall<Bare>, TenantId) = open(alloc, table(alloc)?)?;
     let mut seat = hall.seat(tenant);
     let command = stream(alloc, "s")?;
     let made = receipt(&rt, alloc, &hall, &mut seat, &OpenGate, command)?;

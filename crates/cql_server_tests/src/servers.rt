@@ -2,68 +2,21 @@
 ghost use Rattle.std.specs.Prelude.{◌≡◌, All, IfOk};
 ghost use Rattle.cql_ops.specs.Bench.{IsBench};
 
-use crate::{Failure, serve};
-use cql_core::{Quotas, Tenant, TenantTable};
-use cql_hall::{Gate, OpenGate, Point};
+use crate::holding::Holding;
+use crate::made::table;
+use cql_core::TenantTable;
+use cql_hall::{Gate, OpenGate};
 use cql_ops::{Bench, DistinctOp, Operator, PlainJoin, PlainShape, SetOperation};
-use cql_value::{Name, Text};
+use cql_server::{Failure, serve};
 use cql_wire::{Line, Lines, Watched};
-use std::alloc::{AllocError, AllocFailed, Global};
+use std::alloc::{AllocError, Global};
 use std::io::ErrorKind;
 use std::net::{Net, SocketAddr, TcpListener, TcpStream};
 use std::sync::Wait;
-use std::sync::atomic::{AtomicU64, Ordering};
 use std::test::Fail;
 use std::thread::Threads;
 use std::time::{Clock, Duration};
 use std::{io, thread};
-
-const QUOTAS: Quotas = Quotas {
-    streams: 8,
-    queries: 8,
-    hold: 100,
-    result: 1000,
-};
-
-/// Why a value of a test wasn't made.
-#[derive(Debug, Drop)]
-enum Unmade {
-    NoMemory,
-    Wrong,
-}
-
-impl From<AllocError> for Unmade {
-    fn from(_error: AllocError) -> Unmade {
-        Unmade::NoMemory
-    }
-}
-
-impl<T: Drop> From<AllocFailed<T>> for Unmade {
-    fn from(_failed: AllocFailed<T>) -> Unmade {
-        Unmade::NoMemory
-    }
-}
-
-fn tenant(alloc: Global, name: &str, key: &str) -> Result<Tenant, Unmade> {
-    let name = Name::read(alloc, name).map_err(|_| Unmade::Wrong)?;
-    let key = Text::new(alloc, key)?;
-    Ok(Tenant {
-        name,
-        key,
-        quotas: QUOTAS,
-    })
-}
-
-fn tenants(alloc: Global) -> Result<Vec<Tenant>, Unmade> {
-    let mut tenants = Vec::with_capacity(alloc, 2)?;
-    tenants.push(tenant(alloc, "a", "ka")?)?;
-    tenants.push(tenant(alloc, "b", "kb")?)?;
-    Ok(tenants)
-}
-
-fn table(alloc: Global) -> Result<TenantTable, Unmade> {
-    TenantTable::new(tenants(alloc)?).map_err(|_| Unmade::Wrong)
-}
 
 fn bench(alloc: Global) -> Result<Bench, AllocError>
     ensures { IfOk result (IsBench seen_in) }
@@ -265,56 +218,6 @@ fn two_sessions(rt: HostRuntime) -> Result<(), Fail> {
     Ok(())
 }
 
-// Holds the first call at `Pinned` until a later one is answered.
-#[derive(Drop)]
-struct Holding<C> {
-    clock: C,
-    pinned: AtomicU64,
-    answered: AtomicU64,
-    expired: AtomicU64,
-}
-
-const TURNS: u32 = 100_000;
-
-impl<C: Clock> Holding<C> {
-    fn new(clock: C) -> Holding<C> {
-        Holding {
-            clock,
-            pinned: AtomicU64::new(0),
-            answered: AtomicU64::new(0),
-            expired: AtomicU64::new(0),
-        }
-    }
-
-    // Waits until the number is above `past`, or the turns of a millisecond are used up.
-    fn wait_above(&self, number: &AtomicU64, past: u64) {
-        for _ in 0..TURNS {
-            if number.load(Ordering::SeqCst) > past {
-                return;
-            }
-            thread::sleep(&self.clock, Duration::from_millis(1));
-        }
-        self.expired.store(1, Ordering::SeqCst);
-    }
-}
-
-impl<C: Clock + Sync> Gate for Holding<C> {
-    fn at(&self, point: Point) {
-        match point {
-            Point::Pinned => {
-                // Read first: once `pinned` is told, a later call may be answered at any moment.
-                let before = self.answered.load(Ordering::SeqCst);
-                if self.pinned.fetch_add(1, Ordering::SeqCst) == 0 {
-                    self.wait_above(&self.answered, before);
-                }
-            }
-            Point::Answered => {
-                self.answered.fetch_add(1, Ordering::SeqCst);
-            }
-        }
-    }
-}
-
 // The second session is served while the first one's fetch is held.
 fn side_by_side<R: Net<Stream = TcpStream> + Clock>(
     rt: &R,
@@ -326,7 +229,7 @@ fn side_by_side<R: Net<Stream = TcpStream> + Clock>(
     first.ask(r#"{"key":"ka","tenant":"a"}"#, r#"{"ok":true}"#)?;
     first.ask_all(&[MAKE, QUERY])?;
     first.send(FETCH)?;
-    gate.wait_above(&gate.pinned, 0);
+    gate.wait_for_pinned();
     call(rt, alloc, addr, OF_B)?;
     first.gets(r#"{"blocks":[],"next":0}"#)
 }
@@ -338,7 +241,7 @@ fn two_at_once(rt: HostRuntime) -> Result<(), Fail> {
     let addr = listener.local_addr()?;
     let table = table(alloc)?;
     let benches = two_benches(alloc)?;
-    let gate = Holding::new(rt);
+    let gate = Holding::new(rt, 1);
     let (done, served) = thread::join(
         &rt,
         || {
@@ -351,7 +254,7 @@ fn two_at_once(rt: HostRuntime) -> Result<(), Fail> {
         { serve_two(&rt, alloc, &listener, &table, benches, &gate) },
     );
     done?;
-    assert_eq!(rt; gate.expired.load(Ordering::SeqCst), 0);
+    assert!(rt; !gate.is_expired());
     assert!(rt; served.result.is_ok());
     assert!(rt; served.out.as_slice() == b"audit: 4 entries, 4 receipts, agreed\n".as_slice());
     Ok(())

@@ -1,46 +1,15 @@
 // Sessions over memory.
-use crate::{SessionEnd, session};
+use crate::made::{Unmade, table};
 use cql_core::TenantTable;
 use cql_hall::{Bare, Hall, Journal, Kept, OpenGate};
 use cql_ops::plain_bench;
-use cql_wire::{TenantsFault, read_tenants};
+use cql_session::{SessionEnd, session};
 use std::alloc::{AllocError, Global};
 use std::sync::Wait;
 use std::test::Fail;
 
 mod cut;
 mod memory;
-
-const TENANTS: &[u8] = b"{\"tenants\":[\
-{\"hold\":100,\"key\":\"ka\",\"name\":\"a\",\"queries\":8,\"result\":1000,\"streams\":8},\
-{\"hold\":100,\"key\":\"kb\",\"name\":\"b\",\"queries\":8,\"result\":1000,\"streams\":8}]}";
-
-/// Why a value of a test wasn't made.
-#[derive(Debug, Drop)]
-enum Unmade {
-    NoMemory,
-    Wrong,
-}
-
-impl From<AllocError> for Unmade {
-    fn from(_error: AllocError) -> Unmade {
-        Unmade::NoMemory
-    }
-}
-
-impl From<TenantsFault> for Unmade {
-    fn from(fault: TenantsFault) -> Unmade {
-        match fault {
-            TenantsFault::Refused => Unmade::Wrong,
-            TenantsFault::NoMemory => Unmade::NoMemory,
-        }
-    }
-}
-
-// The tenants a and b, whose keys are ka and kb.
-fn table(alloc: Global) -> Result<TenantTable, Unmade> {
-    Ok(read_tenants(alloc, TENANTS)?)
-}
 
 fn hall<J: Journal>(alloc: Global, table: &TenantTable) -> Result<Hall<J>, Unmade> {
     Ok(Hall::new(alloc, table.try_clone(alloc)?)?)

@@ -1,11 +1,12 @@
 // A reader that fails within a line.
 ghost use Rattle.cql_ops.specs.Bench.{IsBench};
 
-use super::{hall, table};
-use crate::{SessionEnd, session};
+use super::hall;
+use crate::made::table;
 use cql_core::{BenchOf, Operator, TenantTable};
 use cql_hall::{Hall, Kept, OpenGate};
 use cql_ops::plain_bench;
+use cql_session::{SessionEnd, session};
 use cql_wire::ScriptError;
 use std::alloc::Global;
 use std::io;

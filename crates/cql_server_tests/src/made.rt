@@ -1,0 +1,56 @@
+// Tables of tenants, and why a value of a test wasn't made.
+use cql_core::TenantTable;
+use cql_wire::{TenantsFault, read_tenants};
+use std::alloc::{AllocError, AllocFailed, Global};
+
+const TENANTS: &[u8] = b"{\"tenants\":[\
+{\"hold\":100,\"key\":\"ka\",\"name\":\"a\",\"queries\":8,\"result\":1000,\"streams\":8},\
+{\"hold\":100,\"key\":\"kb\",\"name\":\"b\",\"queries\":8,\"result\":1000,\"streams\":8}]}";
+
+// Its joined bags may have fewer rows.
+const OTHERS: &[u8] = b"{\"tenants\":[\
+{\"hold\":100,\"key\":\"ka\",\"name\":\"a\",\"queries\":8,\"result\":10,\"streams\":8}]}";
+
+/// Why a value of a test wasn't made.
+#[derive(Debug, Drop)]
+pub(crate) enum Unmade {
+    NoMemory,
+    Wrong,
+}
+
+impl From<AllocError> for Unmade {
+    fn from(_error: AllocError) -> Unmade {
+        Unmade::NoMemory
+    }
+}
+
+impl<T: Drop> From<AllocFailed<T>> for Unmade {
+    fn from(_failed: AllocFailed<T>) -> Unmade {
+        Unmade::NoMemory
+    }
+}
+
+impl From<TenantsFault> for Unmade {
+    fn from(fault: TenantsFault) -> Unmade {
+        match fault {
+            TenantsFault::Refused => Unmade::Wrong,
+            TenantsFault::NoMemory => Unmade::NoMemory,
+        }
+    }
+}
+
+// The tenants a and b, whose keys are ka and kb.
+pub(crate) fn table(alloc: Global) -> Result<TenantTable, Unmade> {
+    Ok(read_tenants(alloc, TENANTS)?)
+}
+
+pub(crate) fn table_at_last(alloc: Global) -> Result<TenantTable, Unmade> {
+    match table(alloc) {
+        Ok(table) => Ok(table),
+        Err(_why) => table(alloc),
+    }
+}
+
+pub(crate) fn other_table(alloc: Global) -> Result<TenantTable, Unmade> {
+    Ok(read_tenants(alloc, OTHERS)?)
+}

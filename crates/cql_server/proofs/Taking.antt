@@ -5,6 +5,7 @@ use Rattle.std.specs.List.{filter_map, cons_option}
 use Rattle.std.proofs.Math.Nat.{zero-add}
 use Rattle.std.proofs.lemmas.List.Elements.{filter_map-append}
 use Rattle.std.proofs.lemmas.List.Sums.{sum_by-cons}
+use Rattle.cql_tenants.specs.declared.tenants.Tenant.{Tenant}
 use Rattle.cql_hall.specs.declared.lobby.Seat.{Seat}
 use Rattle.cql_hall.specs.declared.lobby.Receipt.{Receipt}
 use Rattle.cql_hall.specs.Audit.{Heard, heard, in_order}
@@ -51,9 +52,9 @@ on_ok (Ok x) P p = p
 on_ok (Err e) P p = tt
 
 -- where receipts agree with a journal of as many entries as the seats have counted, each entry is one receipt's call
-pub agreed_once : {T E : Type 0} (r : Result T E) (ends : List Ending) (lists : List (List Receipt)) (seats : List Seat) (many : ℕ) → lists ≡ map (λ e. e.receipts.items) ends → seats ≡ filter_map (λ e. e.seat) ends → Agreed (in_order 0 lists) many → sum_by (λ s. s.count) seats ≡ many → OnOk r (AgreedOnce (in_order 0 (map (λ e. e.receipts.items) ends)))
-agreed_once r ends lists seats many same from agreed counted =
+pub agreed_once : {T E : Type 0} (r : Result T E) (table : List Tenant) (ends : List Ending) (lists : List (List Receipt)) (seats : List Seat) (many : ℕ) → lists ≡ map (λ e. e.receipts.items) ends → seats ≡ filter_map (λ e. e.seat) ends → Agreed table (in_order 0 lists) many → sum_by (λ s. s.count) seats ≡ many → OnOk r (AgreedOnce table (in_order 0 (map (λ e. e.receipts.items) ends)))
+agreed_once r table ends lists seats many same from agreed counted =
     let hs = in_order 0 (map (λ e. e.receipts.items) ends) in
-    let a = subst (λ l. Agreed (in_order 0 l) many) same agreed in
+    let a = subst (λ l. Agreed table (in_order 0 l) many) same agreed in
     let all = placed_counted 0 ends ∙ ap (sum_by (λ s. s.count)) (sym from) ∙ counted ∙ sym a.entries in
-    on_ok r (AgreedOnce hs) (record { journal = a.journal; legal = a.legal; agree = a.agree; once = has_each_call_once a.journal hs a.legal a.agree all })
+    on_ok r (AgreedOnce table hs) (record { journal = a.journal; opens = a.opens; legal = a.legal; agree = a.agree; once = has_each_call_once a.journal hs a.legal a.agree all })

@@ -26,8 +26,8 @@ impl Drop for Heard {
 }
 
 /// Closes the hall of these sessions, which has to be the table's, audits what they were told, and
-/// writes the line of an audit
-/// that agreed. Then each entry of the hall's journal is the call of one receipt.
+/// writes the line of an audit that agreed. Then all receipts agree with a legal journal that opens
+/// on the table, and each entry of it is the call of one receipt.
 pub(crate) fn close_and_audit<W: Write>(
     alloc: Global,
     out: &mut W,
@@ -35,7 +35,7 @@ pub(crate) fn close_and_audit<W: Write>(
     hall: Hall<Kept>,
     ends: Vec<Ending>,
 ) -> Result<(), Failure>
-    ensures { OnOk result (AgreedOnce (in_order 0 (map (λ e. e.receipts.items) ends.items))) }
+    ensures { OnOk result (AgreedOnce table.now (in_order 0 (map (λ e. e.receipts.items) ends.items))) }
 {
     let heard = heard_of(alloc, ends)?;
     let receipts = placed(&heard.lists);
@@ -90,7 +90,7 @@ fn agree(
     seats: &[Seat],
     lists: &[Vec<Receipt>],
 ) -> Result<usize, Failure>
-    ensures agreed { IfOk result (Agreed (in_order 0 (map (λ list. list.items) lists.now))) }
+    ensures agreed { IfOk result (Agreed table.now (in_order 0 (map (λ list. list.items) lists.now))) }
     ensures counted { IfOk result (λ many. sum_by (λ s. s.count) seats.now ≡ many) }
 {
     let ended = match hall.close(seats) {

@@ -1,10 +1,8 @@
 use denote.Param.{param}
-use denote.RattleType.{RattleType}
 use denote.Param.Send.{IsSend, IsSync, sendable}
 use Rattle.std.proofs.Crossing.{crosses}
 use Rattle.std.proofs.alloc.Global.TheSendSync as heap
 use Rattle.cql_hall.proofs.Crosses.{hall_sync}
-use Rattle.cql_hall.specs.declared.journal.Journal.{Ghosts}
 use Rattle.cql_hall.specs.contracts.lobby.Hall as hall_type
 use Rattle.cql_server.specs.contracts.workers.Worker as worker_type
 use Rattle.cql_server.proofs.Crosses.{ending_row_send, worker_row_send, sockets_sync, table_sync}

@@ -1,4 +1,4 @@
-use Rattle.std.proofs.Common.{All, subst, sym, ◌++◌, ◌∷◌, []}
+use Rattle.std.proofs.Common.{All, subst, sym}
 use Rattle.std.proofs.lemmas.List.Elements.{All-rest, All-head, All-push}
 use Rattle.std.specs.Vec.Iter.{into_iter_items}
 use Rattle.cql_ops.specs.Bench.{IsBench}

@@ -1,4 +1,3 @@
-use Rattle.std.proofs.Common.{◌≡◌}
 use Rattle.cql_ops.specs.Bench.{IsBench}
 use Rattle.cql_server.proofs.workers.Worker.work.Given as goal
 

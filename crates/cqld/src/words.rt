@@ -5,7 +5,7 @@ use clap::{Arg, ArgAction, Command, Error};
 use std::alloc::Global;
 
 /// What is served, and how.
-#[derive(Clone, Copy, Debug, PartialEq, Eq)]
+#[derive(Clone, Copy, Debug)]
 pub struct Config {
     /// The port of 127.0.0.1; at 0 the system chooses one.
     pub port: u16,
@@ -56,96 +56,4 @@ pub fn read_words(alloc: Global, words: &[String]) -> Result<Config, Error>
         sessions: matches.get_one::<u16>("sessions").unwrap_or(0),
         audit: matches.get_flag("audit"),
     })
-}
-
-#[cfg(test)]
-mod tests {
-    use super::*;
-    use clap::error::ErrorKind;
-    use std::alloc::AllocError;
-    use std::test::Fail;
-
-    fn words_of(alloc: Global, words: &[&str]) -> Result<Vec<String>, AllocError> {
-        let mut all = Vec::new(alloc);
-        for word in words {
-            all.push(String::from_str(alloc, word)?)?;
-        }
-        Ok(all)
-    }
-
-    #[test]
-    fn has_defaults(rt: HostRuntime) -> Result<(), Fail> {
-        let alloc = rt.alloc();
-        let words = words_of(alloc, &["cqld"])?;
-        let config = read_words(alloc, words.as_slice())?;
-        let wanted = Config {
-            port: 0,
-            workers: 4,
-            sessions: 0,
-            audit: false,
-        };
-        assert!(rt; config == wanted);
-        Ok(())
-    }
-
-    #[test]
-    fn reads_each(rt: HostRuntime) -> Result<(), Fail> {
-        let alloc = rt.alloc();
-        let words = [
-            "cqld",
-            "--port=65535",
-            "--workers",
-            "64",
-            "--sessions",
-            "65535",
-            "--audit",
-        ];
-        let words = words_of(alloc, &words)?;
-        let config = read_words(alloc, words.as_slice())?;
-        let wanted = Config {
-            port: 65535,
-            workers: 64,
-            sessions: 65535,
-            audit: true,
-        };
-        assert!(rt; config == wanted);
-        Ok(())
-    }
-
-    /// What it says to one word, or to an option and its value.
-    fn said(alloc: Global, words: &[&str]) -> Result<Option<Error>, AllocError> {
-        let words = words_of(alloc, words)?;
-        Ok(read_words(alloc, words.as_slice()).err())
-    }
-
-    #[test]
-    fn refuses(rt: HostRuntime) -> Result<(), Fail> {
-        let alloc = rt.alloc();
-        for (option, value) in [
-            ("--workers", "0"),
-            ("--workers", "65"),
-            ("--port", "65536"),
-            ("--port", ""),
-            ("--sessions", "65536"),
-            ("--sessions", "-1"),
-            ("--join", "plain"),
-            ("--audit", "x"),
-        ] {
-            let Some(error) = said(alloc, &["cqld", option, value])? else {
-                return Err(Fail::from("taken"));
-            };
-            assert!(rt; error.exit_code() == 2, "{option} {value}");
-        }
-        Ok(())
-    }
-
-    #[test]
-    fn helps(rt: HostRuntime) -> Result<(), Fail> {
-        let Some(error) = said(rt.alloc(), &["cqld", "--help"])? else {
-            return Err(Fail::from("taken"));
-        };
-        assert!(rt; error.kind() == ErrorKind::DisplayHelp);
-        assert!(rt; !error.use_stderr());
-        Ok(())
-    }
 }

@@ -21,39 +21,55 @@ pub struct Config {
 pub fn read_words(alloc: Global, words: &[String]) -> Result<Config, Error>
     ensures workers { IfOk result (λ c. (1 ≤ c.workers) × (c.workers ≤ 64)) }
 {
-    let port = Arg::new(alloc, "port")
-        .long("port")
-        .value_name("N")
-        .value_parser(clap::value_parser!(u16))
-        .default_value("0")
-        .help("The port of 127.0.0.1, or 0 for one that the system chooses");
-    let workers = Arg::new(alloc, "workers")
-        .long("workers")
-        .value_name("N")
-        .value_parser(clap::value_parser!(u8).range(1..=64))
-        .default_value("4")
-        .help("How many sessions are served at once, 1 to 64");
-    let sessions = Arg::new(alloc, "sessions")
-        .long("sessions")
-        .value_name("N")
-        .value_parser(clap::value_parser!(u16))
-        .default_value("0")
-        .help("How many sessions are served in all, or 0 for no end");
-    let audit = Arg::new(alloc, "audit")
-        .long("audit")
-        .action(ArgAction::SetTrue)
-        .help("Keep each call, and check them after the last session");
-    let command = Command::new(alloc, "cqld")
-        .about("Serves continuous queries to the tenants of the first line of standard input")
-        .arg(port)?
-        .arg(workers)?
-        .arg(sessions)?
-        .arg(audit)?;
-    let matches = command.try_get_matches_from(words)?;
+    let matches = command(alloc)?.try_get_matches_from(words)?;
     Ok(Config {
         port: matches.get_one::<u16>("port").unwrap_or(0),
         workers: matches.get_one::<u8>("workers").unwrap_or(4).clamp(1, 64),
         sessions: matches.get_one::<u16>("sessions").unwrap_or(0),
         audit: matches.get_flag("audit"),
     })
+}
+
+fn command<'a>(alloc: Global) -> Result<Command<'a>, Error> {
+    let command = Command::new(alloc, "cqld").about(
+        "Serves continuous queries to the tenants of the first line of standard input",
+    );
+    let command = command.arg(port(alloc))?;
+    let command = command.arg(workers(alloc))?;
+    let command = command.arg(sessions(alloc))?;
+    Ok(command.arg(audit(alloc))?)
+}
+
+fn port<'a>(alloc: Global) -> Arg<'a> {
+    Arg::new(alloc, "port")
+        .long("port")
+        .value_name("N")
+        .value_parser(clap::value_parser!(u16))
+        .default_value("0")
+        .help("The port of 127.0.0.1, or 0 for one that the system chooses")
+}
+
+fn workers<'a>(alloc: Global) -> Arg<'a> {
+    Arg::new(alloc, "workers")
+        .long("workers")
+        .value_name("N")
+        .value_parser(clap::value_parser!(u8).range(1..=64))
+        .default_value("4")
+        .help("How many sessions are served at once, 1 to 64")
+}
+
+fn sessions<'a>(alloc: Global) -> Arg<'a> {
+    Arg::new(alloc, "sessions")
+        .long("sessions")
+        .value_name("N")
+        .value_parser(clap::value_parser!(u16))
+        .default_value("0")
+        .help("How many sessions are served in all, or 0 for no end")
+}
+
+fn audit<'a>(alloc: Global) -> Arg<'a> {
+    Arg::new(alloc, "audit")
+        .long("audit")
+        .action(ArgAction::SetTrue)
+        .help("Keep each call, and check them after the last session")
 }

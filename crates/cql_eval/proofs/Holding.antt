@@ -1,26 +1,22 @@
 -- Walks over the windows of a pin, and the bags of what they hold.
-use Rattle.std.proofs.Common.{◌≡◌, ℕ, zero, suc, ◌+◌, ◌≤◌, ◌<◌, List, [], ◌∷◌, ◌++◌, length, get_or, set, take, drop, drop-cons, map, Bool, true, false, refl, sym, ap, subst, ◌∙◌, arith, append_assoc, length-append, set-set, get_or-set_same}
-use Rattle.std.specs.List.{AllByRecursion, All}
-use Rattle.std.specs.List.Sorted.{IsPermutation}
+use Rattle.std.proofs.Common.{◌≡◌, ℕ, zero, suc, ◌+◌, ◌≤◌, ◌<◌, List, [], ◌∷◌, ◌++◌, length, get_or, set, take, drop, drop-cons, map, Bool, refl, sym, ap, subst, ◌∙◌, arith, append_assoc, length-append, set-set, get_or-set_same}
+use Rattle.std.specs.List.{AllByRecursion}
 use Rattle.std.proofs.lemmas.List.{set-get_or, append-nil}
 use Rattle.std.proofs.lemmas.List.Elements.{recursion_from_All, All-from_recursion}
 use Rattle.std.proofs.lemmas.List.Sorted.{All-permutation}
 use Rattle.cql_value.specs.declared.schema.ColumnType.{ColumnType}
 use Rattle.cql_value.specs.Element.{Element}
 use Rattle.cql_value.specs.Schema.{HasTypes}
-use Rattle.cql_window.specs.Laws.{between}
 use Rattle.cql_window.specs.Pin.{Pinned}
 use Rattle.cql_window.specs.Walk.{Walked, IsExchange, IsSegment}
-use Rattle.cql_window.specs.Window.{content}
 use Rattle.cql_bag.specs.Bag.{Counts, bag_of}
 use Rattle.cql_bag.specs.Changes.{changed, changed_by, CanChangeBy, change_of}
 use Rattle.cql_plan.specs.declared.plan.Input.{Input}
-use Rattle.cql_plan.specs.declared.plan.Planned.{Planned}
 use Rattle.cql_plan.specs.Ports.{ports}
 use Rattle.cql_algebra.specs.Ports.{port_of, no_rows}
 use Rattle.cql_ops.specs.Bench.{BenchSeen}
 use Rattle.cql_ops.specs.Seen.{columns_at}
-use Rattle.cql_ops.specs.Running.{RunsPlan, contents_of, told_of, CanCome, IsPushed}
+use Rattle.cql_ops.specs.Running.{RunsPlan, contents_of, told_of, IsPushed}
 use Rattle.cql_out.specs.declared.relation.Relation.{Relation}
 use Rattle.cql_eval.specs.Pin.{PinSeen, AreOf, AreWindowsOf}
 use Rattle.cql_eval.specs.Relation.{held_at, bags_at, relation_at}

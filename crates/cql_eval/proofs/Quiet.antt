@@ -1,5 +1,5 @@
 -- Where nothing changes, and the instants at which something may.
-use Rattle.std.proofs.Common.{◌≡◌, ℕ, zero, suc, ◌+◌, ◌-◌, ◌≤◌, ◌<◌, List, [], ◌∷◌, ◌++◌, ◌*◌, length, get_or, true, false, cond, nat_lt, ◌⊎◌, inl, inr, refl, sym, ap, ◌∙◌, subst, arith, Result, Ok, Err}
+use Rattle.std.proofs.Common.{◌≡◌, ℕ, zero, suc, ◌+◌, ◌-◌, ◌≤◌, ◌<◌, List, [], ◌∷◌, ◌++◌, length, get_or, true, false, cond, nat_lt, ◌⊎◌, inl, inr, refl, sym, ap, ◌∙◌, subst, arith, Result}
 use Rattle.std.specs.List.{All, AllByRecursion, Contains}
 use Rattle.std.specs.List.Sorted.{IsStrictlyIncreasing}
 use Rattle.std.proofs.lemmas.Bool.Decides.{nat_tests}
@@ -7,7 +7,6 @@ use Rattle.std.proofs.lemmas.List.Elements.{recursion_from_All, Contains-append_
 use Rattle.cql_window.specs.Pin.{Pinned}
 use Rattle.cql_window.specs.Window.{HasSameContent}
 use Rattle.cql_plan.specs.declared.fault.Fault.{Fault as TheFault}
-use Rattle.cql_plan.specs.declared.plan.OutputKind.{OutputKind}
 use Rattle.cql_plan.specs.declared.plan.OutputKind.TheVariants.{Rstream}
 use Rattle.cql_algebra.specs.PlanValue.{plan_value}
 use Rattle.cql_bag.specs.Bag.{Counts, bag_of}

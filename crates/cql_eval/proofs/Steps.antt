@@ -1,5 +1,5 @@
 -- From what is shown at one cursor to what is shown at a later one.
-use Rattle.std.proofs.Common.{◌≡◌, ℕ, ◌<◌, [], sym, ap, subst, ◌∙◌, Ok, Err}
+use Rattle.std.proofs.Common.{◌≡◌, ℕ, ◌<◌, sym, ap, subst, ◌∙◌, Ok, Err}
 use Rattle.cql_algebra.specs.PlanValue.{plan_value}
 use Rattle.cql_bag.specs.Changes.{changed_by, CanChangeBy}
 use Rattle.cql_ops.specs.Bench.{BenchSeen}

@@ -1,5 +1,5 @@
 -- What is shown of a pin as its windows are walked over.
-use Rattle.std.specs.Prelude.{◌≡◌, ◌≢◌, ℕ, ◌+◌, ◌≤◌, ◌<◌, Bool, List, [], ◌∷◌, ◌++◌, length, map, max, if◌then◌else◌, slice_set}
+use Rattle.std.specs.Prelude.{◌≡◌, ℕ, ◌+◌, ◌≤◌, ◌<◌, Bool, List, [], ◌∷◌, ◌++◌, map, max, if◌then◌else◌, slice_set}
 use Rattle.std.specs.List.{AllByRecursion}
 use Rattle.cql_value.specs.declared.schema.ColumnType.{ColumnType}
 use Rattle.cql_value.specs.declared.value.Value.{Value}
@@ -13,7 +13,6 @@ use Rattle.cql_bag.specs.declared.change.Change.{Change}
 use Rattle.cql_plan.specs.declared.plan.OutputKind.{OutputKind}
 use Rattle.cql_plan.specs.declared.plan.OutputKind.TheVariants.{Rstream}
 use Rattle.cql_plan.specs.Ports.{ports}
-use Rattle.cql_algebra.specs.Ports.{port_of}
 use Rattle.cql_ops.specs.Bench.{BenchSeen}
 use Rattle.cql_ops.specs.Running.{RunsPlan, contents_of, told_of}
 use Rattle.cql_ops.specs.declared.running.Outcome.{Outcome}

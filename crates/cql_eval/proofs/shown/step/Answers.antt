@@ -1,9 +1,9 @@
-use Rattle.std.proofs.Common.{◌≡◌, ℕ, sym, ap, subst, ◌∙◌, arith}
+use Rattle.std.proofs.Common.{◌≡◌, sym, ap, subst, ◌∙◌, arith}
 use Rattle.cql_ops.specs.Bench.{BenchSeen, bench_seen}
 use Rattle.cql_ops.specs.Running.{IsOutcome}
 use Rattle.cql_out.specs.ByKind.{output_of}
 use Rattle.cql_eval.specs.Relation.{relation_at}
-use Rattle.cql_eval.specs.Shown.{IsReady, IsShown, StandsFor, LeadsTo, told_before}
+use Rattle.cql_eval.specs.Shown.{IsReady, StandsFor, LeadsTo, told_before}
 use Rattle.cql_eval.proofs.Holding.{later_ready}
 use Rattle.cql_eval.proofs.Steps.{leads_to}
 use Rattle.cql_bag.specs.Changes.{changed_by}

@@ -1,4 +1,4 @@
-use Rattle.std.proofs.Common.{◌≡◌, ◌++◌, true, false, sym, ap, subst, ◌∙◌, arith}
+use Rattle.std.proofs.Common.{◌≡◌, ◌++◌, true, false, sym, subst, ◌∙◌, arith}
 use Rattle.cql_plan.specs.Ports.{ports}
 use Rattle.cql_algebra.specs.Ports.{port_of}
 use Rattle.cql_bag.specs.Bag.{bag_of}
@@ -7,7 +7,7 @@ use Rattle.cql_ops.specs.Bench.{BenchSeen, bench_seen}
 use Rattle.cql_ops.specs.Seen.{columns_at}
 use Rattle.cql_ops.specs.Running.{contents_of}
 use Rattle.cql_eval.specs.Pin.{AreOf}
-use Rattle.cql_eval.specs.Shown.{rows_of, changes_of, HasPushed}
+use Rattle.cql_eval.specs.Shown.{rows_of, changes_of}
 use Rattle.cql_eval.proofs.Exchange.{Exchanged, can_come, window_moved}
 use Rattle.cql_eval.proofs.Holding.{came_columns, exchange_columns, left_columns, now_columns, port_after, pushed_both}
 use Rattle.cql_eval.proofs.walks.advance_one.Goals as goal

@@ -1,4 +1,4 @@
-use Rattle.std.proofs.Common.{◌≡◌, All}
+use Rattle.std.proofs.Common.{All}
 use Rattle.cql_ops.specs.Bench.{IsBench}
 use Rattle.cqld.proofs.benches.benches_of.Given as goal
 

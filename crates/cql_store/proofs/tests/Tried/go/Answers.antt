@@ -1,4 +1,4 @@
-use Rattle.std.proofs.Common.{rules, ◌≡◌, ℕ, ◌≤◌, length, true, Option, Some, None, IfSome, refl, arith}
+use Rattle.std.proofs.Common.{rules, ◌≡◌, ℕ, ◌≤◌, length, Option, Some, None, IfSome, refl, arith}
 use Rattle.std.specs.Prelude.{IsSomeAnd}
 use Rattle.cql_store.proofs.Next.{advanced_from}
 use Rattle.cql_store.specs.Held.{Held, Stubs, stub_of, Updates, CanAdvance, advanced}

@@ -1,2 +1,4 @@
-pub mod Status
 pub mod Agreed
+pub mod Asked
+pub mod Status
+pub mod Tallies

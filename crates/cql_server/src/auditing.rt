@@ -2,7 +2,7 @@
 ghost use Rattle.std.specs.Prelude.{◌≡◌, ◌≤◌, map, length, sum_by, IfOk, OnOk};
 ghost use Rattle.std.specs.List.{filter_map};
 ghost use Rattle.cql_hall.specs.Audit.{in_order};
-ghost use Rattle.cql_session.specs.Tallies.{placed};
+ghost use Rattle.cql_server.specs.Tallies.{placed};
 ghost use Rattle.cql_server.specs.Agreed.{Agreed, AgreedOnce};
 
 use crate::ending::Ending;

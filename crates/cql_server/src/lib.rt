@@ -1,14 +1,20 @@
-//! Threads that serve the callers of a listener, each session over one core, and the audit of what
-//! they were told.
+//! Sessions of callers over any reader and writer, threads that serve the callers of a listener,
+//! each session over one core, and the audit of what they were told.
 #![tactic(auto)]
 
+mod asked;
 mod auditing;
+mod benches;
+mod caller;
 mod ending;
 mod failure;
+mod login;
 mod serving;
+mod sessions;
 mod tables;
 mod workers;
 
-pub use cql_session::{SessionEnd, session};
+pub use benches::benches_of;
 pub use failure::Failure;
 pub use serving::serve;
+pub use sessions::{SessionEnd, session};

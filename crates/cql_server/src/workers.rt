@@ -5,9 +5,9 @@ ghost use Rattle.cql_server.specs.declared.failure.Failure.TheVariants as failur
 
 use crate::ending::Ending;
 use crate::failure::Failure;
+use crate::sessions::session;
 use cql_core::{BenchOf, Operator, TenantTable};
 use cql_hall::{Gate, Hall, Journal};
-use cql_session::session;
 use crossbeam_channel::Receiver;
 use std::alloc::{AllocError, Global};
 use std::net::TcpStream;

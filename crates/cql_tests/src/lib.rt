@@ -1,5 +1,5 @@
-//! Tests of the reader, the typing and the core through their public items: what no script of lines
-//! can show.
+//! Tests of the reader, the typing, the core and runs of scripts through their public items: what no
+//! script of lines can show.
 #![tactic(auto)]
 
 #[cfg(test)]
@@ -16,6 +16,8 @@ mod outputs;
 mod pins;
 #[cfg(test)]
 mod reading;
+#[cfg(test)]
+mod runs;
 #[cfg(test)]
 mod scripts;
 #[cfg(test)]

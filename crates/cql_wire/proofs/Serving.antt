@@ -8,7 +8,7 @@ use Rattle.cql_meaning.specs.Law.{IsFetchLaw}
 use Rattle.cql_core.specs.Language.{cql}
 use Rattle.cql_wire.specs.declared.fault.LineFault.{LineFault}
 use Rattle.cql_wire.specs.declared.fault.LineFault.TheVariants.{BadLine, BadCommand, BadKey, WrongKey, UnknownTenant, NoMemory}
-use Rattle.cql_wire.specs.declared.watched.WriteFault.{WriteFault}
+use Rattle.cql_lines.specs.declared.watched.WriteFault.{WriteFault}
 use Rattle.cql_wire.specs.Asked.{Asked}
 use Rattle.cql_wire.specs.Fault.{Means}
 use Rattle.cql_wire.specs.Gathered.{Gathers, GathersReply}

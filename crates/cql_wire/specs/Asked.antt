@@ -6,7 +6,7 @@ use Rattle.cql_tenants.specs.Tenants.{place_of}
 use Rattle.cql_wire.specs.declared.fault.LineFault.{LineFault}
 use Rattle.cql_wire.specs.declared.fault.LineFault.TheVariants.{BadLine, BadKey, UnknownTenant}
 use Rattle.cql_wire.specs.Command.{command_of}
-use Rattle.cql_wire.specs.Text.{LineText, whole, too_long}
+use Rattle.cql_lines.specs.Text.{LineText, whole, too_long}
 
 -- a command of the tenant at a place of the table; or a fault
 abbrev pub Asked : Type 0

@@ -127,5 +127,5 @@ of_data None = Err BadLine
 of_data (Some d) = if is_some (as_object d) then of_object d else Err BadLine
 
 -- what a line says: the tenant that it names, if any, and the command
-abbrev pub command_of : List ℕ → Result (Option (List ℕ) × Command) LineFault
+unfoldable pub command_of : List ℕ → Result (Option (List ℕ) × Command) LineFault
 command_of line = of_data (tree_of line)

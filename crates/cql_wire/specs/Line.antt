@@ -19,7 +19,7 @@ use Rattle.cql_meaning.specs.Refusal as refusal
 use Rattle.cql_meaning.specs.Told.{Told, Done, Based, Blocks, Listed, Refused, no_memory}
 use Rattle.cql_wire.specs.declared.fault.LineFault.{LineFault}
 use Rattle.cql_wire.specs.Fault as fault
-use Rattle.cql_wire.specs.Watched.{Grows}
+use Rattle.cql_lines.specs.Watched.{Grows}
 
 -- ---- lists
 

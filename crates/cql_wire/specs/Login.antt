@@ -28,7 +28,7 @@ login_in table d = if has_only login_keys d then of_members else None
     of_members = option_and_then (λ name. option_and_then (λ key. login_with table name key) (text_at (codes "key") d)) (text_at (codes "tenant") d)
 
 -- the place of the tenant that a line logs in, if it is a login
-abbrev pub login_of : List Tenant → List ℕ → Option ℕ
+unfoldable pub login_of : List Tenant → List ℕ → Option ℕ
 login_of table line = option_and_then (login_in table) (tree_of line)
 
 -- the result is what is wanted, and 13 where nothing is, unless memory was refused

@@ -36,7 +36,7 @@ abbrev pub tenants_of : Data → Option (List Tenant)
 tenants_of d = if has_only (codes "tenants" ∷ []) d then option_and_then (all_of tenant_of) (array_at (codes "tenants") d) else None
 
 -- the tenants of a line, where they are a table
-abbrev pub table_of : List ℕ → Option (List Tenant)
+unfoldable pub table_of : List ℕ → Option (List Tenant)
 table_of line = option_and_then (λ tenants. if is_table tenants then Some tenants else None) (option_and_then tenants_of (tree_of line))
 
 -- the result is what is wanted, and a refusal where nothing is, unless memory was refused

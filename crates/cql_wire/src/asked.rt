@@ -1,12 +1,12 @@
 //! What a line of a script asks.
 ghost use Rattle.cql_wire.specs.Asked.{asked_of};
 ghost use Rattle.cql_wire.specs.Fault.{Means};
-ghost use Rattle.cql_wire.specs.Next.{text_of};
+ghost use Rattle.cql_lines.specs.Next.{text_of};
 
 use crate::command::read_command;
 use crate::fault::LineFault;
-use crate::lines::Line;
 use cql_core::{Command, TenantId, TenantTable};
+use cql_lines::Line;
 use std::alloc::Global;
 
 /// The command of a line, and the tenant of the table that it is for.

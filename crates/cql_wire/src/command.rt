@@ -243,6 +243,7 @@ fn of_tree(alloc: Global, tree: &Json) -> Result<(Option<Text>, Command), LineFa
 /// In this order: `BadLine` (10) where the line isn't the UTF-8 text of one JSON object,
 /// `BadCommand` (11) where its key `do` is missing or no word of a command, `BadKey` (12) where
 /// another key is missing, unknown or of another kind. `NoMemory` (70) may be told of any line.
+#[tactic(auto, unfolding(crate::specs::Command::command_of))]
 pub fn read_command(alloc: Global, line: &[u8]) -> Result<(Option<Text>, Command), LineFault>
     ensures { Means (command_of line.now) result }
 {

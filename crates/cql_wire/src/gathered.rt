@@ -5,14 +5,14 @@ ghost use Rattle.cql_core.specs.Steps.{told_of};
 ghost use Rattle.cql_meaning.specs.Told.{Blocks, Listed};
 ghost use Rattle.cql_wire.specs.Gathered.{Gathers, GathersReply};
 ghost use Rattle.cql_wire.specs.Line.{fault_line};
-ghost use Rattle.cql_wire.specs.Watched.{inner_of, has_failed, Grows};
+ghost use Rattle.cql_lines.specs.Watched.{inner_of, has_failed, Grows};
 
 use crate::fault::LineFault;
 use crate::reply::listing::listing_line;
 use crate::reply::{blocks_line, write_fault, write_reply};
-use crate::watched::{Watched, WriteFault};
 use arrayvec::ArrayVec;
 use cql_core::{Listing, Reply};
+use cql_lines::{Watched, WriteFault};
 use cql_out::Block;
 use std::alloc::{AllocError, Global};
 use std::io::Write;

@@ -76,6 +76,7 @@ fn login_in(table: &TenantTable, tree: &Json) -> Option<TenantId>
 ///
 /// The time that a wrong key takes doesn't depend on how much of it is right. A wrong tenant takes
 /// less time than a wrong key: names aren't secret.
+#[tactic(auto, unfolding(crate::specs::Login::login_of))]
 pub fn read_login(alloc: Global, line: &[u8], table: &TenantTable) -> Result<TenantId, LineFault>
     ensures { LogsIn (login_of table.now line.now) result }
 {

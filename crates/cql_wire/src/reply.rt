@@ -3,7 +3,7 @@ ghost use Rattle.std.specs.Prelude.{◌≡◌, ◌++◌, ◌||◌, is_err, flat_
 ghost use Rattle.std.specs.Io.KnownBytes.{Appends};
 ghost use Rattle.json.specs.Print.{quoted};
 ghost use Rattle.cql_meaning.specs.Told.{Done, Based, Blocks, Listed, Refused};
-ghost use Rattle.cql_wire.specs.Watched.{inner_of, has_failed, Grows};
+ghost use Rattle.cql_lines.specs.Watched.{inner_of, has_failed, Grows};
 ghost use Rattle.cql_wire.specs.Line.{value_text, row_text, rows_text, fault_word, block_text, blocks_text, refused_line, refused_at_line, told_line, fault_line, AppendsEither, GrowsEither, AppendsReply, GrowsReply};
 ghost use Rattle.cql_core.specs.Steps.{told_of};
 
@@ -11,8 +11,8 @@ pub(crate) mod listing;
 
 use self::listing::listing_line;
 use crate::fault::LineFault;
-use crate::watched::{Watched, WriteFault};
 use cql_core::{Listing, Refusal, Reply};
+use cql_lines::{Watched, WriteFault};
 use cql_out::{Block, Output};
 use cql_plan::Fault;
 use cql_value::{Row, Value};

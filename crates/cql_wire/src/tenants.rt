@@ -111,6 +111,7 @@ fn all_tenants(alloc: Global, items: &[Json]) -> Result<Vec<Tenant>, TenantsFaul
 /// (rows, 1 to 65,536), `key` (a text of 1 to 64 bytes), `name` (a name, no two equal), `queries`
 /// (0 to 64), `result` (rows, 1 to 65,536) and `streams` (0 to 64). `NoMemory` may be told of any
 /// line.
+#[tactic(auto, unfolding(crate::specs::Table::table_of))]
 pub fn read_tenants(alloc: Global, line: &[u8]) -> Result<TenantTable, TenantsFault>
     ensures { Gives (table_of line.now) result }
 {

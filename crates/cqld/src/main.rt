@@ -4,26 +4,22 @@
 ghost use Rattle.std.specs.Prelude.{All};
 ghost use Rattle.cql_ops.specs.Bench.{IsBench};
 
-mod benches;
 mod operators;
-mod words;
 
-use benches::benches_of;
 use clap::error::ErrorKind;
 use cql_core::{Bench, Operator, TenantTable};
 use cql_hall::OpenGate;
-use cql_server::{Failure, serve};
-use cql_wire::{FirstFault, TenantsFault, Watched, first_line, read_tenants};
+use cql_server::{Failure, benches_of, serve};
+use cql_wire::{TableFault, Watched, first_table};
+use cql_words::{Config, read_words};
 use operators::Operators;
 use std::alloc::Global;
-use std::io::Read;
 use std::net::{Net, TcpListener, TcpStream};
 use std::process::ExitCode;
 use std::sync::Wait;
 use std::thread::Threads;
 use std::time::Clock;
 use std::{env, io};
-use words::{Config, read_words};
 
 fn main(rt: HostRuntime) -> ExitCode {
     let config = match config_of(&rt) {
@@ -84,7 +80,7 @@ where
     if config.audit && config.sessions == 0 {
         return Err(Failure::NoSessions);
     }
-    let table = tenants(alloc, &mut Watched::new(rt.reader()))?;
+    let table = first_table(alloc, &mut Watched::new(rt.reader())).map_err(failure_of)?;
     let mut lists = Vec::new(alloc);
     for _ in 0..config.workers {
         let mut boxes: Vec<Box<dyn Operator + Send>> = Vec::new(alloc);
@@ -117,18 +113,12 @@ where
     listen(rt, alloc, config, &table, benches)
 }
 
-/// The tenants of the first line.
-fn tenants<R: Read>(alloc: Global, reader: &mut Watched<R>) -> Result<TenantTable, Failure> {
-    let line = match first_line(alloc, reader) {
-        Ok(line) => line,
-        Err(FirstFault::TooLong) => return Err(Failure::Tenants),
-        Err(FirstFault::Read) => return Err(Failure::Reading),
-        Err(FirstFault::NoMemory) => return Err(Failure::NoMemory),
-    };
-    match read_tenants(alloc, line.as_slice()) {
-        Ok(table) => Ok(table),
-        Err(TenantsFault::Refused) => Err(Failure::Tenants),
-        Err(TenantsFault::NoMemory) => Err(Failure::NoMemory),
+// Why no table of tenants was told, as the failure of the server.
+fn failure_of(fault: TableFault) -> Failure {
+    match fault {
+        TableFault::Refused => Failure::Tenants,
+        TableFault::Read => Failure::Reading,
+        TableFault::NoMemory => Failure::NoMemory,
     }
 }
 

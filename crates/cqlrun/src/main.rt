@@ -1,15 +1,8 @@
 //! Runs a script: a tenants line and commands on standard input, replies on standard output.
 #![tactic(auto)]
 
-mod ending;
-mod program;
-#[cfg(test)]
-mod tests;
-
 use cql_ops::{Bench, DistinctOp, Operator, PlainJoin, PlainShape, SetOperation};
-use cql_wire::Watched;
-use ending::Ending;
-use program::program;
+use cql_wire::{Ending, Watched, program};
 use std::alloc::AllocError;
 use std::process::ExitCode;
 use std::{env, io};

@@ -1,31 +1,21 @@
 //! Runs each script that lies in its folder, and tells where its replies aren't the expected ones.
 #![tactic(auto)]
 
-use cql_core::TenantTable;
 use cql_ops::plain_bench;
-use cql_wire::{ScriptError, Watched, first_line, read_tenants, script};
+use cql_wire::{Watched, program};
 use std::alloc::Global;
 use std::process::ExitCode;
 use std::{fs, io};
 
-// Answers the lines of a text on a bench without boxes.
-fn answer_plainly(
-    alloc: Global,
-    reader: &mut Watched<&[u8]>,
-    writer: &mut Watched<Vec<u8>>,
-    table: TenantTable,
-) -> Result<(), ScriptError> {
-    script(alloc, reader, writer, table, &mut plain_bench(alloc))
-}
-
 // The replies to a script, or what keeps it from its end.
 fn replies(alloc: Global, text: &[u8]) -> Result<Vec<u8>, &'static str> {
     let mut reader = Watched::new(text);
-    let line = first_line(alloc, &mut reader).map_err(|_| "its first line is refused")?;
-    let table = read_tenants(alloc, line.as_slice()).map_err(|_| "its tenants are refused")?;
     let mut writer = Watched::new(Vec::new(alloc));
-    answer_plainly(alloc, &mut reader, &mut writer, table).map_err(|_| "it ended with a fault")?;
-    Ok(writer.into_inner())
+    let bench = &mut plain_bench(alloc);
+    match program(alloc, &[], &mut reader, &mut writer, bench) {
+        (0, _) => Ok(writer.into_inner()),
+        (_, fault) => Err(fault),
+    }
 }
 
 // The number of the first line at which two different texts differ, and what the first has there.

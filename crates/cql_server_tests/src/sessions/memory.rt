@@ -3,7 +3,7 @@ use super::{closes, hall, run};
 use crate::made::{Unmade, table_at_last};
 use cql_core::TenantTable;
 use cql_hall::{Hall, Kept};
-use cql_session::SessionEnd;
+use cql_server::SessionEnd;
 use cql_wire::ScriptError;
 use std::alloc::{AllocError, Global};
 use std::test::Fail;

@@ -1,5 +1,6 @@
-// Answers over rows in the content of the window, and rows from before the base, which no script
-// of lines can ask for.
+// Answers over rows from before the base, in the content of the window or behind it, which no script
+// of lines can ask for; how often the relation is computed, and whose pin an answer has, which no
+// line tells.
 use crate::outputs::Numbers::{Rows, Signed};
 use crate::outputs::{Told, are_blocks};
 use crate::pins::{Asked, GREATEST, pin};
@@ -45,44 +46,6 @@ struct Case {
 
 const CASES: &[Case] = &[
     Case {
-        what: "what comes",
-        asked: LATER,
-        blocks: &[(6, 6, Rows(&[3]))],
-    },
-    Case {
-        what: "what goes, of the content too",
-        asked: Asked {
-            text: "Select Dstream(*) From s [Range 3]",
-            ..LATER
-        },
-        blocks: &[(5, 5, Rows(&[1])), (8, 8, Rows(&[2])), (10, 10, Rows(&[3]))],
-    },
-    Case {
-        what: "what is there, of the content too",
-        asked: Asked {
-            text: "Select Rstream(*) From s [Range 3]",
-            ..LATER
-        },
-        blocks: &[
-            (5, 5, Rows(&[2])),
-            (6, 7, Rows(&[2, 3])),
-            (8, 9, Rows(&[3])),
-        ],
-    },
-    Case {
-        what: "what comes and goes",
-        asked: Asked {
-            text: "Select * From s [Range 3]",
-            ..LATER
-        },
-        blocks: &[
-            (5, 5, Signed(&[], &[1])),
-            (6, 6, Signed(&[3], &[])),
-            (8, 8, Signed(&[], &[2])),
-            (10, 10, Signed(&[], &[3])),
-        ],
-    },
-    Case {
         what: "what is there at the base comes there",
         asked: Asked { base: 5, ..LATER },
         blocks: &[(5, 5, Rows(&[2])), (6, 6, Rows(&[3]))],
@@ -122,30 +85,6 @@ const CASES: &[Case] = &[
             (8, 8, Signed(&[], &[2])),
             (10, 10, Signed(&[], &[3])),
         ],
-    },
-    Case {
-        what: "a row goes and an equal one comes",
-        asked: Asked {
-            text: "Select Rstream(*) From s [Rows 2]",
-            ..AGAIN
-        },
-        blocks: &[(5, 11, Rows(&[1, 2]))],
-    },
-    Case {
-        what: "an equal row comes",
-        asked: Asked {
-            text: "Select Rstream(*) From s",
-            ..AGAIN
-        },
-        blocks: &[(5, 5, Rows(&[1, 2])), (6, 11, Rows(&[1, 1, 2]))],
-    },
-    Case {
-        what: "the row of a part goes and an equal one comes",
-        asked: Asked {
-            text: "Select Rstream(*) From s [Partition By v Rows 1]",
-            ..AGAIN
-        },
-        blocks: &[(5, 11, Rows(&[1, 2]))],
     },
     Case {
         what: "a row goes and an equal one comes, from the base on",

@@ -1,16 +1,88 @@
 // The laws can be called.
+use cql_algebra::law::{
+    bags_law, block_law, change_types_law, count_law, expression_examples, expression_law,
+    fault_law, group_law, grouped_column_law, groups_law, item_types_law, items_law, join_example,
+    joined_law, joined_types_law, key_law, keys_law, max_law, min_law, overflow_law,
+    plain_law as plain_items_law, plan_law, product_law, shape_examples, sum_law,
+    types_law as node_types_law, whole_law,
+};
+use cql_bag::law::{
+    bag_of_counts, distinct_counts, listing_counts, listing_size, minus_counts, own_entries,
+    plus_counts, put_all_counts, same_counts, take_counts,
+};
 use cql_core::law::{
     alone_law, fetch_law, held_law as rows_held_law, history_law, isolation_law, language_law,
     limit_law, query_law, refusal_law, relation_law, reply_law, solo_law, stub_law,
 };
+use cql_out::law::{blocks_are_unique, blocks_law, local_law};
 use cql_plan::law::{column_law, first_fault_law, form_law, plain_law, ports_law, qualified_law};
+use cql_streams::law::remove_law;
 use cql_syntax::reserved_law;
+use cql_tenants::law::{directory_law, grant_law, place_law};
 use cql_text::read_law;
 use cql_value::law::types_law;
 use cql_window::laws::{all_law, held_law, parts_law, range_law, rows_law};
 
 #[test]
 fn laws() {
+    types_law();
+    same_counts();
+    minus_counts();
+    bag_of_counts();
+    listing_counts();
+    put_all_counts();
+    own_entries();
+    take_counts();
+    plus_counts();
+    distinct_counts();
+    listing_size();
+    reserved_law();
+    read_law();
+    range_law();
+    rows_law();
+    all_law();
+    parts_law();
+    held_law();
+    column_law();
+    first_fault_law();
+    qualified_law();
+    ports_law();
+    form_law();
+    plain_law();
+    expression_law();
+    expression_examples();
+    items_law();
+    plain_items_law();
+    sum_law();
+    count_law();
+    min_law();
+    max_law();
+    key_law();
+    group_law();
+    grouped_column_law();
+    groups_law();
+    keys_law();
+    whole_law();
+    overflow_law();
+    shape_examples();
+    joined_law();
+    joined_types_law();
+    product_law();
+    join_example();
+    fault_law();
+    bags_law();
+    item_types_law();
+    node_types_law();
+    change_types_law();
+    block_law();
+    plan_law();
+    blocks_are_unique();
+    blocks_law();
+    local_law();
+    directory_law();
+    grant_law();
+    place_law();
+    remove_law();
     language_law();
     solo_law();
     reply_law();
@@ -24,18 +96,4 @@ fn laws() {
     refusal_law();
     limit_law();
     rows_held_law();
-    column_law();
-    first_fault_law();
-    qualified_law();
-    ports_law();
-    form_law();
-    plain_law();
-    reserved_law();
-    read_law();
-    types_law();
-    range_law();
-    rows_law();
-    all_law();
-    parts_law();
-    held_law();
 }

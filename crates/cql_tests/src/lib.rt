@@ -13,16 +13,18 @@ mod memory;
 #[cfg(test)]
 mod outputs;
 #[cfg(test)]
-mod pins;
+mod parts;
 #[cfg(test)]
-mod reading;
+mod pins;
 #[cfg(test)]
 mod runs;
 #[cfg(test)]
 mod scripts;
 #[cfg(test)]
+mod splits;
+#[cfg(test)]
+mod stores;
+#[cfg(test)]
 mod tenants;
 #[cfg(test)]
 mod trimming;
-#[cfg(test)]
-mod typing;

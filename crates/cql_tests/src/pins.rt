@@ -1,4 +1,5 @@
-// Pins over rows in the content of the window and behind it: the core pins an empty content.
+// Pins over any rows, in the content of the window and behind it: at the base the core's content is
+// empty, and all rows come later.
 ghost use Rattle.std.specs.Prelude.{◌≡◌, [], ◌∷◌, ◌++◌, IfOk, IsTrue, nat_le};
 ghost use Rattle.std.specs.List.{list_all};
 ghost use Rattle.cql_plan.specs.Ports.{PartsAmong};

@@ -2,7 +2,6 @@
 use cql_core::{BadTenants, Quotas, Refusal, Tenant, TenantTable};
 use cql_value::{Name, NameError, Text};
 use std::alloc::{AllocError, AllocFailed, Global};
-use std::test::Fail;
 
 pub(crate) const USUAL: Quotas = Quotas {
     streams: 8,
@@ -62,21 +61,6 @@ pub(crate) fn table_with(alloc: Global, names: &[&str], hold: u64) -> Result<Ten
 
 pub(crate) fn table(alloc: Global, names: &[&str]) -> Result<TenantTable, Unmade> {
     table_with(alloc, names, USUAL.hold)
-}
-
-// Names, and whether a table of `b` and `a` has them.
-fn found() -> &'static [(&'static str, bool)] {
-    &[("a", true), ("b", true), ("A", false), ("", false)]
-}
-
-#[test]
-fn finds(rt: HostRuntime) -> Result<(), Fail> {
-    let table = table(rt.alloc(), &["b", "a"])?;
-    for (name, is_there) in found() {
-        assert!(rt; table.find(name).is_some() == *is_there);
-    }
-    assert!(rt; table.find("a") != table.find("b"));
-    Ok(())
 }
 
 #[test]

@@ -14,8 +14,6 @@ pub mod ready;
 pub mod store;
 mod stub;
 mod survey;
-#[cfg(test)]
-mod tests;
 
 pub use ready::Ready;
 pub use store::Store;

@@ -1,5 +1,5 @@
 // The store of a stream.
-ghost use Rattle.std.specs.Prelude.{◌≡◌, ◌≤◌, ◌<◌, ◌≢◌, ◌↔◌, ℕ, IsSomeAnd, IsTrue, false, true, [], map, IsSome, OnOk, OnErr, IfOk, IfSome, None, Some, drop, length};
+ghost use Rattle.std.specs.Prelude.{◌≡◌, ◌≤◌, ◌<◌, ◌≢◌, ◌↔◌, ℕ, IsSomeAnd, IsTrue, false, [], map, IsSome, OnOk, OnErr, IfOk, IfSome, None, Some, drop, length};
 ghost use Rattle.cql_store.specs.Held.{Updates, stub_of, opened, fed_at, CanAppend, CanAdvance, IsReady, HasParts, pinned, advanced, IsRowsHeld};
 ghost use Rattle.cql_store.specs.Places.{all_shown, shown, slot_of, AreSound, IsStore, at_some, marked, shifted};
 
@@ -168,17 +168,6 @@ impl Store {
         ensures { IsRowsHeld self.now result }
     {
         self.rows.len() as u64
-    }
-
-    // Whether there is such a stub.
-    #[cfg(test)]
-    pub(crate) fn has(&self, id: StubId) -> bool
-        ensures { result ≡ true → IsSome (stub_of self.now id) }
-    {
-        match self.stubs.get(id.slot) {
-            Some(_stub) => true,
-            None => false,
-        }
     }
 
     /// Whether there is such a stub, isn't overrun, and may go to the cursor: its own is no later.

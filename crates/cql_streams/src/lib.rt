@@ -10,8 +10,6 @@ pub mod law;
 mod owner;
 mod spot;
 mod stores;
-#[cfg(test)]
-mod tests;
 
 pub use spot::Spot;
 pub use stores::Stores;

@@ -4,7 +4,7 @@ use Rattle.std.proofs.lemmas.Bool.Decides.{nat_tests}
 use Rattle.std.proofs.lemmas.List.{get_or-set_same, get_or-set_other, map-set, set-get_or}
 use Rattle.std.specs.Prelude.{Vec, MatchOption, ⊤, vec_len, vec_capacity}
 use Rattle.std.specs.declared.alloc.Global.{Global}
-use Rattle.cql_least.specs.Levels.{least_of, halved, lists_of, level_at, IsTower}
+use Rattle.cql_least.specs.Levels.{pair_least, least_of, halved, lists_of, level_at, IsTower}
 use Rattle.cql_least.proofs.Pairs.{least_of-halved, length-halved}
 
 -- the numbers of the level that stands at a place
@@ -111,3 +111,23 @@ room-ahead levels j k w d above room = let ne : k ≢ j = omega (arith, above) i
 pub lists_of-push : (levels : List (Vec ℕ Global)) (v : Vec ℕ Global) (row : List ℕ) → v.items ≡ row → lists_of (levels ++ v ∷ []) ≡ lists_of levels ++ row ∷ []
 lists_of-push [] v row is = ap (λ r. r ∷ []) is
 lists_of-push (w ∷ levels) v row is = ap (λ l. w.items ∷ l) (lists_of-push levels v row is)
+
+-- each level is the pairs of the one below
+pub tower-next : (levels : List (List ℕ)) (j k : ℕ) → IsTower levels → j ≡ k + 1 → j < length levels → level_at levels j ≡ pair_least (level_at levels k)
+tower-next levels j k tower is within =
+    let e : j ≡ suc k = omega (arith, is) in
+    let under : k < length levels = omega (arith, is, within) in
+    tower.pairs j within ∙ ap (λ n. halved n (level_at levels 0)) e ∙ ap pair_least (sym (tower.pairs k under))
+
+-- a least number stands at the top
+pub some-levels : (levels : List (List ℕ)) (m : ℕ) → Some m ≡ least_of (level_at levels 0) → 0 < length levels
+some-levels [] m is = absurd (let none : least_of (level_at [] 0) ≡ None = refl in cc)
+some-levels (l ∷ levels) m is = omega arith
+
+top-of : (xs : List ℕ) (m : ℕ) → length xs ≤ 1 → Some m ≡ least_of xs → (0 < length xs) × (get_or xs 0 0 ≡ m)
+top-of [] m short is = absurd (let none : least_of [] ≡ None = refl in cc)
+top-of (x ∷ []) m short is = (omega arith, (let e : Some m ≡ Some x = is in cc))
+top-of (x ∷ y ∷ rest) m short is = absurd (omega (arith, short))
+
+pub top-least : (levels : List (List ℕ)) (m : ℕ) → IsTower levels → Some m ≡ least_of (level_at levels 0) → (0 < length (level_at levels (length levels - 1))) × (get_or (level_at levels (length levels - 1)) 0 0 ≡ m)
+top-least levels m tower is = top-of (level_at levels (length levels - 1)) m tower.top (is ∙ least_of-top levels tower (some-levels levels m is))

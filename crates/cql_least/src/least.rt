@@ -36,6 +36,17 @@ fn pair_at(level: &[u64], place: usize) -> u64
     }
 }
 
+// Of the two neighbours at a place of the level above, one that is below the bound.
+fn lesser(level: &[u64], place: usize, bound: u64) -> usize
+    requires place { place < length (pair_least level.now) }
+    requires below { slice_index (pair_least level.now) place < bound }
+    ensures place { result < length level.now }
+    ensures below { slice_index level.now result < bound }
+{
+    let left = 2 * place;
+    if level[left] < bound { left } else { left + 1 }
+}
+
 // Sets the number at a place of a level: the least of the two neighbours of which it is one.
 fn set_in(level: &mut Vec<u64>, place: usize, number: u64) -> u64
     requires { place < length level.now.items }
@@ -123,6 +134,16 @@ impl Least {
         Ok(())
     }
 
+    /// How many numbers there are.
+    pub fn len(&self) -> usize
+        ensures { result ≡ length self.now }
+    {
+        match self.levels.first() {
+            Some(level) => level.len(),
+            None => 0,
+        }
+    }
+
     /// Changes the number at a place.
     pub fn set(&mut self, place: usize, number: u64)
         requires { place < length self.now }
@@ -148,5 +169,24 @@ impl Least {
         }
         let top = &self.levels[count - 1];
         if top.is_empty() { None } else { Some(top[0]) }
+    }
+
+    /// A place whose number is below the bound, where there is one. It goes down the levels, and
+    /// looks at no other number.
+    pub fn below(&self, bound: u64) -> Option<usize>
+        ensures some { IfSome result (λ place. (place < length self.now) × (slice_index self.now place < bound)) }
+        ensures none { IfNone result (All (λ x. bound ≤ x) self.now) }
+    {
+        let least = self.least()?;
+        if bound <= least {
+            return None;
+        }
+        let mut level = self.levels.len() - 1;
+        let mut place = 0;
+        while level > 0 {
+            level -= 1;
+            place = lesser(&self.levels[level], place, bound);
+        }
+        Some(place)
     }
 }

@@ -1,5 +1,5 @@
 use Rattle.std.proofs.Common.{rules, arith, ◌≡◌, ◌<◌, ◌≤◌, ◌+◌, ◌-◌, ◌∙◌, ◌++◌, ◌∷◌, [], length, get_or, ap, sym, subst, vec_len, vec_capacity}
-use Rattle.cql_least.specs.Levels.{pair_least, lists_of, level_at, put, IsTower, ArePairsOf}
+use Rattle.cql_least.specs.Levels.{pair_least, lists_of, level_at, put, IsTower}
 use Rattle.cql_least.proofs.Pairs.{put-push}
 use Rattle.cql_least.proofs.Towers.{level_at-item, length-lists_of, lists_of-push}
 use Rattle.cql_least.proofs.Rising.{top-few, tower-more, tower-pairs, length-put_end}

@@ -10,10 +10,10 @@
 
 pub mod law;
 mod moves;
+mod needs;
 pub mod ready;
 pub mod store;
 mod stub;
-mod survey;
 #[cfg(test)]
 mod tests;
 

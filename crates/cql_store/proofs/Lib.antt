@@ -1,6 +1,7 @@
 pub mod Fit
 pub mod Keeps
 pub mod Numbers
+pub mod Changes
 pub mod Trims
 pub mod Next
 pub mod Later

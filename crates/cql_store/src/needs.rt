@@ -1,5 +1,5 @@
 // What the stubs need of the store's rows, without a look at them.
-ghost use Rattle.std.specs.Prelude.{◌≡◌, ◌≤◌, ◌<◌, ◌+◌, ℕ, [], IfSome, IfNone, OnOk, length, set, slice_index, map};
+ghost use Rattle.std.specs.Prelude.{◌≡◌, ◌≤◌, ◌<◌, ◌+◌, ℕ, [], IfSome, IfNone, OnOk, length, set, slice_index, map, drop};
 ghost use Rattle.std.specs.List.{All, Contains};
 ghost use Rattle.cql_store.specs.Places.{greatest, AreLonger, AreKnown, AreWithin, IsKnown, IsStore, Slots, all_shown, at_some, marked, live_count};
 
@@ -114,6 +114,14 @@ pub(crate) fn mark_all(stubs: &mut Slab<Stub>, needs: &mut Needs, count: u64)
     }
 }
 
+// Lets go of so many rows at the front.
+fn drop_front(rows: &mut VecDeque<Timed>, behind: usize)
+    requires { behind ≤ length rows.old.items }
+    ensures { rows.new.items ≡ drop behind rows.old.items }
+{
+    rows.drain(..behind);
+}
+
 /// Lets go of the rows before the first that some stub needs. Tells how many are gone then.
 pub(crate) fn trim(rows: &mut VecDeque<Timed>, gone: usize, needs: &Needs) -> usize
     requires { gone + length rows.old.items ≤ greatest }
@@ -122,6 +130,6 @@ pub(crate) fn trim(rows: &mut VecDeque<Timed>, gone: usize, needs: &Needs) -> us
 {
     let first = needs.first() as usize;
     let behind = first.saturating_sub(gone).min(rows.len());
-    rows.drain(..behind);
+    drop_front(rows, behind);
     gone + behind
 }

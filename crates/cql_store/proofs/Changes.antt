@@ -1,11 +1,11 @@
 -- What a store knows of its stubs, as one of them changes.
-use Rattle.std.proofs.Common.{◌≡◌, ◌≢◌, ℕ, ◌+◌, ◌-◌, ◌≤◌, ◌<◌, Bool, true, false, List, [], ◌∷◌, ◌++◌, length, map, set, get_or, Option, Some, None, IsSome, nat_lt, refl, subst, sym, ap, ◌∙◌, arith, length-append}
+use Rattle.std.proofs.Common.{◌≡◌, ◌≢◌, ℕ, ◌+◌, ◌≤◌, ◌<◌, true, false, List, [], ◌∷◌, ◌++◌, length, map, set, get_or, Option, Some, None, IsSome, nat_lt, refl, subst, sym, ap, ◌∙◌, arith, length-append}
 use Rattle.cql_value.specs.Element.{Element}
 use Rattle.cql_store.specs.declared.stub.Stub.{Stub}
 use Rattle.cql_store.specs.Held.{Held, stub_of, CanAppend}
-use Rattle.cql_store.specs.Places.{Slots, slot_of, shown_at, all_shown, shifted, at_some, held_count, marked, greatest, limit, first_at, limit_at, IsLive, IsPlaced, ArePlaced, AreOf, AreLonger, AreKnown, IsKnown, IsFirst, IsStore}
+use Rattle.cql_store.specs.Places.{Slots, slot_of, shown_at, all_shown, at_some, held_count, marked, greatest, limit, first_at, limit_at, IsPlaced, ArePlaced, AreOf, AreLonger, AreKnown, IsKnown, IsStore}
 use Rattle.cql_store.proofs.Keeps.{IsChange, IsFresh, stub_shown, change_placed, fresh_placed, fed_placed}
-use Rattle.cql_store.proofs.Numbers.{known_longer, known_put, first_live, limit_live, get_or_any, HasLimit, has_limit, past_limit}
+use Rattle.cql_store.proofs.Numbers.{known_longer, known_put, first_live, limit_live, get_or_any, has_limit, past_limit}
 
 pub change_known : (rows : List Element) (gone : ℕ) (old new : Slots) (firsts limits : List ℕ) (id m n : ℕ) (o : Option Stub) → IsKnown rows gone old firsts limits → IsChange old new id o → id < length firsts → id < length limits → m ≡ first_at o → n ≡ limit_at o → ((s : Stub) → o ≡ Some s → IsPlaced rows gone s) → IsKnown rows gone new (set firsts id m) (set limits id n)
 change_known rows gone old new firsts limits id m n o is change a b first last here = record {

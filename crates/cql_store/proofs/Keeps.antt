@@ -1,7 +1,7 @@
 -- What the stubs hold, as the store's rows come and go.
 use Rattle.std.proofs.Common.{◌≡◌, ◌≢◌, inl, inr, ℕ, zero, suc, ◌+◌, ◌-◌, ◌≤◌, ◌<◌, ◌^◌, Bool, true, false, List, [], ◌∷◌, ◌++◌, length, map, take, drop, slice_index_or, Option, Some, None, nat_lt, refl, subst, sym, ap, ◌∙◌, arith, cond, append_assoc, length-append, length-drop}
 use Rattle.std.proofs.lemmas.Bool.Decides.{nat_tests}
-use Rattle.std.proofs.lemmas.Bool.{cases_eq, cases_lt}
+use Rattle.std.proofs.lemmas.Bool.{cases_eq}
 use Rattle.std.proofs.lemmas.List.{drop-append-le, drop-drop, take-append-drop, take-append-le, length-take, drop_all}
 use Rattle.std.specs.List.{AllByRecursion}
 use Rattle.std.proofs.lemmas.Simd.{map-map}
@@ -14,7 +14,7 @@ use Rattle.cql_window.specs.Window.{count_before}
 use Rattle.cql_store.proofs.Fit.{fit_more}
 use Rattle.cql_store.specs.declared.stub.Stub.{Stub}
 use Rattle.cql_store.specs.Held.{Held, stub_of, Updates, opened, fed, fed_at, CanTake, CanAppend, IsLiveStub}
-use Rattle.cql_store.specs.Places.{Slots, slot_of, shown, shown_at, all_shown, held_count, emptied, marked, shifted, at_some, IsKept, IsLive, IsSound, IsPlaced, ArePlaced}
+use Rattle.cql_store.specs.Places.{Slots, slot_of, shown, shown_at, all_shown, held_count, marked, shifted, at_some, IsKept, IsLive, IsSound, IsPlaced, ArePlaced}
 
 -- one number of a map over slots
 pub slot_map : {A B : Type 0} (F : Option A → Option B) (slots : List (Option A)) (id : ℕ) → F None ≡ None → slice_index_or (map F slots) id None ≡ F (slice_index_or slots id None)

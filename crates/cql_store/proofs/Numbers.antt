@@ -1,11 +1,11 @@
 -- Numbers by slot.
-use Rattle.std.proofs.Common.{◌≡◌, ◌≢◌, inl, inr, ℕ, zero, suc, ◌+◌, ◌-◌, ◌≤◌, ◌<◌, Bool, true, false, List, [], ◌∷◌, ◌++◌, length, map, min, get_or, set, Option, Some, None, nat_lt, refl, subst, sym, ap, ◌∙◌, arith, cond, length-append}
+use Rattle.std.proofs.Common.{◌≡◌, inl, inr, ℕ, zero, suc, ◌≤◌, ◌<◌, Bool, true, false, List, [], ◌∷◌, ◌++◌, length, map, get_or, set, Option, Some, None, nat_lt, refl, sym, ap, ◌∙◌, arith, cond, length-append}
 use Rattle.std.proofs.lemmas.Bool.Decides.{nat_tests}
-use Rattle.std.proofs.lemmas.Bool.{cases_eq, cases_lt}
-use Rattle.std.proofs.lemmas.List.{get_or-set_same, get_or-set_other, get_or_past, length-set}
-use Rattle.std.specs.List.{All, Contains}
+use Rattle.std.proofs.lemmas.Bool.{cases_eq}
+use Rattle.std.proofs.lemmas.List.{get_or-set_same, get_or-set_other, length-set}
+use Rattle.std.specs.List.{All}
 use Rattle.cql_store.specs.declared.stub.Stub.{Stub}
-use Rattle.cql_store.specs.Places.{Slots, slot_of, at_some, held_count, emptied, marked, greatest, limit, first_at, limit_at, lives, live_count, IsLive, AreOf, AreLonger, AreKnown, AreWithin}
+use Rattle.cql_store.specs.Places.{Slots, slot_of, at_some, held_count, emptied, marked, greatest, limit, first_at, limit_at, lives, live_count, AreOf, AreLonger, AreKnown, AreWithin}
 use Rattle.cql_store.proofs.Keeps.{IsChange, marked_not}
 
 -- ---- more places

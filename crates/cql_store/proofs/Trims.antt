@@ -1,6 +1,6 @@
 -- Which rows a store keeps.
-use Rattle.std.proofs.Common.{◌≡◌, ◌≢◌, inl, inr, ℕ, ◌+◌, ◌-◌, ◌≤◌, ◌<◌, Bool, true, false, List, [], ◌∷◌, ◌++◌, length, take, drop, map, min, get_or, Option, Some, None, refl, subst, sym, ap, ◌∙◌, arith, cond, length-append, length-drop}
-use Rattle.std.proofs.lemmas.Bool.{cases_eq, cases_lt}
+use Rattle.std.proofs.Common.{◌≡◌, inl, inr, ℕ, ◌+◌, ◌-◌, ◌≤◌, ◌<◌, false, List, [], ◌++◌, length, take, drop, min, get_or, Option, Some, None, refl, subst, sym, ap, ◌∙◌, arith, cond, length-append, length-drop}
+use Rattle.std.proofs.lemmas.Bool.{cases_lt}
 use Rattle.std.proofs.lemmas.List.{length-take}
 use Rattle.std.specs.List.{All, Contains}
 use Rattle.cql_value.specs.Element.{Element}
@@ -8,9 +8,9 @@ use Rattle.cql_window.specs.declared.window.Window.{Window}
 use Rattle.cql_window.specs.declared.window.Window.TheVariants.{Range, Rows, All as all, Parts}
 use Rattle.cql_store.specs.declared.stub.Stub.{Stub}
 use Rattle.cql_store.specs.Held.{Held, stub_of, IsLiveStub, need, need_of, IsRowsHeld}
-use Rattle.cql_store.specs.Places.{Slots, slot_of, shown, shown_at, all_shown, shifted, greatest, first_at, IsKept, IsLive, IsSound, IsPlaced, ArePlaced, AreOf, AreWithin, IsKnown, IsFirst, IsStore}
+use Rattle.cql_store.specs.Places.{Slots, slot_of, shown, shown_at, all_shown, shifted, greatest, first_at, IsKept, IsLive, IsSound, ArePlaced, AreOf, AreWithin, IsKnown, IsFirst, IsStore}
 use Rattle.cql_store.proofs.Keeps.{ArePast, stub_shown, live_shown, trim_shown, trim_placed}
-use Rattle.cql_store.proofs.Numbers.{HasFirst, has_first, first_live, get_or_any}
+use Rattle.cql_store.proofs.Numbers.{has_first, first_live, get_or_any}
 
 -- no live stub keeps more rows itself than it may hold
 pub known_within : (rows : List Element) (gone : ℕ) (slots : Slots) → ArePlaced rows gone slots → AreWithin slots

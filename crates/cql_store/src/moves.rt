@@ -62,13 +62,7 @@ fn counted_at(stub: &Stub, rows: &VecDeque<Timed>, gone: usize, to: u64) -> usiz
 
 // How many rows more the window sees at the cursor, where it sees them up to a place, and they are
 // counted to another.
-fn ahead_of(
-    window: &Window,
-    rows: &VecDeque<Timed>,
-    seen: usize,
-    counted: usize,
-    to: u64,
-) -> usize
+fn ahead_of(window: &Window, rows: &VecDeque<Timed>, seen: usize, counted: usize, to: u64) -> usize
     requires order { seen ≤ counted }
     requires within { counted ≤ length rows.now.items }
     requires counted { counted ≡ seen + count_before (end_in window.now to) (drop seen rows.now.items) }

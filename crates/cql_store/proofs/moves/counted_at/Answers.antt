@@ -1,4 +1,4 @@
-use Rattle.std.proofs.Common.{◌+◌, ◌-◌, drop, ap, ◌∙◌, arith, length-drop}
+use Rattle.std.proofs.Common.{◌+◌, drop, ap, ◌∙◌, arith, length-drop}
 use Rattle.cql_window.proofs.Ends.{before_le}
 use Rattle.cql_window.specs.Places.{end_in}
 use Rattle.cql_window.specs.Window.{count_before}

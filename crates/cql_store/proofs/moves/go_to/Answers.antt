@@ -1,5 +1,4 @@
-use Rattle.std.proofs.Common.{◌≡◌, ◌≤◌, ◌+◌, ◌-◌, drop, ap, ◌∙◌, sym, subst, arith}
-use Rattle.cql_window.specs.Window.{front_len}
+use Rattle.std.proofs.Common.{ap, ◌∙◌, sym, subst, arith}
 use Rattle.cql_store.specs.Places.{shown, shifted, IsSound}
 use Rattle.cql_store.proofs.Later.{go_shown, go_sound, fit_store, moved_shifted}
 use Rattle.cql_store.proofs.moves.go_to.Goals as goal

@@ -1,8 +1,8 @@
-use Rattle.std.proofs.Common.{◌≡◌, ◌≤◌, Some, IsSome, refl, sym, subst, arith, Option}
+use Rattle.std.proofs.Common.{◌≡◌, Some, IsSome, refl, sym, subst, arith, Option}
 use Rattle.slab.proofs.SlabLemmas.{Updates-with_value}
 use Rattle.cql_store.specs.declared.stub.Stub.{Stub}
 use Rattle.cql_store.specs.Places.{slot_of, emptied, greatest}
-use Rattle.cql_store.proofs.Numbers.{known_put, mark_same, mark_fewer, mark_within}
+use Rattle.cql_store.proofs.Numbers.{known_put, mark_same, mark_fewer}
 use Rattle.cql_store.proofs.Changes.{over_live}
 use Rattle.cql_store.proofs.needs.mark_one.Goals as goal
 

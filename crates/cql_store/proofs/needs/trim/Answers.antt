@@ -1,4 +1,4 @@
-use Rattle.std.proofs.Common.{◌≡◌, ◌+◌, ◌-◌, length, drop, arith, rules}
+use Rattle.std.proofs.Common.{◌≡◌, length, rules}
 use Rattle.cql_store.proofs.Trims.{gone_of, trimmed_shown, trimmed_store}
 use Rattle.cql_store.proofs.needs.trim.Goals as goal
 

@@ -1,4 +1,4 @@
-use Rattle.std.proofs.Common.{◌≡◌, Option, Some, IfSome, IsSome, refl, sym, subst, rules}
+use Rattle.std.proofs.Common.{◌≡◌, Option, Some, IsSome, refl, sym, subst, rules}
 use Rattle.slab.proofs.SlabLemmas.{Updates-with_value}
 use Rattle.cql_store.specs.declared.stub.Stub.{Stub}
 use Rattle.std.specs.Prelude.{slice_set}

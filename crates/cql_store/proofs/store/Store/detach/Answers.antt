@@ -1,4 +1,4 @@
-use Rattle.std.proofs.Common.{◌≡◌, IsSome, None, refl}
+use Rattle.std.proofs.Common.{IsSome, None, refl}
 use Rattle.cql_store.specs.Held.{stub_of}
 use Rattle.cql_store.specs.Places.{all_shown, greatest, IsKnown}
 use Rattle.cql_store.proofs.Keeps.{IsChange, change_shown}

@@ -18,7 +18,7 @@ use Rattle.cql_store.proofs.Fit.{asc_take, fit_drop, fit_behind, fit_front, fit_
 use Rattle.cql_store.proofs.Keeps.{whole}
 use Rattle.cql_store.specs.declared.stub.Stub.{Stub}
 use Rattle.cql_store.specs.Held.{advanced, HasParts, IsKeptFor, IsReady, pinned}
-use Rattle.cql_store.specs.Places.{shown, IsSound, IsKept}
+use Rattle.cql_store.specs.Places.{shown, shifted, IsSound, IsKept}
 
 -- ---- counting
 
@@ -29,8 +29,8 @@ end_later all c t le = le
 end_later (Parts columns count) c t le = le
 
 -- from the place that was counted to on, the count goes on
-pub counted_on : (rows : List Element) (spare to : ℕ) (s : Stub) → IsSound rows spare s → s.cursor ≤ to → s.counted + count_before (end_in s.window to) (drop s.counted rows) ≡ s.seen + count_before (end_in s.window to) (drop s.seen rows)
-counted_on rows spare to s is le =
+pub counted_on : (rows : List Element) (to : ℕ) (s : Stub) → IsSound rows s → s.cursor ≤ to → s.counted + count_before (end_in s.window to) (drop s.counted rows) ≡ s.seen + count_before (end_in s.window to) (drop s.seen rows)
+counted_on rows to s is le =
     let end : ℕ = end_in s.window to in
     let k : ℕ = s.counted - s.seen in
     let more : count_before (end_in s.window s.cursor) (drop s.seen rows) ≤ count_before end (drop s.seen rows) = before_mono _ _ (drop s.seen rows) (end_later s.window s.cursor to le) in
@@ -97,12 +97,12 @@ none_plain (Rows n s) kept first seen plain is = is
 none_plain all kept first seen plain is = is
 none_plain (Parts columns n) kept first seen plain is = absurd plain
 
-pub own_none : (rows : List Element) (spare : ℕ) (s : Stub) → HasNoParts s.window → IsSound rows spare s → s.kept ≡ []
-own_none rows spare s plain is = plain_none s.window s.kept s.first s.seen plain is.kept
+pub own_none : (rows : List Element) (s : Stub) → HasNoParts s.window → IsSound rows s → s.kept ≡ []
+own_none rows s plain is = plain_none s.window s.kept s.first s.seen plain is.kept
 
-gone_sound : (rows : List Element) (spare to counted ahead gone : ℕ) (s : Stub) → HasNoParts s.window → IsSound rows spare s → counted ≡ s.seen + count_before (end_in s.window to) (drop s.seen rows) → counted ≤ length rows → s.seen + ahead ≤ counted → gone ≤ s.seen + ahead - s.first → IsSound rows spare (moved_to to s.kept counted ahead gone s)
-gone_sound rows spare to counted ahead gone s plain is count within order bound =
-    let none : s.kept ≡ [] = own_none rows spare s plain is in
+gone_sound : (rows : List Element) (to counted ahead gone : ℕ) (s : Stub) → HasNoParts s.window → IsSound rows s → counted ≡ s.seen + count_before (end_in s.window to) (drop s.seen rows) → counted ≤ length rows → s.seen + ahead ≤ counted → gone ≤ s.seen + ahead - s.first → IsSound rows (moved_to to s.kept counted ahead gone s)
+gone_sound rows to counted ahead gone s plain is count within order bound =
+    let none : s.kept ≡ [] = own_none rows s plain is in
     let fit : AreRows s.window (drop s.first rows) = fit_behind s.window s.kept (drop s.first rows) is.fit in
     let less : AreRows s.window (drop (s.first + gone) rows) = subst (AreRows s.window) (drop-drop gone s.first rows) (fit_drop s.window gone (drop s.first rows) fit) in
     record {
@@ -177,8 +177,8 @@ parts_shown rows to counted ahead gone k s parts live order is bound keeps =
     let now_unseen : drop (s.seen + ahead) rows ≡ beyond s.window to (drop s.seen rows) = sym (drop-drop ahead s.seen rows) ∙ ap (λ n. drop n (drop s.seen rows)) is in
     grind (arith, live, now_content, now_unseen)
 
-parts_sound : (rows : List Element) (spare to counted ahead gone : ℕ) (k : List Element) (s : Stub) → HasParts s.window → IsSound rows spare s → counted ≡ s.seen + count_before (end_in s.window to) (drop s.seen rows) → counted ≤ length rows → s.seen + ahead ≤ counted → ahead ≡ front_len s.window to (drop s.seen rows) → gone ≡ s.seen + ahead - s.first → IsKeptFor s.window to k (s.kept ++ take (s.seen - s.first) (drop s.first rows)) (drop s.seen rows) → IsSound rows spare (moved_to to k counted ahead gone s)
-parts_sound rows spare to counted ahead gone k s parts is count within order front bound keeps =
+parts_sound : (rows : List Element) (to counted ahead gone : ℕ) (k : List Element) (s : Stub) → HasParts s.window → IsSound rows s → counted ≡ s.seen + count_before (end_in s.window to) (drop s.seen rows) → counted ≤ length rows → s.seen + ahead ≤ counted → ahead ≡ front_len s.window to (drop s.seen rows) → gone ≡ s.seen + ahead - s.first → IsKeptFor s.window to k (s.kept ++ take (s.seen - s.first) (drop s.first rows)) (drop s.seen rows) → IsSound rows (moved_to to k counted ahead gone s)
+parts_sound rows to counted ahead gone k s parts is count within order front bound keeps =
     let settled : List Element = s.kept ++ take (s.seen - s.first) (drop s.first rows) in
     let looked : List Element = settled ++ take ahead (drop s.seen rows) in
     let at : s.first + gone ≡ s.seen + ahead = omega (arith, bound, is.order) in
@@ -203,33 +203,33 @@ parts_sound rows spare to counted ahead gone k s parts is count within order fro
     }
 
 -- a stub of any window
-pub go_shown : (rows : List Element) (to counted ahead gone : ℕ) (k : List Element) (s : Stub) → IsReady to k (shown rows s) → IsSound rows 0 s → ahead ≡ front_len s.window to (drop s.seen rows) → gone ≤ s.seen + ahead - s.first → (HasNoParts s.window → kept s.window to (take (s.seen + ahead - s.first) (drop s.first rows)) ≡ drop gone (take (s.seen + ahead - s.first) (drop s.first rows))) → (HasParts s.window → gone ≡ s.seen + ahead - s.first) → shown rows (moved_to to k counted ahead gone s) ≡ advanced to (shown rows s)
+pub go_shown : (rows : List Element) (to counted ahead gone : ℕ) (k : List Element) (s : Stub) → IsReady to k (shown rows s) → IsSound rows s → ahead ≡ front_len s.window to (drop s.seen rows) → gone ≤ s.seen + ahead - s.first → (HasNoParts s.window → kept s.window to (take (s.seen + ahead - s.first) (drop s.first rows)) ≡ drop gone (take (s.seen + ahead - s.first) (drop s.first rows))) → (HasParts s.window → gone ≡ s.seen + ahead - s.first) → shown rows (moved_to to k counted ahead gone s) ≡ advanced to (shown rows s)
 go_shown rows to counted ahead gone k s ready is front bound plainly partly =
     let keeps = ready_kept rows to k s ready in
     elim (plain_or_parts s.window) [
       | inl plain ↦
-          let none : s.kept ≡ [] = own_none rows 0 s plain is in
+          let none : s.kept ≡ [] = own_none rows s plain is in
           let same : k ≡ s.kept = plain_kept s.window to k _ _ plain keeps ∙ sym none in
           ap (λ l. shown rows (moved_to to l counted ahead gone s)) same ∙ gone_to rows to counted ahead gone s none ready.can.live is.order front bound (plainly plain)
       | inr parts ↦ parts_shown rows to counted ahead gone k s parts ready.can.live is.order front (partly parts) keeps
     ]
 
-pub go_sound : (rows : List Element) (to counted ahead gone : ℕ) (k : List Element) (s : Stub) → IsReady to k (shown rows s) → counted ≡ s.seen + count_before (end_in s.window to) (drop s.seen rows) → counted ≤ length rows → s.seen + ahead ≤ counted → ahead ≡ front_len s.window to (drop s.seen rows) → gone ≤ s.seen + ahead - s.first → (HasParts s.window → gone ≡ s.seen + ahead - s.first) → (spare : ℕ) → IsSound rows spare s → IsSound rows spare (moved_to to k counted ahead gone s)
-go_sound rows to counted ahead gone k s ready count within order front bound partly spare is =
+pub go_sound : (rows : List Element) (to counted ahead gone : ℕ) (k : List Element) (s : Stub) → IsReady to k (shown rows s) → counted ≡ s.seen + count_before (end_in s.window to) (drop s.seen rows) → counted ≤ length rows → s.seen + ahead ≤ counted → ahead ≡ front_len s.window to (drop s.seen rows) → gone ≤ s.seen + ahead - s.first → (HasParts s.window → gone ≡ s.seen + ahead - s.first) → IsSound rows s → IsSound rows (moved_to to k counted ahead gone s)
+go_sound rows to counted ahead gone k s ready count within order front bound partly is =
     let keeps = ready_kept rows to k s ready in
     elim (plain_or_parts s.window) [
       | inl plain ↦
-          let same : k ≡ s.kept = plain_kept s.window to k _ _ plain keeps ∙ sym (own_none rows spare s plain is) in
-          subst (λ (l : List Element). IsSound rows spare (moved_to to l counted ahead gone s)) (sym same) (gone_sound rows spare to counted ahead gone s plain is count within order bound)
-      | inr parts ↦ parts_sound rows spare to counted ahead gone k s parts is count within order front (partly parts) keeps
+          let same : k ≡ s.kept = plain_kept s.window to k _ _ plain keeps ∙ sym (own_none rows s plain is) in
+          subst (λ (l : List Element). IsSound rows (moved_to to l counted ahead gone s)) (sym same) (gone_sound rows to counted ahead gone s plain is count within order bound)
+      | inr parts ↦ parts_sound rows to counted ahead gone k s parts is count within order front (partly parts) keeps
     ]
 
 -- the rows of a stub in the store
-pub fit_store : (rows : List Element) (s : Stub) → IsSound rows 0 s → AreAscending (drop s.first rows)
+pub fit_store : (rows : List Element) (s : Stub) → IsSound rows s → AreAscending (drop s.first rows)
 fit_store rows s is = (fit_behind s.window s.kept (drop s.first rows) is.fit).0
 
 -- the rows of a pin
-pub fit_pin : (rows : List Element) (n : ℕ) (s : Stub) → IsSound rows 0 s → AreRows s.window ((s.kept ++ take (s.seen - s.first) (drop s.first rows)) ++ take n (drop s.seen rows))
+pub fit_pin : (rows : List Element) (n : ℕ) (s : Stub) → IsSound rows s → AreRows s.window ((s.kept ++ take (s.seen - s.first) (drop s.first rows)) ++ take n (drop s.seen rows))
 fit_pin rows n s is =
     let settled : List Element = s.kept ++ take (s.seen - s.first) (drop s.first rows) in
     let all_of : (settled ++ take n (drop s.seen rows)) ++ drop n (drop s.seen rows) ≡ s.kept ++ drop s.first rows =
@@ -240,3 +240,13 @@ fit_pin rows n s is =
 
 pub pin_shown : (rows : List Element) (until : ℕ) (s : Stub) → s.overrun ≡ false → record { window = s.window; content = s.kept ++ take (s.seen - s.first) (drop s.first rows); unseen = take (count_before until (drop s.seen rows)) (drop s.seen rows) } ≡ pinned until (shown rows s)
 pin_shown rows until s live = grind (arith, live)
+
+-- ---- places that count the rows that are gone too
+
+-- a stub that moved, with the rows that are gone added to its places
+pub moved_shifted : (past to counted ahead gone : ℕ) (k : List Element) (s : Stub) → shifted past (record s { kept = k; cursor = to; counted = past + counted; first = past + (s.first - past + gone); seen = past + (s.seen - past + ahead) }) ≡ moved_to to k counted ahead gone (shifted past s)
+moved_shifted past to counted ahead gone k s =
+    let count : past + counted - past ≡ counted = omega arith in
+    let first : past + (s.first - past + gone) - past ≡ s.first - past + gone = omega arith in
+    let seen : past + (s.seen - past + ahead) - past ≡ s.seen - past + ahead = omega arith in
+    λ i. record s { kept = k; cursor = to; counted = count i; first = first i; seen = seen i }

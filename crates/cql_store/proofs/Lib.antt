@@ -1,7 +1,8 @@
 pub mod Fit
-pub mod Retained
-pub mod Found
 pub mod Keeps
+pub mod Numbers
+pub mod Changes
+pub mod Trims
 pub mod Next
 pub mod Later
 pub mod Told

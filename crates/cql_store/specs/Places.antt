@@ -1,5 +1,5 @@
--- The stubs' places among the store's rows.
-use Rattle.std.specs.Prelude.{◌≡◌, ℕ, ◌+◌, ◌-◌, ◌≤◌, ◌<◌, ◌==◌, ◌||◌, ◌&&◌, Bool, true, false, List, [], ◌∷◌, ◌++◌, length, take, drop, map, if◌then◌else◌, nat_lt, Option, Some, None, slice_index_or, min}
+-- The stubs' places among the rows that came to the store.
+use Rattle.std.specs.Prelude.{◌≡◌, ℕ, ◌+◌, ◌-◌, ◌^◌, ◌≤◌, ◌<◌, true, false, List, [], ◌∷◌, ◌++◌, length, take, drop, map, if◌then◌else◌, nat_lt, Option, Some, None, slice_index_or, min}
 use Rattle.cql_value.specs.Element.{Element}
 use Rattle.cql_window.specs.declared.window.Window.{Window}
 use Rattle.cql_window.specs.declared.window.Window.TheVariants.{Range, Rows, All as all, Parts}
@@ -8,7 +8,6 @@ use Rattle.cql_window.specs.Places.{end_in}
 use Rattle.cql_window.specs.Window.{count_before}
 use Rattle.cql_store.specs.Held.{Held, Stubs}
 use Rattle.cql_store.specs.declared.stub.Stub.{Stub}
-use Rattle.cql_store.specs.declared.survey.Survey.{Survey}
 
 -- the stubs as the slab has them
 abbrev pub Slots : Type 0
@@ -16,6 +15,8 @@ Slots = List (Option Stub)
 
 abbrev pub slot_of : Slots → ℕ → Option Stub
 slot_of slots id = slice_index_or slots id None
+
+-- ---- places that count the store's rows from the front
 
 -- what a stub holds of the store's rows
 abbrev pub shown : List Element → Stub → Held
@@ -29,22 +30,16 @@ shown rows s =
       overrun = s.overrun;
     }
 
-abbrev pub shown_at : List Element → Option Stub → Option Held
-shown_at rows None = None
-shown_at rows (Some s) = Some (shown rows s)
-
-abbrev pub all_shown : List Element → Slots → Stubs
-all_shown rows slots = map (shown_at rows) slots
-
 -- how many rows a stub has among so many
 abbrev pub held_count : ℕ → Stub → ℕ
 held_count len s = len - s.first + length s.kept
 
-abbrev pub marked : ℕ → Stub → Stub
-marked len s = if s.overrun then s else if nat_lt s.hold (held_count len s) then record s { overrun = true; kept = [] } else s
+-- a stub that had to let its rows go
+abbrev pub emptied : Stub → Stub
+emptied s = record s { overrun = true; kept = [] }
 
-abbrev pub shifted : ℕ → Stub → Stub
-shifted gone s = record s { first = s.first - gone; seen = s.seen - gone; counted = s.counted - gone }
+abbrev pub marked : ℕ → Stub → Stub
+marked len s = if s.overrun then s else if nat_lt s.hold (held_count len s) then emptied s else s
 
 abbrev pub at_some : (Stub → Stub) → Option Stub → Option Stub
 at_some f None = None
@@ -62,57 +57,100 @@ IsKept (Rows count slide) kept first seen = kept ≡ []
 IsKept all kept first seen = kept ≡ []
 IsKept (Parts columns count) kept first seen = first ≡ seen
 
--- its places are in order, what is counted came before the end, its rows are rows of its window, and so many more rows don't overrun it
-pub record IsSound (rows : List Element) (spare : ℕ) (s : Stub) : Type 0 where
+-- its places are in order, what is counted came before the end, its rows are rows of its window, and it has no more than it may hold
+pub record IsSound (rows : List Element) (s : Stub) : Type 0 where
   pub order : s.first ≤ s.seen
   pub counted : s.seen ≤ s.counted
   pub known : s.counted - s.seen ≤ count_before (end_in s.window s.cursor) (drop s.seen rows)
   pub within : s.counted ≤ length rows
   pub kept : IsKept s.window s.kept s.first s.seen
   pub fit : AreRows s.window (s.kept ++ drop s.first rows)
-  pub room : held_count (length rows) s + spare ≤ s.hold
+  pub room : held_count (length rows) s ≤ s.hold
 
--- every stub that isn't overrun is sound
-abbrev pub AreSound : List Element → Slots → ℕ → Type 0
-AreSound rows slots spare = (id : ℕ) (s : Stub) → IsLive slots id s → IsSound rows spare s
+-- ---- places that count all rows that came to the store, of which so many are gone
 
--- this stub needs the first row
-pub record IsFirst (slots : Slots) (id : ℕ) : Type 0 where
+-- the stub with places that count from the front
+abbrev pub shifted : ℕ → Stub → Stub
+shifted gone s = record s { first = s.first - gone; seen = s.seen - gone; counted = s.counted - gone }
+
+abbrev pub shown_at : List Element → ℕ → Option Stub → Option Held
+shown_at rows gone None = None
+shown_at rows gone (Some s) = Some (shown rows (shifted gone s))
+
+abbrev pub all_shown : List Element → ℕ → Slots → Stubs
+all_shown rows gone slots = map (shown_at rows gone) slots
+
+-- a stub that needs no row that is gone is sound
+pub record IsPlaced (rows : List Element) (gone : ℕ) (s : Stub) : Type 0 where
+  pub sound : IsSound rows (shifted gone s)
+  pub behind : gone ≤ s.first
+
+-- every stub that isn't overrun is
+abbrev pub ArePlaced : List Element → ℕ → Slots → Type 0
+ArePlaced rows gone slots = (id : ℕ) (s : Stub) → IsLive slots id s → IsPlaced rows gone s
+
+-- ---- numbers by slot
+
+-- the greatest number, which stands where no stub has one
+abbrev pub greatest : ℕ
+greatest = 2 ^ 64 - 1
+
+-- so many rows may have come before the stub has one too many
+abbrev pub limit : Stub → ℕ
+limit s = min (s.first + (s.hold - length s.kept)) greatest
+
+abbrev pub first_at : Option Stub → ℕ
+first_at None = greatest
+first_at (Some s) = if s.overrun then greatest else s.first
+
+abbrev pub limit_at : Option Stub → ℕ
+limit_at None = greatest
+limit_at (Some s) = if s.overrun then greatest else limit s
+
+-- each number is that of the stub in its slot, and each stub has one
+pub record AreOf (number : Option Stub → ℕ) (slots : Slots) (numbers : List ℕ) : Type 0 where
+  pub each : (id : ℕ) → slice_index_or numbers id greatest ≡ number (slot_of slots id)
+  pub covers : (id : ℕ) (s : Stub) → slot_of slots id ≡ Some s → id < length numbers
+
+-- the same numbers, and maybe more places where none stands
+pub record AreLonger (old new : List ℕ) : Type 0 where
+  pub same : (id : ℕ) → slice_index_or new id greatest ≡ slice_index_or old id greatest
+  pub longer : length old ≤ length new
+
+-- the first rows and the limits of the stubs are known
+pub record AreKnown (slots : Slots) (firsts limits : List ℕ) : Type 0 where
+  pub of_firsts : AreOf first_at slots firsts
+  pub of_limits : AreOf limit_at slots limits
+
+-- no stub that isn't overrun keeps more rows itself than it may hold
+abbrev pub AreWithin : Slots → Type 0
+AreWithin slots = (id : ℕ) (s : Stub) → IsLive slots id s → length s.kept ≤ s.hold
+
+-- how many stubs aren't overrun
+abbrev pub lives : Option Stub → ℕ
+lives None = 0
+lives (Some s) = if s.overrun then 0 else 1
+
+abbrev pub live_count : Slots → ℕ
+live_count [] = 0
+live_count (o ∷ slots) = lives o + live_count slots
+
+-- ---- the store
+
+-- what holds of the rows and the stubs whatever rows are kept
+pub record IsKnown (rows : List Element) (gone : ℕ) (slots : Slots) (firsts limits : List ℕ) : Type 0 where
+  pub fits : gone + length rows ≤ greatest
+  pub placed : ArePlaced rows gone slots
+  pub known : AreKnown slots firsts limits
+
+-- a stub needs the first row
+pub record IsFirst (slots : Slots) (gone : ℕ) : Type 0 where
+  pub id : ℕ
   pub stub : Stub
   pub live : IsLive slots id stub
-  pub first : stub.first ≡ 0
+  pub first : stub.first ≡ gone
 
--- no row is kept that no stub needs: the last stub needs the first row
-pub record IsStore (rows : List Element) (slots : Slots) (spare last : ℕ) : Type 0 where
-  pub sound : AreSound rows slots spare
-  pub trimmed : 0 < length rows + spare → IsFirst slots last
-
--- no stub is live
-abbrev pub NoneLives : Slots → Type 0
-NoneLives slots = (id : ℕ) (s : Stub) → slot_of slots id ≡ Some s → s.overrun ≡ true
-
--- how many more rows don't overrun a stub
-abbrev pub room_of : ℕ → Stub → ℕ
-room_of len s = s.hold - held_count len s
-
--- the least place and the least room of the stubs that aren't overrun, and a stub at that place
-pub record IsSurvey (slots : Slots) (len : ℕ) (least spare id : ℕ) : Type 0 where
-  pub below : (id : ℕ) (s : Stub) → IsLive slots id s → (least ≤ s.first) × (spare ≤ room_of len s)
-  pub stub : Stub
-  pub live : IsLive slots id stub
-  pub first : stub.first ≡ least
-
--- a stub is taken for the last one before the best so far: its place is less, or the same and it is preferred
-abbrev pub is_nearer : ℕ → Survey → ℕ → ℕ → Bool
-is_nearer prefer best id place = nat_lt place best.least || (place == best.least && id == prefer)
-
-abbrev pub joined_to : ℕ → Option Survey → ℕ → ℕ → ℕ → Survey
-joined_to prefer None id place room = record { least = place; spare = room; id = id }
-joined_to prefer (Some best) id place room = record { least = min best.least place; spare = min best.spare room; id = (if is_nearer prefer best id place then id else best.id) }
-
-abbrev pub joined : ℕ → ℕ → Option Survey → ℕ → Stub → Option Survey
-joined len prefer best id s = if s.overrun then best else Some (joined_to prefer best id s.first (room_of len s))
-
-abbrev pub survey_of : ℕ → ℕ → Option Survey → List (ℕ × Stub) → Option Survey
-survey_of len prefer best [] = best
-survey_of len prefer best (e ∷ es) = survey_of len prefer (joined len prefer best e.0 e.1) es
+-- and no row is kept that no stub needs
+pub record IsStore (rows : List Element) (gone : ℕ) (slots : Slots) (firsts limits : List ℕ) : Type 0 where
+  pub known : IsKnown rows gone slots firsts limits
+  pub trimmed : 0 < length rows → IsFirst slots gone

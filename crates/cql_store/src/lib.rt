@@ -10,10 +10,10 @@
 
 pub mod law;
 mod moves;
+mod needs;
 pub mod ready;
 pub mod store;
 mod stub;
-mod survey;
 
 pub use ready::Ready;
 pub use store::Store;

@@ -5,7 +5,7 @@ ghost use Rattle.cql_window.specs.Laws.{HasNoParts};
 ghost use Rattle.cql_window.specs.Places.{end_in};
 ghost use Rattle.cql_window.specs.Window.{AreAscending, count_before, front_len, kept};
 ghost use Rattle.cql_store.specs.Held.{advanced, HasParts, CanAdvance, IsReady, pinned};
-ghost use Rattle.cql_store.specs.Places.{shown, IsSound};
+ghost use Rattle.cql_store.specs.Places.{shown, shifted, greatest, IsSound, IsPlaced};
 
 use crate::stub::{Kept, Stub};
 use cql_value::{Timed, TryClone};
@@ -45,28 +45,31 @@ fn rows_past(rows: &VecDeque<Timed>, from: usize, to: usize, ticks: u64, end: u6
         .count()
 }
 
-// The place before which the rows came before the end that the window looks up to at the cursor.
+// The place, from the front, before which the rows came before the end that the window looks up to
+// at the cursor.
 // Only rows from the place that was counted to are looked at.
-fn counted_at(stub: &Stub, rows: &VecDeque<Timed>, to: u64) -> usize
-    requires sound { IsSound rows.now.items 0 stub.now }
+fn counted_at(stub: &Stub, rows: &VecDeque<Timed>, gone: usize, to: u64) -> usize
+    requires sound { IsSound rows.now.items (shifted gone stub.now) }
     requires later { stub.now.cursor ≤ to }
-    ensures value { result ≡ stub.now.seen + count_before (end_in stub.now.window to) (drop stub.now.seen rows.now.items) }
-    ensures order { stub.now.seen ≤ result }
+    ensures value { let seen = stub.now.seen - gone in result ≡ seen + count_before (end_in stub.now.window to) (drop seen rows.now.items) }
+    ensures order { stub.now.seen - gone ≤ result }
     ensures within { result ≤ length rows.now.items }
 {
     let end = end_in(&stub.window, to);
-    stub.counted + rows_before(rows, stub.counted, end)
+    let counted = stub.counted.saturating_sub(gone);
+    counted + rows_before(rows, counted, end)
 }
 
-// How many rows more the window sees at the cursor, where the rows are counted to a place.
-fn ahead_of(stub: &Stub, rows: &VecDeque<Timed>, counted: usize, to: u64) -> usize
-    requires order { stub.now.seen ≤ counted }
+// How many rows more the window sees at the cursor, where it sees them up to a place, and they are
+// counted to another.
+fn ahead_of(window: &Window, rows: &VecDeque<Timed>, seen: usize, counted: usize, to: u64) -> usize
+    requires order { seen ≤ counted }
     requires within { counted ≤ length rows.now.items }
-    requires counted { counted ≡ stub.now.seen + count_before (end_in stub.now.window to) (drop stub.now.seen rows.now.items) }
-    ensures value { result ≡ front_len stub.now.window to (drop stub.now.seen rows.now.items) }
-    ensures within { stub.now.seen + result ≤ counted }
+    requires counted { counted ≡ seen + count_before (end_in window.now to) (drop seen rows.now.items) }
+    ensures value { result ≡ front_len window.now to (drop seen rows.now.items) }
+    ensures within { seen + result ≤ counted }
 {
-    whole_slides(&stub.window, counted - stub.seen)
+    whole_slides(window, counted - seen)
 }
 
 // How many rows of a stretch a window keeps no more at the cursor.
@@ -90,21 +93,24 @@ fn passed(window: &Window, rows: &VecDeque<Timed>, first: usize, seen: usize, to
 }
 
 /// The stub's places at a later cursor, with the rows that it is to keep itself.
-pub(crate) fn go_to(stub: &mut Stub, rows: &VecDeque<Timed>, to: u64, kept: Kept)
-    requires sound { IsSound rows.now.items 0 stub.old }
-    requires ready { IsReady to kept (shown rows.now.items stub.old) }
-    ensures content { shown rows.now.items stub.new ≡ advanced to (shown rows.now.items stub.old) }
-    ensures sound { (spare : ℕ) → IsSound rows.now.items spare stub.old → IsSound rows.now.items spare stub.new }
+pub(crate) fn go_to(stub: &mut Stub, rows: &VecDeque<Timed>, gone: usize, to: u64, kept: Kept)
+    requires sound { IsSound rows.now.items (shifted gone stub.old) }
+    requires ready { IsReady to kept (shown rows.now.items (shifted gone stub.old)) }
+    requires fits { gone + length rows.now.items ≤ greatest }
+    ensures content { shown rows.now.items (shifted gone stub.new) ≡ advanced to (shown rows.now.items (shifted gone stub.old)) }
+    ensures placed { IsPlaced rows.now.items gone stub.new }
     ensures live { stub.new.overrun ≡ false }
 {
-    let counted = counted_at(stub, rows, to);
-    let seen = stub.seen + ahead_of(stub, rows, counted, to);
-    let gone = passed(&stub.window, rows, stub.first, seen, to);
+    let counted = counted_at(stub, rows, gone, to);
+    let seen = stub.seen.saturating_sub(gone);
+    let seen = seen + ahead_of(&stub.window, rows, seen, counted, to);
+    let first = stub.first.saturating_sub(gone);
+    let first = first + passed(&stub.window, rows, first, seen, to);
     stub.kept = kept;
     stub.cursor = to;
-    stub.counted = counted;
-    stub.seen = seen;
-    stub.first += gone;
+    stub.counted = gone + counted;
+    stub.seen = gone + seen;
+    stub.first = gone + first;
 }
 
 // The rows that a stub keeps itself, and then so many of the store's. All are shared.
@@ -133,18 +139,20 @@ pub(crate) fn kept_at(
     alloc: Global,
     stub: &Stub,
     rows: &VecDeque<Timed>,
+    gone: usize,
     to: u64,
 ) -> Result<Kept, AllocError>
-    requires sound { IsSound rows.now.items 0 stub.now }
-    requires can { CanAdvance to (shown rows.now.items stub.now) }
-    ensures ok { IfOk result (λ kept. IsReady to kept (shown rows.now.items stub.now)) }
+    requires sound { IsSound rows.now.items (shifted gone stub.now) }
+    requires can { CanAdvance to (shown rows.now.items (shifted gone stub.now)) }
+    ensures ok { IfOk result (λ kept. IsReady to kept (shown rows.now.items (shifted gone stub.now))) }
     ensures err { OnErr result (HasParts stub.now.window) }
 {
     match &stub.window {
         Window::Parts { columns, count } => {
-            let counted = counted_at(stub, rows, to);
-            let ahead = ahead_of(stub, rows, counted, to);
-            let all = joined(alloc, &stub.kept, rows, stub.seen, ahead)?;
+            let counted = counted_at(stub, rows, gone, to);
+            let seen = stub.seen.saturating_sub(gone);
+            let ahead = ahead_of(&stub.window, rows, seen, counted, to);
+            let all = joined(alloc, &stub.kept, rows, seen, ahead)?;
             let newest = newest_of_parts(alloc, columns.as_slice(), *count, &all)?;
             Ok(Kept::of(newest))
         }
@@ -157,15 +165,18 @@ pub(crate) fn pin_of(
     alloc: Global,
     stub: &Stub,
     rows: &VecDeque<Timed>,
+    gone: usize,
     until: u64,
 ) -> Result<WindowPin, AllocError>
-    requires sound { IsSound rows.now.items 0 stub.now }
+    requires sound { IsSound rows.now.items (shifted gone stub.now) }
     requires live { stub.now.overrun ≡ false }
-    ensures { IfOk result (λ p. p ≡ pinned until (shown rows.now.items stub.now)) }
+    ensures { IfOk result (λ p. p ≡ pinned until (shown rows.now.items (shifted gone stub.now))) }
 {
     let window = stub.window.try_clone(alloc)?;
-    let content = joined(alloc, &stub.kept, rows, stub.first, stub.seen - stub.first)?;
-    let ahead = rows_before(rows, stub.seen, until);
-    let unseen = joined(alloc, &Kept::new(alloc), rows, stub.seen, ahead)?;
+    let first = stub.first.saturating_sub(gone);
+    let seen = stub.seen.saturating_sub(gone);
+    let content = joined(alloc, &stub.kept, rows, first, seen - first)?;
+    let ahead = rows_before(rows, seen, until);
+    let unseen = joined(alloc, &Kept::new(alloc), rows, seen, ahead)?;
     Ok(WindowPin::new(window, content, unseen))
 }

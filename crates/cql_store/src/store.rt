@@ -1,12 +1,12 @@
 // The store of a stream.
-ghost use Rattle.std.specs.Prelude.{◌≡◌, ◌≤◌, ◌<◌, ◌≢◌, ◌↔◌, ℕ, IsSomeAnd, IsTrue, false, [], map, IsSome, OnOk, OnErr, IfOk, IfSome, None, Some, drop, length};
+ghost use Rattle.std.specs.Prelude.{◌≡◌, ◌≤◌, ◌↔◌, ◌+◌, IsSomeAnd, IsTrue, false, [], map, IsSome, OnOk, OnErr, IfOk, IfSome, None, Some, length};
 ghost use Rattle.cql_store.specs.Held.{Updates, stub_of, opened, fed_at, CanAppend, CanAdvance, IsReady, HasParts, pinned, advanced, IsRowsHeld};
-ghost use Rattle.cql_store.specs.Places.{all_shown, shown, slot_of, AreSound, IsStore, at_some, marked, shifted};
+ghost use Rattle.cql_store.specs.Places.{all_shown, shown, shifted, slot_of, IsKnown};
 
 use crate::moves::{go_to, kept_at, pin_of};
+use crate::needs::{Needs, mark_all, trim};
 use crate::ready::Ready;
-use crate::stub::{Kept, Stub, StubId, mark, shift};
-use crate::survey::look_at;
+use crate::stub::{Kept, Stub, StubId, limit_of};
 use cql_value::Timed;
 use cql_window::{Window, WindowPin};
 use slab::Slab;
@@ -18,17 +18,10 @@ use std::marker::Model;
 pub struct Store {
     alloc: Global,
     rows: VecDeque<Timed>,
+    // So many rows came before them.
+    gone: usize,
     stubs: Slab<Stub>,
-    front: Front,
-}
-
-// What is known of the stubs without a look at them.
-#[derive(Clone, Copy)]
-struct Front {
-    // So many more rows overrun no stub.
-    spare: u64,
-    // The stub that needs the first row.
-    last: usize,
+    needs: Needs,
 }
 
 impl Drop for Store {
@@ -36,8 +29,9 @@ impl Drop for Store {
         let Store {
             alloc: _,
             rows: _,
+            gone: _,
             stubs: _,
-            front: _,
+            needs: _,
         } = self;
     }
 }
@@ -48,9 +42,9 @@ impl Model for Store {
 
     ghost Value = { Stubs };
 
-    ghost view = { λ s. all_shown s.rows.items s.stubs.slots };
+    ghost view = { λ s. all_shown s.rows.items s.gone s.stubs.slots };
 
-    ghost invariant = { λ s. IsStore s.rows.items s.stubs.slots s.front.spare s.front.last };
+    ghost invariant = { λ s. IsStore s.rows.items s.gone s.stubs.slots s.needs.firsts s.needs.limits };
 }
 
 impl Store {
@@ -61,19 +55,24 @@ impl Store {
         Store {
             alloc,
             rows: VecDeque::new(alloc),
+            gone: 0,
             stubs: Slab::new(alloc),
-            front: Front { spare: 0, last: 0 },
+            needs: Needs::new(alloc),
         }
     }
 
     /// A stub of the window at the cursor `base`, which may hold so many rows. It has none, whatever
-    /// the store holds for others.
+    /// the store holds for others. The number of a detached stub is used again, so that a store is
+    /// as large as the most stubs that stood at once want it.
     pub fn attach(&mut self, window: Window, base: u64, hold: u64) -> Result<StubId, AllocError>
         ensures was_free { IfOk result (λ id. stub_of self.old id ≡ None) }
         ensures ok { IfOk result (λ id. Updates self.old self.new id (Some (opened window base hold))) }
         ensures err { OnErr result (self.new ≡ self.old) }
     {
-        let place = self.rows.len();
+        self.stubs.reserve(1)?;
+        let slot = self.stubs.vacant_key();
+        self.needs.reach(self.alloc, slot)?;
+        let place = self.gone + self.rows.len();
         let stub = Stub {
             window,
             cursor: base,
@@ -84,29 +83,26 @@ impl Store {
             overrun: false,
             kept: Kept::new(self.alloc),
         };
-        let slot = self.stubs.insert(stub)?;
-        self.front = Front {
-            spare: self.front.spare.min(hold),
-            last: last_with(place, slot, self.front.last),
-        };
+        self.needs.put(slot, place as u64, limit_of(&stub));
+        self.stubs.insert_reserved(stub);
         Ok(StubId { slot })
     }
 
     /// One more row for every stub that isn't overrun. A stub for which it is one too many is
-    /// overrun from then on, and has no rows. Stubs are looked at only where one may be overrun.
+    /// overrun from then on, and has no rows. It looks at the stubs that it overruns, and at no
+    /// other. No store takes 2^64 rows: the last is refused as for want of memory.
     pub fn append(&mut self, row: Timed) -> Result<(), AllocError>
         requires { CanAppend self.old row }
         ensures ok { OnOk result (self.new ≡ map (fed_at row) self.old) }
         ensures err { OnErr result (self.new ≡ self.old) }
     {
-        self.rows.push_back(row)?;
-        if self.front.spare > 0 {
-            self.front.spare -= 1;
-        } else {
-            let len = self.rows.len();
-            mark_all(&mut self.stubs, len);
-            self.front = trim(&mut self.rows, &mut self.stubs, self.front.last);
+        let count = self.gone + self.rows.len();
+        if count == usize::MAX {
+            return Err(AllocError);
         }
+        self.rows.push_back(row)?;
+        mark_all(&mut self.stubs, &mut self.needs, count as u64 + 1);
+        self.gone = trim(&mut self.rows, self.gone, &self.needs);
         Ok(())
     }
 
@@ -127,7 +123,7 @@ impl Store {
         ensures { IfOk result (λ p. IfSome (stub_of self.now id) (λ h. p ≡ pinned until h)) }
     {
         match self.stubs.get(id.slot) {
-            Some(stub) => pin_of(self.alloc, stub, &self.rows, until),
+            Some(stub) => pin_of(self.alloc, stub, &self.rows, self.gone, until),
             None => unreachable!(),
         }
     }
@@ -143,7 +139,7 @@ impl Store {
     {
         match self.stubs.get(id.slot) {
             Some(stub) => {
-                let kept = kept_at(self.alloc, stub, &self.rows, to)?;
+                let kept = kept_at(self.alloc, stub, &self.rows, self.gone, to)?;
                 Ok(Ready { id, to, kept })
             }
             None => unreachable!(),
@@ -151,16 +147,19 @@ impl Store {
     }
 
     /// The stub goes to a later cursor, and the rows that no stub needs any more are let go. It
-    /// looks at the rows that the stub passes; at other stubs only where it was the last one.
+    /// looks at the rows that the stub passes, and at no other stub.
     pub fn advance(&mut self, ready: Ready)
         requires { IsSomeAnd (stub_of self.old ready.id) (IsReady ready.to ready.kept) }
         ensures { IfSome (stub_of self.old ready.id) (λ h. Updates self.old self.new ready.id (Some (advanced ready.to h))) }
     {
-        let Ready { id, to, kept } = ready;
-        let first = move_one(&mut self.stubs, &self.rows, id.slot, to, kept);
-        if has_left(id.slot, self.front.last, first) {
-            self.front = trim(&mut self.rows, &mut self.stubs, id.slot);
-        }
+        move_one(
+            &mut self.stubs,
+            &mut self.needs,
+            &self.rows,
+            self.gone,
+            ready,
+        );
+        self.gone = trim(&mut self.rows, self.gone, &self.needs);
     }
 
     /// How many rows the store holds: as many as the stub that needs the most.
@@ -180,97 +179,36 @@ impl Store {
         }
     }
 
-    /// Takes the stub away, and lets go of the rows that it alone needed.
+    /// Takes the stub away, and lets go of the rows that it alone needed. It looks at no other stub.
     pub fn detach(&mut self, id: StubId)
         requires { IsSome (stub_of self.old id) }
         ensures { Updates self.old self.new id None }
     {
         self.stubs.try_remove(id.slot);
-        self.front = trim(&mut self.rows, &mut self.stubs, self.front.last);
+        self.needs.put(id.slot, u64::MAX, u64::MAX);
+        self.gone = trim(&mut self.rows, self.gone, &self.needs);
     }
 }
 
-// Marks each stub that has more than it may hold.
-fn mark_all(stubs: &mut Slab<Stub>, len: usize)
-    ensures { stubs.new.slots ≡ map (at_some (marked len)) stubs.old.slots }
+// One stub goes to a later cursor.
+fn move_one(
+    stubs: &mut Slab<Stub>,
+    needs: &mut Needs,
+    rows: &VecDeque<Timed>,
+    gone: usize,
+    ready: Ready,
+)
+    requires known { IsKnown rows.now.items gone stubs.old.slots needs.old.firsts needs.old.limits }
+    requires can { IsSomeAnd (slot_of stubs.old.slots ready.id) (λ s. IsReady ready.to ready.kept (shown rows.now.items (shifted gone s))) }
+    ensures known { IsKnown rows.now.items gone stubs.new.slots needs.new.firsts needs.new.limits }
+    ensures moved { IfSome (slot_of stubs.old.slots ready.id) (λ s. Updates (all_shown rows.now.items gone stubs.old.slots) (all_shown rows.now.items gone stubs.new.slots) ready.id (Some (advanced ready.to (shown rows.now.items (shifted gone s))))) }
 {
-    stubs.retain(|_id, stub| {
-        mark(stub, len);
-        true
-    });
-}
-
-// So many rows are gone from the front.
-fn shift_all(stubs: &mut Slab<Stub>, gone: usize)
-    ensures { stubs.new.slots ≡ map (at_some (shifted gone)) stubs.old.slots }
-{
-    stubs.retain(|_id, stub| {
-        shift(stub, gone);
-        true
-    });
-}
-
-// The stub that needs the first row, with a new one at a place.
-fn last_with(place: usize, id: usize, last: usize) -> usize
-    ensures came { place ≡ 0 → result ≡ id }
-    ensures stays { 0 < place → result ≡ last }
-{
-    if place == 0 { id } else { last }
-}
-
-// Whether the last stub no longer needs the first row.
-fn has_left(id: usize, last: usize, first: usize) -> bool
-    ensures { result ≡ false → id ≡ last → first ≡ 0 }
-{
-    id == last && first > 0
-}
-
-// One stub goes to a later cursor. Tells where its content then begins.
-fn move_one(stubs: &mut Slab<Stub>, rows: &VecDeque<Timed>, id: usize, to: u64, kept: Kept) -> usize
-    requires sound { AreSound rows.now.items stubs.old.slots 0 }
-    requires can { IfSome (slot_of stubs.old.slots id) (λ s. IsReady to kept (shown rows.now.items s)) }
-    ensures sound { AreSound rows.now.items stubs.new.slots 0 }
-    ensures stays { (spare last : ℕ) → (id ≡ last → result ≡ 0) → IsStore rows.now.items stubs.old.slots spare last → IsStore rows.now.items stubs.new.slots spare last }
-    ensures moved { IfSome (slot_of stubs.old.slots id) (λ s. Updates (all_shown rows.now.items stubs.old.slots) (all_shown rows.now.items stubs.new.slots) id (Some (advanced to (shown rows.now.items s)))) }
-{
-    match stubs.get_mut(id) {
+    let Ready { id, to, kept } = ready;
+    match stubs.get_mut(id.slot) {
         Some(stub) => {
-            go_to(stub, rows, to, kept);
-            stub.first
+            go_to(stub, rows, gone, to, kept);
+            needs.put(id.slot, stub.first as u64, limit_of(stub));
         }
-        None => 0,
-    }
-}
-
-// Lets go of so many rows at the front.
-fn drop_front(rows: &mut VecDeque<Timed>, gone: usize)
-    requires { gone ≤ length rows.old.items }
-    ensures { rows.new.items ≡ drop gone rows.old.items }
-{
-    rows.drain(..gone);
-}
-
-// Lets go of the rows before the least place. Of the stubs that then need the first row one is
-// preferred: the one that went on last, since the others are to go on before it does again.
-fn trim(rows: &mut VecDeque<Timed>, stubs: &mut Slab<Stub>, prefer: usize) -> Front
-    requires { AreSound rows.old.items stubs.old.slots 0 }
-    ensures store { IsStore rows.new.items stubs.new.slots result.spare result.last }
-    ensures same { all_shown rows.new.items stubs.new.slots ≡ all_shown rows.old.items stubs.old.slots }
-{
-    match look_at(stubs, rows.len(), prefer) {
-        None => {
-            rows.clear();
-            Front { spare: 0, last: 0 }
-        }
-        Some(found) => {
-            if found.least > 0 {
-                drop_front(rows, found.least);
-                shift_all(stubs, found.least);
-            }
-            Front {
-                spare: found.spare,
-                last: found.id,
-            }
-        }
+        None => unreachable!(),
     }
 }

@@ -1,6 +1,6 @@
 // A window on the store's rows.
 ghost use Rattle.std.specs.Prelude.{◌≡◌, [], length};
-ghost use Rattle.cql_store.specs.Places.{marked, shifted};
+ghost use Rattle.cql_store.specs.Places.{emptied, limit};
 
 use cql_value::Timed;
 use cql_window::Window;
@@ -77,7 +77,7 @@ impl Kept {
     }
 }
 
-/// A window on the store's rows. Its places count these from the front.
+/// A window on the store's rows. Its places count all rows that came to the store.
 pub(crate) struct Stub {
     pub(crate) window: Window,
     pub(crate) cursor: u64,
@@ -108,24 +108,18 @@ impl Drop for Stub {
     }
 }
 
-/// Lets the rows go where there are more than the stub may hold.
-pub(crate) fn mark(stub: &mut Stub, len: usize)
-    ensures { stub.new ≡ marked len stub.old }
+/// Lets the rows go: there are more than the stub may hold.
+pub(crate) fn mark(stub: &mut Stub)
+    ensures { stub.new ≡ emptied stub.old }
 {
-    if !stub.overrun {
-        let held = len.saturating_sub(stub.first) as u128 + stub.kept.len() as u128;
-        if (stub.hold as u128) < held {
-            stub.overrun = true;
-            stub.kept.clear();
-        }
-    }
+    stub.overrun = true;
+    stub.kept.clear();
 }
 
-/// So many rows are gone from the front.
-pub(crate) fn shift(stub: &mut Stub, gone: usize)
-    ensures { stub.new ≡ shifted gone stub.old }
+/// So many rows may have come before the stub has one too many.
+pub(crate) fn limit_of(stub: &Stub) -> u64
+    ensures { result ≡ limit stub.now }
 {
-    stub.first = stub.first.saturating_sub(gone);
-    stub.seen = stub.seen.saturating_sub(gone);
-    stub.counted = stub.counted.saturating_sub(gone);
+    let room = stub.hold.saturating_sub(stub.kept.len() as u64);
+    (stub.first as u64).saturating_add(room)
 }

@@ -1,20 +1,23 @@
 use Rattle.std.proofs.Common.{◌+◌, drop, ap, ◌∙◌, arith, length-drop}
 use Rattle.cql_window.proofs.Ends.{before_le}
+use Rattle.cql_window.specs.Places.{end_in}
 use Rattle.cql_window.specs.Window.{count_before}
+use Rattle.cql_store.specs.Places.{shifted}
 use Rattle.cql_store.proofs.Later.{counted_on}
 use Rattle.cql_store.proofs.moves.counted_at.Goals as goal
 
 pub overflow_add-result : goal.overflow_add-result
 overflow_add-result c =
-    omega (arith, c.rows_before.ensures, before_le c.end_in-end.result (drop c.args.stub.now.counted c.args.rows.now.items), length-drop c.args.stub.now.counted c.args.rows.now.items, c.requires.sound.within)
+    omega (arith, c.saturating_sub-counted.ensures, c.rows_before.ensures, before_le c.end_in-end.result (drop c.saturating_sub-counted.result c.args.rows.now.items), length-drop c.saturating_sub-counted.result c.args.rows.now.items, c.requires.sound.within)
 
 pub returns-clause-value : goal.returns-clause-value
 returns-clause-value c =
     let rows = c.args.rows.now.items in
     let s = c.args.stub.now in
-    ap (λ n. s.counted + n) (c.rows_before.ensures ∙ ap (λ e. count_before e (drop s.counted rows)) c.end_in-end.ensures)
-    ∙ counted_on rows 0 c.args.to s c.requires.sound c.requires.later
+    ap (λ n. c.saturating_sub-counted.result + n) (c.rows_before.ensures ∙ ap (λ e. count_before e (drop c.saturating_sub-counted.result rows)) c.end_in-end.ensures)
+    ∙ ap (λ k. k + count_before (end_in s.window c.args.to) (drop k rows)) c.saturating_sub-counted.ensures
+    ∙ counted_on rows c.args.to (shifted c.args.gone s) c.requires.sound c.requires.later
 
 pub returns-clause-within : goal.returns-clause-within
 returns-clause-within c =
-    omega (arith, c.rows_before.ensures, before_le c.end_in-end.result (drop c.args.stub.now.counted c.args.rows.now.items), length-drop c.args.stub.now.counted c.args.rows.now.items, c.requires.sound.within)
+    omega (arith, c.saturating_sub-counted.ensures, c.rows_before.ensures, before_le c.end_in-end.result (drop c.saturating_sub-counted.result c.args.rows.now.items), length-drop c.saturating_sub-counted.result c.args.rows.now.items, c.requires.sound.within)

@@ -1,13 +1,33 @@
-use Rattle.cql_store.proofs.Later.{go_shown, go_sound, fit_store}
+use Rattle.std.proofs.Common.{ap, ◌∙◌, sym, subst, arith}
+use Rattle.cql_store.specs.Places.{shown, shifted, IsSound}
+use Rattle.cql_store.proofs.Later.{go_shown, go_sound, fit_store, moved_shifted}
 use Rattle.cql_store.proofs.moves.go_to.Goals as goal
 
-pub passed-gone-requires-clause-ascending : goal.passed-gone-requires-clause-ascending
-passed-gone-requires-clause-ascending c = fit_store c.args.rows.now.items c.args.stub.now c.requires.sound
+pub passed-requires-clause-ascending : goal.passed-requires-clause-ascending
+passed-requires-clause-ascending c = rw c.saturating_sub-first.ensures (fit_store c.args.rows.now.items (shifted c.args.gone c.args.stub.now) c.requires.sound)
 
 pub returns-clause-content : goal.returns-clause-content
 returns-clause-content c =
-    go_shown c.args.rows.now.items c.args.to c.counted_at-counted.result c.ahead_of.result c.passed-gone.result c.args.kept c.args.stub.now c.requires.ready c.requires.sound c.ahead_of.ensures.value c.passed-gone.ensures.bound c.passed-gone.ensures.value c.passed-gone.ensures.parts
+    let rows = c.args.rows.now.items in
+    let s = c.args.stub.now in
+    let front = rw c.saturating_sub-seen.ensures at c.ahead_of.ensures.value in
+    let bound = rw (c.saturating_sub-first.ensures, c.saturating_sub-seen.ensures) at c.passed.ensures.bound in
+    let plainly = rw (c.saturating_sub-first.ensures, c.saturating_sub-seen.ensures) at c.passed.ensures.value in
+    let partly = rw (c.saturating_sub-first.ensures, c.saturating_sub-seen.ensures) at c.passed.ensures.parts in
+    rw (c.saturating_sub-first.ensures, c.saturating_sub-seen.ensures) (
+    ap (shown rows) (moved_shifted c.args.gone c.args.to c.counted_at-counted.result c.ahead_of.result c.passed.result c.args.kept s)
+    ∙ go_shown rows c.args.to c.counted_at-counted.result c.ahead_of.result c.passed.result c.args.kept (shifted c.args.gone s) c.requires.ready c.requires.sound front bound plainly partly)
 
-pub returns-clause-sound : goal.returns-clause-sound
-returns-clause-sound c =
-    go_sound c.args.rows.now.items c.args.to c.counted_at-counted.result c.ahead_of.result c.passed-gone.result c.args.kept c.args.stub.now c.requires.ready c.counted_at-counted.ensures.value c.counted_at-counted.ensures.within c.ahead_of.ensures.within c.ahead_of.ensures.value c.passed-gone.ensures.bound c.passed-gone.ensures.parts
+pub returns-clause-placed : goal.returns-clause-placed
+returns-clause-placed c =
+    let rows = c.args.rows.now.items in
+    let s = c.args.stub.now in
+    let front = rw c.saturating_sub-seen.ensures at c.ahead_of.ensures.value in
+    let order = rw c.saturating_sub-seen.ensures at c.ahead_of.ensures.within in
+    let bound = rw (c.saturating_sub-first.ensures, c.saturating_sub-seen.ensures) at c.passed.ensures.bound in
+    let partly = rw (c.saturating_sub-first.ensures, c.saturating_sub-seen.ensures) at c.passed.ensures.parts in
+    let sound = go_sound rows c.args.to c.counted_at-counted.result c.ahead_of.result c.passed.result c.args.kept (shifted c.args.gone s) c.requires.ready c.counted_at-counted.ensures.value c.counted_at-counted.ensures.within order front bound partly c.requires.sound in
+    rw (c.saturating_sub-first.ensures, c.saturating_sub-seen.ensures) (record {
+      sound = subst (IsSound rows) (sym (moved_shifted c.args.gone c.args.to c.counted_at-counted.result c.ahead_of.result c.passed.result c.args.kept s)) sound;
+      behind = omega arith;
+    })

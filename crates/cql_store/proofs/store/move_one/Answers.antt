@@ -1,35 +1,33 @@
-use Rattle.std.proofs.Common.{◌≡◌, Option, Some, IfSome, IsSome, refl, sym, subst}
-use Rattle.slab.specs.Slab.{with_value}
+use Rattle.std.proofs.Common.{◌≡◌, Option, Some, IsSome, refl, sym, subst, rules}
 use Rattle.slab.proofs.SlabLemmas.{Updates-with_value}
 use Rattle.cql_store.specs.declared.stub.Stub.{Stub}
-use Rattle.cql_store.specs.Held.{IsReady}
-use Rattle.cql_store.specs.Places.{shown, slot_of}
-use Rattle.cql_store.proofs.Keeps.{changed_sound, changed_shown, stay_moved}
+use Rattle.std.specs.Prelude.{slice_set}
+use Rattle.cql_store.specs.Held.{Held, Updates, advanced}
+use Rattle.cql_store.specs.Places.{slot_of, shown, shifted, all_shown}
+use Rattle.cql_store.proofs.Keeps.{IsChange, change_shown}
+use Rattle.cql_store.proofs.Changes.{live_known}
 use Rattle.cql_store.proofs.store.move_one.Goals as goal
 
-pub go_to-requires-clause-sound : goal.go_to-requires-clause-sound
-go_to-requires-clause-sound c =
-    let found : slot_of c.args.stubs.now.slots c.args.id ≡ Some c.in-Some.stub.now = sym c.in-Some.ensures.value in
-    let can = subst (λ (o : Option Stub). IfSome o (λ s. IsReady c.args.to c.args.kept (shown c.args.rows.now.items s))) found c.requires.can in
-    c.requires.sound c.args.id c.in-Some.stub.now (record { held = found; live = can.can.live })
+pub returns-clause-known : goal.returns-clause-known
+returns-clause-known c =
+    let rows = c.args.rows.now.items in
+    let slots = c.args.stubs.now.slots in
+    let id = c.id.inside.slot in
+    let found : slot_of slots id ≡ Some c.in-Some.stub.now = sym c.in-Some.ensures.value in
+    let up = Updates-with_value c.args.stubs.now id c.go_to.new.stub (subst (λ (o : Option Stub). IsSome o) (sym found) refl) in
+    let known = c.requires.known in
+    rw (c.put.ensures.firsts, c.put.ensures.limits) (live_known rows c.args.gone slots _ c.args.needs.now.firsts c.args.needs.now.limits id _ _ c.go_to.new.stub known (record { changed = up.changed; others = up.others }) (known.known.of_firsts.covers id c.in-Some.stub.now found) (known.known.of_limits.covers id c.in-Some.stub.now found) c.go_to.ensures.live refl c.limit_of.ensures c.go_to.ensures.placed)
 
-pub returns-in-Some-clause-sound : goal.returns-in-Some-clause-sound
-returns-in-Some-clause-sound c =
-    let found : slot_of c.args.stubs.now.slots c.args.id ≡ Some c.in-Some.stub.now = sym c.in-Some.ensures.value in
-    let can = subst (λ (o : Option Stub). IfSome o (λ s. IsReady c.args.to c.args.kept (shown c.args.rows.now.items s))) found c.requires.can in
-    let up = Updates-with_value c.args.stubs.now c.args.id c.go_to.new.stub (subst (λ (o : Option Stub). IsSome o) (sym found) refl) in
-    let was = c.requires.sound c.args.id c.in-Some.stub.now (record { held = found; live = can.can.live }) in
-    changed_sound c.args.rows.now.items c.args.stubs.now.slots _ 0 c.args.id c.go_to.new.stub c.requires.sound up.changed up.others (c.go_to.ensures.sound 0 was)
-
-pub returns-in-Some-clause-stays : goal.returns-in-Some-clause-stays
-returns-in-Some-clause-stays c = λ spare last at store.
-    let found : slot_of c.args.stubs.now.slots c.args.id ≡ Some c.in-Some.stub.now = sym c.in-Some.ensures.value in
-    let can = subst (λ (o : Option Stub). IfSome o (λ s. IsReady c.args.to c.args.kept (shown c.args.rows.now.items s))) found c.requires.can in
-    let up = Updates-with_value c.args.stubs.now c.args.id c.go_to.new.stub (subst (λ (o : Option Stub). IsSome o) (sym found) refl) in
-    stay_moved c.args.rows.now.items c.args.stubs.now.slots _ spare last c.args.id c.in-Some.stub.now c.go_to.new.stub store found up.changed up.others c.go_to.ensures.live (c.go_to.ensures.sound spare) can.can.live at
-
-pub returns-in-Some-clause-moved : goal.returns-in-Some-clause-moved
-returns-in-Some-clause-moved c =
-    let found : slot_of c.args.stubs.now.slots c.args.id ≡ Some c.in-Some.stub.now = sym c.in-Some.ensures.value in
-    let up = Updates-with_value c.args.stubs.now c.args.id c.go_to.new.stub (subst (λ (o : Option Stub). IsSome o) (sym found) refl) in
-    rw found (rw (← c.go_to.ensures.content) (changed_shown c.args.rows.now.items c.args.stubs.now.slots (with_value c.args.stubs.now c.args.id c.go_to.new.stub).slots c.args.id c.go_to.new.stub up.changed up.others))
+pub returns-clause-moved : goal.returns-clause-moved
+returns-clause-moved c =
+    let rows = c.args.rows.now.items in
+    let slots = c.args.stubs.now.slots in
+    let id = c.id.inside.slot in
+    let found : slot_of slots id ≡ Some c.in-Some.stub.now = sym c.in-Some.ensures.value in
+    let up = Updates-with_value c.args.stubs.now id c.go_to.new.stub (subst (λ (o : Option Stub). IsSome o) (sym found) refl) in
+    let at : c.args.ready.id ≡ id = search rules in
+    let new = slice_set slots id (Some c.go_to.new.stub) in
+    let change : IsChange slots new id (Some c.go_to.new.stub) = record { changed = up.changed; others = up.others } in
+    let is : shown rows (shifted c.args.gone c.go_to.new.stub) ≡ advanced c.args.ready.to (shown rows (shifted c.args.gone c.in-Some.stub.now)) = search rules in
+    let shown_here = subst (λ (h : Held). Updates (all_shown rows c.args.gone slots) (all_shown rows c.args.gone new) id (Some h)) is (change_shown rows c.args.gone slots new id (Some c.go_to.new.stub) change) in
+    rw (at, found) shown_here

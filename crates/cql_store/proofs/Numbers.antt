@@ -1,0 +1,155 @@
+-- Numbers by slot.
+use Rattle.std.proofs.Common.{◌≡◌, inl, inr, ℕ, zero, suc, ◌≤◌, ◌<◌, Bool, true, false, List, [], ◌∷◌, ◌++◌, length, map, get_or, set, Option, Some, None, nat_lt, refl, sym, ap, ◌∙◌, arith, cond, length-append}
+use Rattle.std.proofs.lemmas.Bool.Decides.{nat_tests}
+use Rattle.std.proofs.lemmas.Bool.{cases_eq}
+use Rattle.std.proofs.lemmas.List.{get_or-set_same, get_or-set_other, length-set}
+use Rattle.std.specs.List.{All}
+use Rattle.cql_store.specs.declared.stub.Stub.{Stub}
+use Rattle.cql_store.specs.Places.{Slots, slot_of, at_some, held_count, emptied, marked, greatest, limit, first_at, limit_at, lives, live_count, AreOf, AreLonger, AreKnown, AreWithin}
+use Rattle.cql_store.proofs.Keeps.{IsChange, marked_not}
+
+-- ---- more places
+
+pub longer_same : (xs : List ℕ) → AreLonger xs xs
+longer_same xs = record { same = λ id. refl; longer = omega arith }
+
+more_same : (xs : List ℕ) (id : ℕ) → get_or (xs ++ greatest ∷ []) id greatest ≡ get_or xs id greatest
+more_same [] zero = refl
+more_same [] (suc id) = refl
+more_same (x ∷ xs) zero = refl
+more_same (x ∷ xs) (suc id) = more_same xs id
+
+pub longer_more : (xs ys : List ℕ) → AreLonger xs ys → AreLonger xs (ys ++ greatest ∷ [])
+longer_more xs ys is = record {
+  same = λ id. more_same ys id ∙ is.same id;
+  longer = omega (arith, is.longer, length-append ys (greatest ∷ []));
+}
+
+of_longer : (number : Option Stub → ℕ) (slots : Slots) (xs ys : List ℕ) → AreLonger xs ys → AreOf number slots xs → AreOf number slots ys
+of_longer number slots xs ys is of = record {
+  each = λ id. is.same id ∙ of.each id;
+  covers = λ id s found. let was : id < length xs = of.covers id s found in omega (arith, was, is.longer);
+}
+
+pub known_longer : (slots : Slots) (firsts limits more others : List ℕ) → AreLonger firsts more → AreLonger limits others → AreKnown slots firsts limits → AreKnown slots more others
+known_longer slots firsts limits more others a b is = record {
+  of_firsts = of_longer first_at slots firsts more a is.of_firsts;
+  of_limits = of_longer limit_at slots limits others b is.of_limits;
+}
+
+-- ---- one slot changes, and its number
+
+of_put : (number : Option Stub → ℕ) (old new : Slots) (xs : List ℕ) (id n : ℕ) (o : Option Stub) → IsChange old new id o → id < length xs → n ≡ number o → AreOf number old xs → AreOf number new (set xs id n)
+of_put number old new xs id n o change within is of = record {
+  each = λ other. elim (cases_eq other id) [
+    | inl same ↦ ap (λ k. get_or (set xs id n) k greatest) same ∙ get_or-set_same xs id n greatest within ∙ is ∙ ap number (sym change.changed ∙ ap (slot_of new) (sym same))
+    | inr differs ↦ get_or-set_other xs id other n greatest differs ∙ of.each other ∙ ap number (sym (change.others other differs))
+  ];
+  covers = λ other s found. elim (cases_eq other id) [
+    | inl same ↦ omega (arith, same, within, length-set xs id n)
+    | inr differs ↦ let was : other < length xs = of.covers other s (sym (change.others other differs) ∙ found) in omega (arith, was, length-set xs id n)
+  ];
+}
+
+pub known_put : (old new : Slots) (firsts limits : List ℕ) (id m n : ℕ) (o : Option Stub) → IsChange old new id o → id < length firsts → id < length limits → m ≡ first_at o → n ≡ limit_at o → AreKnown old firsts limits → AreKnown new (set firsts id m) (set limits id n)
+known_put old new firsts limits id m n o change a b first last is = record {
+  of_firsts = of_put first_at old new firsts id m o change a first is.of_firsts;
+  of_limits = of_put limit_at old new limits id n o change b last is.of_limits;
+}
+
+-- the number of a place within a list is that at any default
+pub get_or_any : (xs : List ℕ) (id d e : ℕ) → id < length xs → get_or xs id d ≡ get_or xs id e
+get_or_any [] id d e within = absurd (omega (arith, within))
+get_or_any (x ∷ xs) zero d e within = refl
+get_or_any (x ∷ xs) (suc id) d e within = let inner : id < length xs = omega (arith, within) in get_or_any xs id d e inner
+
+-- ---- a stub with a number lives
+
+pub record HasFirst (o : Option Stub) (m : ℕ) : Type 0 where
+  pub stub : Stub
+  pub held : o ≡ Some stub
+  pub live : stub.overrun ≡ false
+  pub first : stub.first ≡ m
+
+pub has_first : (o : Option Stub) (m : ℕ) → first_at o ≡ m → m < greatest → HasFirst o m
+has_first None m is low = absurd (omega (arith, is, low))
+has_first (Some s) m is low = by s.overrun refl
+  where
+    by : (b : Bool) → s.overrun ≡ b → HasFirst (Some s) m
+    by true over = absurd (let a : first_at (Some s) ≡ greatest = grind (arith, over) in omega (arith, a, is, low))
+    by false over = let a : first_at (Some s) ≡ s.first = grind (arith, over) in record { stub = s; held = refl; live = over; first = sym a ∙ is }
+
+pub record HasLimit (o : Option Stub) (m : ℕ) : Type 0 where
+  pub stub : Stub
+  pub held : o ≡ Some stub
+  pub live : stub.overrun ≡ false
+  pub limited : limit stub ≡ m
+
+pub has_limit : (o : Option Stub) (m : ℕ) → limit_at o ≡ m → m < greatest → HasLimit o m
+has_limit None m is low = absurd (omega (arith, is, low))
+has_limit (Some s) m is low = by s.overrun refl
+  where
+    by : (b : Bool) → s.overrun ≡ b → HasLimit (Some s) m
+    by true over = absurd (let a : limit_at (Some s) ≡ greatest = grind (arith, over) in omega (arith, a, is, low))
+    by false over = let a : limit_at (Some s) ≡ limit s = grind (arith, over) in record { stub = s; held = refl; live = over; limited = sym a ∙ is }
+
+pub first_live : (s : Stub) → s.overrun ≡ false → first_at (Some s) ≡ s.first
+first_live s over = grind (arith, over)
+
+pub limit_live : (s : Stub) → s.overrun ≡ false → limit_at (Some s) ≡ limit s
+limit_live s over = grind (arith, over)
+
+-- ---- marking
+
+-- a stub past its limit has more than it may hold
+pub past_limit : (count : ℕ) (s : Stub) → limit s < count → count ≤ greatest → nat_lt s.hold (held_count count s) ≡ true
+past_limit count s past top = let over : s.hold < held_count count s = omega (arith, past, top) in grind (arith, nat_tests, over)
+
+-- and one that isn't has no more
+within_limit : (count : ℕ) (s : Stub) → count ≤ limit s → length s.kept ≤ s.hold → held_count count s ≤ s.hold
+within_limit count s low few = omega (arith, low, few)
+
+-- a marked stub is marked already
+marked_once : (count : ℕ) (s : Stub) → s.overrun ≡ false → nat_lt s.hold (held_count count s) ≡ true → marked count (emptied s) ≡ marked count s
+marked_once count s live over = grind (arith, live, over)
+
+map_same : (F : Option Stub → Option Stub) (slots : Slots) (id : ℕ) (s : Stub) (o : Option Stub) → slot_of slots id ≡ Some s → F o ≡ F (Some s) → map F (set slots id o) ≡ map F slots
+map_same F [] id s o found same = refl
+map_same F (x ∷ slots) zero s o found same = λ i. (same ∙ ap F (sym found)) i ∷ map F slots
+map_same F (x ∷ slots) (suc id) s o found same = ap (λ l. F x ∷ l) (map_same F slots id s o found same)
+
+pub mark_same : (count : ℕ) (slots : Slots) (id : ℕ) (s : Stub) → slot_of slots id ≡ Some s → s.overrun ≡ false → nat_lt s.hold (held_count count s) ≡ true → map (at_some (marked count)) (set slots id (Some (emptied s))) ≡ map (at_some (marked count)) slots
+mark_same count slots id s found live over = map_same (at_some (marked count)) slots id s (Some (emptied s)) found (ap (λ (u : Stub). Some u) (marked_once count s live over))
+
+pub mark_fewer : (slots : Slots) (id : ℕ) (s : Stub) → slot_of slots id ≡ Some s → s.overrun ≡ false → live_count (set slots id (Some (emptied s))) < live_count slots
+mark_fewer [] id s found live = absurd cc
+mark_fewer (x ∷ slots) zero s found live =
+    let was : lives x ≡ 1 = ap lives found ∙ ap (λ b. cond b 0 1) live in
+    omega (arith, was)
+mark_fewer (x ∷ slots) (suc id) s found live = let less : live_count (set slots id (Some (emptied s))) < live_count slots = mark_fewer slots id s found live in omega (arith, less)
+
+pub mark_within : (old new : Slots) (id : ℕ) (s : Stub) → IsChange old new id (Some (emptied s)) → AreWithin old → AreWithin new
+mark_within old new id s change within other t live = elim (cases_eq other id) [
+  | inl same ↦
+      let is : Some t ≡ Some (emptied s) = sym live.held ∙ ap (slot_of new) same ∙ change.changed in
+      absurd (let e : t ≡ emptied s = cc in let a : t.overrun ≡ true = ap (λ (u : Stub). u.overrun) e in let b = live.live in cc)
+  | inr differs ↦ within other t (record { held = sym (change.others other differs) ∙ live.held; live = live.live })
+]
+
+map_none : (F : Option Stub → Option Stub) (slots : Slots) → F None ≡ None → ((id : ℕ) (s : Stub) → slot_of slots id ≡ Some s → F (Some s) ≡ Some s) → map F slots ≡ slots
+map_none F [] none some = refl
+map_none F (None ∷ slots) none some = λ i. none i ∷ map_none F slots none (λ id s h. some (suc id) s h) i
+map_none F (Some s ∷ slots) none some = λ i. some 0 s refl i ∷ map_none F slots none (λ id s h. some (suc id) s h) i
+
+-- where no limit is below the count, no stub is marked
+pub mark_none : (count : ℕ) (slots : Slots) (limits : List ℕ) → AreOf limit_at slots limits → AreWithin slots → All (λ n. count ≤ n) limits → map (at_some (marked count)) slots ≡ slots
+mark_none count slots limits of within all = map_none (at_some (marked count)) slots refl (λ id s found. ap (λ (u : Stub). Some u) (one id s found s.overrun refl))
+  where
+    one : (id : ℕ) (s : Stub) → slot_of slots id ≡ Some s → (b : Bool) → s.overrun ≡ b → marked count s ≡ s
+    one id s found true over = grind (arith, over)
+    one id s found false over =
+        let place : id < length limits = of.covers id s found in
+        let low : count ≤ get_or limits id greatest = all id greatest place in
+        let is : get_or limits id greatest ≡ limit s = of.each id ∙ ap limit_at found ∙ limit_live s over in
+        let below : count ≤ limit s = omega (arith, low, is) in
+        marked_not count s (within_limit count s below (within id s (record { held = found; live = over })))

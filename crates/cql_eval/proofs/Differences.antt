@@ -4,7 +4,7 @@ use Rattle.std.specs.List.Sorted.{IsPermutation}
 use Rattle.cql_plan.specs.declared.fault.Fault.{Fault as TheFault}
 use Rattle.cql_plan.specs.declared.plan.OutputKind.{OutputKind}
 use Rattle.cql_plan.specs.declared.plan.OutputKind.TheVariants.{Istream, Dstream, Rstream, Signed}
-use Rattle.cql_bag.specs.Bag.{Counts, IsBag, bag_of, put_rows}
+use Rattle.cql_bag.specs.Bag.{Counts, IsBag, bag_of, put_rows, minus}
 use Rattle.cql_bag.specs.Changes.{changed_by, CanChangeBy}
 use Rattle.cql_bag.specs.Law.{IsSameCountsLaw, IsMinusLaw, IsPutAllLaw, IsTakeLaw}
 use Rattle.cql_bag.specs.declared.change.Change.{Change}
@@ -58,6 +58,25 @@ kept_fault puts takes kind f cs other before stands can =
       (tt, subst (λ b. IsBag (changed_by cs b)) (sym none) all.is, λ e. absurd (other e)),
       told_after kind f (changed_by cs (told_before before)) other ∙ ap (λ r. output_of kind r (Bag (changed_by cs (told_before before)))) (sym stands),
     )
+
+-- ---- no change
+
+itself : (kind : OutputKind) (b : Counts) (before : Relation) → StandsFor kind (Bag b) before → before ≡ Bag (told_before before)
+itself kind b (Bag x) stands = refl
+itself kind b (Fault f) stands = absurd stands
+
+-- where there are no changes of a bag the relation is the same
+pub nothing_changed : (kind : OutputKind) (kept before : Relation) (b : Counts) (cs : List Change) → cs ≡ [] → kept ≡ Bag b → StandsFor kind kept before → StandsFor kind kept (Bag (changed_by cs (told_before before))) × (Bag (changed_by cs (told_before before)) ≡ before)
+nothing_changed kind kept before b cs none is stands =
+    let e : Bag (changed_by cs (told_before before)) ≡ before = ap (λ l. Bag (changed_by l (told_before before))) none ∙ sym (itself kind b before (subst (λ k. StandsFor kind k before) is stands)) in
+    (subst (StandsFor kind kept) (sym e) stands, e)
+
+-- both kinds of changes, of the kind that is neither of the others
+pub signed_told : (kind : OutputKind) → kind ≢ Istream → kind ≢ Dstream → kind ≢ Rstream → (before now : Counts) → told_signed (minus now before) (minus before now) ≡ output_of_bags kind before now
+signed_told Istream i d r before now = absurd (i refl)
+signed_told Dstream i d r before now = absurd (d refl)
+signed_told Rstream i d r before now = absurd (r refl)
+signed_told Signed i d r before now = refl
 
 -- ---- Rstream
 

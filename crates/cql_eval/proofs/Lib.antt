@@ -3,3 +3,4 @@ mod Exchange
 mod Holding
 mod Quiet
 mod Steps
+mod Tallies

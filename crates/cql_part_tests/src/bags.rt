@@ -9,7 +9,7 @@ use std::alloc::Global;
 use std::test::Fail;
 
 fn row(alloc: Global, number: i64) -> Result<Row, Fail> {
-    Ok(Row::new(vec![in alloc; Value::Number(number)]?))
+    Ok(Row::new(alloc, vec![in alloc; Value::Number(number)]?)?)
 }
 
 // The bag of rows of one number each.
@@ -28,8 +28,8 @@ fn is_of(row: &Row, number: i64) -> bool {
 // Whether the bag has rows of these numbers, each so often.
 fn has(bag: &Bag, wanted: &[(i64, u64)]) -> bool {
     bag.entries().len() == wanted.len()
-        && bag.entries().iter().zip(wanted).all(|(entry, wanted)| is_of(&entry.0, wanted.0)
-            && entry.1 == wanted.1)
+        && bag.entries().zip(wanted).all(|((row, times), wanted)| is_of(row, wanted.0)
+            && *times == wanted.1)
 }
 
 // Two bags that share rows.

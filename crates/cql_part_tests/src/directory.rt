@@ -45,7 +45,7 @@ fn schema(alloc: Global) -> Result<Schema, Fail> {
 fn row(alloc: Global, value: Value) -> Result<Row, Fail> {
     let mut values = Vec::new(alloc);
     values.push(value)?;
-    Ok(Row::new(values))
+    Ok(Row::new(alloc, values)?)
 }
 
 #[test]

@@ -12,7 +12,7 @@ use std::test::Fail;
 fn rows(alloc: Global, numbers: &[i64]) -> Result<Items<Row>, Fail> {
     let mut rows = Vec::new(alloc);
     for number in numbers {
-        rows.push(Row::new(vec![in alloc; Value::Number(*number)]?))?;
+        rows.push(Row::new(alloc, vec![in alloc; Value::Number(*number)]?)?)?;
     }
     Ok(Items::from_vec(rows))
 }
@@ -26,7 +26,7 @@ fn signed(alloc: Global, plus: &[i64], minus: &[i64]) -> Result<Output, Fail> {
 fn bag(alloc: Global, numbers: &[i64]) -> Result<Relation, Fail> {
     let mut bag = Bag::new(alloc);
     for number in numbers {
-        bag.add(Row::new(vec![in alloc; Value::Number(*number)]?))?;
+        bag.add(Row::new(alloc, vec![in alloc; Value::Number(*number)]?)?)?;
     }
     Ok(Relation::Bag(bag))
 }

@@ -35,7 +35,7 @@ fn row(alloc: Global, cells: &[Cell]) -> Result<Row, Fail> {
     for cell in cells {
         values.push(value(alloc, *cell)?)?;
     }
-    Ok(Row::new(values))
+    Ok(Row::new(alloc, values)?)
 }
 
 fn rows(alloc: Global, table: &[&[Cell]]) -> Result<Vec<Row>, Fail> {

@@ -31,7 +31,7 @@ fn row(alloc: Global, number: i64, key: &str) -> Result<Row, Fail> {
     let mut values = Vec::new(alloc);
     values.push(Value::Number(number))?;
     values.push(key)?;
-    Ok(Row::new(values))
+    Ok(Row::new(alloc, values)?)
 }
 
 // A row for each time and key, numbered from 0.
@@ -146,7 +146,7 @@ fn parts_of_a_text_split(rt: HostRuntime) -> Result<(), Fail> {
 fn alone(alloc: Global, at: u64) -> Result<Vec<Timed>, Fail>
     ensures { IfOk result (λ rows. rows.items ≡ record { at = at; row = [] } ∷ []) }
 {
-    let row = Arc::new(alloc, Row::new(Vec::new(alloc)))?;
+    let row = Arc::new(alloc, Row::new(alloc, Vec::new(alloc))?)?;
     let mut rows = Vec::new(alloc);
     rows.push(Timed::new(at, row))?;
     Ok(rows)

@@ -160,7 +160,7 @@ fn held_without(stores: &mut Stores, spot: Spot) -> u64
 fn row(alloc: Global, at: u64, number: i64) -> Result<Timed, AllocError>
     ensures { IfOk result (λ t. HasTypes (Number ∷ []) t.row) }
 {
-    let row = Row::new(vec![in alloc; Value::Number(number)]?);
+    let row = Row::new(alloc, vec![in alloc; Value::Number(number)]?)?;
     Ok(Timed::new(at, Arc::new(alloc, row)?))
 }
 

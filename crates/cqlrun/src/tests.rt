@@ -271,7 +271,7 @@ fn lines_that_no_command_is_answered_with(rt: HostRuntime) -> Result<(), Fail> {
 fn rows(alloc: Global, numbers: &[i64]) -> Result<Items<Row>, Fail> {
     let mut rows = Vec::new(alloc);
     for number in numbers {
-        rows.push(Row::new(vec![in alloc; Value::Number(*number)]?))?;
+        rows.push(Row::new(alloc, vec![in alloc; Value::Number(*number)]?)?)?;
     }
     Ok(Items::from_vec(rows))
 }

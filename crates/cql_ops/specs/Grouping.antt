@@ -1,0 +1,21 @@
+-- The groups of a bag by key.
+use Rattle.std.specs.Prelude.{ℕ, List, [], map}
+use Rattle.std.specs.Option.{unwrap_or}
+use Rattle.std.specs.Map.{lookup}
+use Rattle.std.specs.BTreeMap.{is_at, insert_entry}
+use Rattle.cql_value.specs.Order.{row_cmp}
+use Rattle.cql_value.specs.declared.value.Value.{Value}
+use Rattle.cql_bag.specs.Bag.{Counts, put_times}
+use Rattle.cql_algebra.specs.Shape.{key_bag, group_of}
+
+-- a bag for each key, by key
+abbrev pub Groups : Type 0
+Groups = List (List Value × Counts)
+
+-- the groups with a row of the key so many times more
+abbrev pub with_row : List Value → List Value → ℕ → Groups → Groups
+with_row key row n groups = insert_entry row_cmp groups key (put_times row n (unwrap_or (lookup (is_at (row_cmp key)) groups) []))
+
+-- each key of a bag, and its rows
+abbrev pub groups_by : List ℕ → Counts → Groups
+groups_by columns bag = map (λ e. (e.0, group_of columns bag e.0)) (key_bag columns bag)

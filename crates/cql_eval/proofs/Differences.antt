@@ -65,19 +65,6 @@ itself : (kind : OutputKind) (b : Counts) (before : Relation) → StandsFor kind
 itself kind b (Bag x) stands = refl
 itself kind b (Fault f) stands = absurd stands
 
--- where there are no changes of a bag the relation is the same
-pub nothing_changed : (kind : OutputKind) (kept before : Relation) (b : Counts) (cs : List Change) → cs ≡ [] → kept ≡ Bag b → StandsFor kind kept before → StandsFor kind kept (Bag (changed_by cs (told_before before))) × (Bag (changed_by cs (told_before before)) ≡ before)
-nothing_changed kind kept before b cs none is stands =
-    let e : Bag (changed_by cs (told_before before)) ≡ before = ap (λ l. Bag (changed_by l (told_before before))) none ∙ sym (itself kind b before (subst (λ k. StandsFor kind k before) is stands)) in
-    (subst (StandsFor kind kept) (sym e) stands, e)
-
--- both kinds of changes, of the kind that is neither of the others
-pub signed_told : (kind : OutputKind) → kind ≢ Istream → kind ≢ Dstream → kind ≢ Rstream → (before now : Counts) → told_signed (minus now before) (minus before now) ≡ output_of_bags kind before now
-signed_told Istream i d r before now = absurd (i refl)
-signed_told Dstream i d r before now = absurd (d refl)
-signed_told Rstream i d r before now = absurd (r refl)
-signed_told Signed i d r before now = refl
-
 -- ---- Rstream
 
 rstream_from : (kept before : Relation) → StandsFor Rstream kept before → (told_before kept ≡ told_before before) × IsBag (told_before before)

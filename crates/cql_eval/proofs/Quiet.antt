@@ -98,14 +98,6 @@ rstream_again p n to r quiet some lt u ge le =
     ∙ rstream_alone (relation_at p u) (relation_at p (n - 1)) (relation_at p n)
     ∙ (λ i. output_of (sym r i) (relation_at p (n - 1)) (relation_at p (sym at i)))
 
--- where nothing changes at an instant, and then nothing before a later one
-pub quiet_from : (p : PinSeen) (n to : ℕ) → relation_at p (n + 1) ≡ relation_at p n → IsQuietUntil p (n + 1) to → IsQuietUntil p n to
-quiet_from p n to same quiet t ge lt =
-    elim (cases_lt n t) [
-      | inl later ↦ quiet t (omega arith) lt
-      | inr here ↦ let at : n ≡ t = omega arith in subst (λ u. IsQuiet p u) at same
-    ]
-
 -- ---- the instants that are left
 
 -- the instant is among them

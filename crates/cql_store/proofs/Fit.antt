@@ -5,18 +5,9 @@ use Rattle.cql_value.specs.Element.{Element}
 use Rattle.cql_window.specs.declared.window.Window.{Window}
 use Rattle.cql_window.specs.Pin.{HasColumns, AreRows}
 use Rattle.cql_window.specs.Window.{AreAscending, last_of_parts, count_part}
+use Rattle.cql_window.proofs.Exchanges.{each_take as all_take, each_drop as all_drop}
 
 -- ---- all of a list
-
-pub all_drop : (P : Element → Type 0) (n : ℕ) (xs : List Element) → AllByRecursion P xs → AllByRecursion P (drop n xs)
-all_drop P zero xs h = h
-all_drop P (suc n) [] h = tt
-all_drop P (suc n) (x ∷ xs) h = all_drop P n xs h.1
-
-all_take : (P : Element → Type 0) (n : ℕ) (xs : List Element) → AllByRecursion P xs → AllByRecursion P (take n xs)
-all_take P zero xs h = tt
-all_take P (suc n) [] h = tt
-all_take P (suc n) (x ∷ xs) h = (h.0, all_take P n xs h.1)
 
 pub all_more : (P : Element → Type 0) (xs : List Element) (x : Element) → AllByRecursion P xs → P x → AllByRecursion P (xs ++ x ∷ [])
 all_more P [] x h p = (p, tt)

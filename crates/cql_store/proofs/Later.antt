@@ -19,14 +19,9 @@ use Rattle.cql_store.proofs.Keeps.{whole}
 use Rattle.cql_store.specs.declared.stub.Stub.{Stub}
 use Rattle.cql_store.specs.Held.{advanced, HasParts, IsKeptFor, IsReady, pinned}
 use Rattle.cql_store.specs.Places.{shown, shifted, IsSound, IsKept}
+use Rattle.cql_window.proofs.Walked.{end_rises as end_later}
 
 -- ---- counting
-
-end_later : (w : Window) (c t : ℕ) → c ≤ t → end_in w c ≤ end_in w t
-end_later (Range len slide) c t le = end_mono slide c t le
-end_later (Rows count slide) c t le = le
-end_later all c t le = le
-end_later (Parts columns count) c t le = le
 
 -- from the place that was counted to on, the count goes on
 pub counted_on : (rows : List Element) (to : ℕ) (s : Stub) → IsSound rows s → s.cursor ≤ to → s.counted + count_before (end_in s.window to) (drop s.counted rows) ≡ s.seen + count_before (end_in s.window to) (drop s.seen rows)
@@ -38,13 +33,6 @@ counted_on rows to s is le =
     let at : s.seen + k ≡ s.counted = omega (arith, is.counted) in
     let same : drop k (drop s.seen rows) ≡ drop s.counted rows = drop-drop k s.seen rows ∙ ap (λ n. drop n rows) at in
     omega (arith, rest, at, ap (count_before end) same)
-
--- of the rows that came before the end, a window sees whole slides
-pub front_counted : (w : Window) (to : ℕ) (xs : List Element) → whole_slides w (count_before (end_in w to) xs) ≡ front_len w to xs
-front_counted (Range len slide) to xs = refl
-front_counted (Rows count slide) to xs = refl
-front_counted all to xs = refl
-front_counted (Parts columns count) to xs = refl
 
 -- what is counted beyond the front came before the end
 known_on : (w : Window) (rows : List Element) (to seen counted ahead : ℕ) → counted ≡ seen + count_before (end_in w to) (drop seen rows) → seen + ahead ≤ counted → counted - (seen + ahead) ≤ count_before (end_in w to) (drop (seen + ahead) rows)

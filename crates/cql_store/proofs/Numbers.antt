@@ -13,18 +13,6 @@ use Rattle.cql_store.proofs.Keeps.{IsChange, marked_not}
 pub longer_same : (xs : List ℕ) → AreLonger xs xs
 longer_same xs = record { same = λ id. refl; longer = omega arith }
 
-more_same : (xs : List ℕ) (id : ℕ) → get_or (xs ++ greatest ∷ []) id greatest ≡ get_or xs id greatest
-more_same [] zero = refl
-more_same [] (suc id) = refl
-more_same (x ∷ xs) zero = refl
-more_same (x ∷ xs) (suc id) = more_same xs id
-
-pub longer_more : (xs ys : List ℕ) → AreLonger xs ys → AreLonger xs (ys ++ greatest ∷ [])
-longer_more xs ys is = record {
-  same = λ id. more_same ys id ∙ is.same id;
-  longer = omega (arith, is.longer, length-append ys (greatest ∷ []));
-}
-
 of_longer : (number : Option Stub → ℕ) (slots : Slots) (xs ys : List ℕ) → AreLonger xs ys → AreOf number slots xs → AreOf number slots ys
 of_longer number slots xs ys is of = record {
   each = λ id. is.same id ∙ of.each id;
@@ -127,14 +115,6 @@ mark_fewer (x ∷ slots) zero s found live =
     let was : lives x ≡ 1 = ap lives found ∙ ap (λ b. cond b 0 1) live in
     omega (arith, was)
 mark_fewer (x ∷ slots) (suc id) s found live = let less : live_count (set slots id (Some (emptied s))) < live_count slots = mark_fewer slots id s found live in omega (arith, less)
-
-pub mark_within : (old new : Slots) (id : ℕ) (s : Stub) → IsChange old new id (Some (emptied s)) → AreWithin old → AreWithin new
-mark_within old new id s change within other t live = elim (cases_eq other id) [
-  | inl same ↦
-      let is : Some t ≡ Some (emptied s) = sym live.held ∙ ap (slot_of new) same ∙ change.changed in
-      absurd (let e : t ≡ emptied s = cc in let a : t.overrun ≡ true = ap (λ (u : Stub). u.overrun) e in let b = live.live in cc)
-  | inr differs ↦ within other t (record { held = sym (change.others other differs) ∙ live.held; live = live.live })
-]
 
 map_none : (F : Option Stub → Option Stub) (slots : Slots) → F None ≡ None → ((id : ℕ) (s : Stub) → slot_of slots id ≡ Some s → F (Some s) ≡ Some s) → map F slots ≡ slots
 map_none F [] none some = refl

@@ -25,8 +25,8 @@ use Rattle.cql_text.proofs.Names.{name_reader}
 
 -- ---- numbers and lengths
 
-number_is : (least : ℕ) (u : Token) (n : ℕ) → number_from least u ≡ Some n → (u ≡ t.Number n) × (least ≤ n) × (n < 2 ^ 62)
-number_is least (t.Number m) n h = at (nat_le least m) (nat_lt m (2 ^ 62)) refl refl h
+pub number_facts : (least : ℕ) (u : Token) (n : ℕ) → number_from least u ≡ Some n → (u ≡ t.Number n) × (least ≤ n) × (n < 2 ^ 62)
+number_facts least (t.Number m) n h = at (nat_le least m) (nat_lt m (2 ^ 62)) refl refl h
   where
     at : (b c : Bool) → nat_le least m ≡ b → nat_lt m (2 ^ 62) ≡ c → (if b && c then Some m else None) ≡ Some n → (t.Number m ≡ t.Number n) × (least ≤ n) × (n < 2 ^ 62)
     at true true f g h =
@@ -36,15 +36,12 @@ number_is least (t.Number m) n h = at (nat_le least m) (nat_lt m (2 ^ 62)) refl 
         (ap t.Number e, subst (λ i. least ≤ i) e low, subst (λ i. i < 2 ^ 62) e high)
     at true false f g h = cc
     at false c f g h = cc
-number_is least (t.Fixed j) n h = cc
-number_is least (t.Word s) n h = cc
-number_is least (t.Text s) n h = cc
-
-pub number_facts : (least : ℕ) (u : Token) (n : ℕ) → number_from least u ≡ Some n → (u ≡ t.Number n) × (least ≤ n) × (n < 2 ^ 62)
-number_facts = number_is
+number_facts least (t.Fixed j) n h = cc
+number_facts least (t.Word s) n h = cc
+number_facts least (t.Text s) n h = cc
 
 plain_number : (least : ℕ) (u : Token) (n : ℕ) → number_from least u ≡ Some n → IsPlain u
-plain_number least u n h = let f = number_is least u n h in subst IsPlain (sym f.0) (let g : n < 2 ^ 64 = omega (arith, f.2) in g)
+plain_number least u n h = let f = number_facts least u n h in subst IsPlain (sym f.0) (let g : n < 2 ^ 64 = omega (arith, f.2) in g)
 
 pub number_known : (least n : ℕ) → least ≤ n → n < 2 ^ 62 → number_from least (t.Number n) ≡ Some n
 number_known least n l h =
@@ -141,7 +138,7 @@ begins_unbounded : (test : Test) (b : Bool) → test (t.Fixed k.Unbounded) ≡ b
 begins_unbounded test b h = begins_then (rule.word k.Unbounded) _ test b (begins_word k.Unbounded test b h)
 
 begins_number : (least : ℕ) (test : Test) (b : Bool) → ((n : ℕ) → test (t.Number n) ≡ b) → Begins (rule.one (number_from least)) test b
-begins_number least test b g = begins_one (number_from least) test b (λ u n h. ap test (number_is least u n h).0 ∙ g n)
+begins_number least test b g = begins_one (number_from least) test b (λ u n h. ap test (number_facts least u n h).0 ∙ g n)
 
 abbrev TimeSlide : Rule ℕ
 TimeSlide = rule.◌>>◌ (rule.word k.Slide) (IsLength 1)

@@ -37,12 +37,12 @@ left_more columns count came done next left left' gone x next_is left_is before 
     (subst (λ l. IsExchange (last_of_parts columns count came) (done ++ x ∷ []) (left ++ gone) (last_of_parts columns count l)) (append_assoc came done (x ∷ [])) both))
 
 -- all elements of a window of parts have its columns
-each_take : (P : Element → Type 0) (n : ℕ) (xs : List Element) → AllByRecursion P xs → AllByRecursion P (take n xs)
+pub each_take : (P : Element → Type 0) (n : ℕ) (xs : List Element) → AllByRecursion P xs → AllByRecursion P (take n xs)
 each_take P zero xs every = tt
 each_take P (suc n) [] every = tt
 each_take P (suc n) (x ∷ xs) every = (every.0, each_take P n xs every.1)
 
-each_drop : (P : Element → Type 0) (n : ℕ) (xs : List Element) → AllByRecursion P xs → AllByRecursion P (drop n xs)
+pub each_drop : (P : Element → Type 0) (n : ℕ) (xs : List Element) → AllByRecursion P xs → AllByRecursion P (drop n xs)
 each_drop P zero xs every = every
 each_drop P (suc n) [] every = tt
 each_drop P (suc n) (x ∷ xs) every = each_drop P n xs every.1

@@ -26,14 +26,6 @@ used_one count key old new parts o full was now new_is updates o_is was_is full_
     by_test true tied = now_is ∙ ap (λ m. m - 1) (wanted_was ∙ ap (wanted count old) (key_exact key k tied))
     by_test false apart = omega arith
 
-pub newest_begin : (columns : List ℕ) (count : ℕ) (xs : List Element) (ps : BTreeMap (List (Option Value)) ℕ) → IsEmpty ps → AreNewest columns count xs xs [] ps
-newest_begin columns count xs ps none = record {
-  later = [];
-  all = sym (append-nil xs);
-  kept = refl;
-  left = λ r. ap (λ es. unwrap_or (lookup (is_at (key_cmp (key_of columns r))) es) count) none ∙ omega arith;
-}
-
 -- the last of the rest was looked at
 pub newest_step : (columns : List ℕ) (count : ℕ) (xs rest newest earlier : List Element) (x : Element) (row : List Value) (key : List (Option Value)) (ps qs : BTreeMap (List (Option Value)) ℕ) (b : Bool) → AreNewest columns count xs rest newest ps → IsLastAndRest rest x earlier → row ≡ x.row → key ≡ key_of columns row → b ≡ nat_lt 0 (wanted count ps key) → IsUsed count key ps qs → AreNewest columns count xs earlier (cond b (newest ++ x ∷ []) newest) qs
 unfolding IsUsed

@@ -69,7 +69,7 @@ past_both p least m k n settled unseen xs ys le parts n_is m_is ge k_is =
     omega (arith, sum, prefix_rest p least (settled ++ unseen) le)
 
 -- the places at two cursors
-end_rises : (w : Window) (c t : ℕ) → c ≤ t → end_in w c ≤ end_in w t
+pub end_rises : (w : Window) (c t : ℕ) → c ≤ t → end_in w c ≤ end_in w t
 end_rises (Range len slide) c t le = end_mono slide c t le
 end_rises (Rows count slide) c t le = le
 end_rises all c t le = le

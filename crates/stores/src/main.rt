@@ -90,7 +90,10 @@ impl Fed {
 fn numbered(alloc: Global, number: i64) -> Result<Arc<Row>, AllocError>
     ensures { IfOk result (λ row. HasTypes (Number ∷ []) (arc_value row)) }
 {
-    Ok(Arc::new(alloc, Row::new(alloc, vec![in alloc; Value::Number(number)]?)?)?)
+    Ok(Arc::new(
+        alloc,
+        Row::new(alloc, vec![in alloc; Value::Number(number)]?)?,
+    )?)
 }
 
 // How many rows the store holds of so many behind so many stubs, each of all rows.

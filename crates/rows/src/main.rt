@@ -11,8 +11,14 @@ use std::{fs, io};
 fn replies(alloc: Global, text: &[u8]) -> Result<Vec<u8>, &'static str> {
     let mut reader = Watched::new(text);
     let mut writer = Watched::new(Vec::new(alloc));
-    let bench = &mut plain_bench(alloc);
-    match program(alloc, &[], &mut reader, &mut writer, bench) {
+    let told = program(
+        alloc,
+        &[],
+        &mut reader,
+        &mut writer,
+        &mut plain_bench(alloc),
+    );
+    match told {
         (0, _) => Ok(writer.into_inner()),
         (_, fault) => Err(fault),
     }

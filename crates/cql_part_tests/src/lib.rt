@@ -9,6 +9,8 @@ mod clocks;
 #[cfg(test)]
 mod directory;
 #[cfg(test)]
+mod least;
+#[cfg(test)]
 mod nodes;
 #[cfg(test)]
 mod outputs;

@@ -31,13 +31,17 @@ past_all rows gone first slots firsts placed of low id s live =
 pub trimmed_shown : (rows : List Element) (gone first : ℕ) (slots : Slots) (firsts limits : List ℕ) → IsKnown rows gone slots firsts limits → All (λ n. first ≤ n) firsts → all_shown (drop (gone_of first gone (length rows)) rows) (gone + gone_of first gone (length rows)) slots ≡ all_shown rows gone slots
 trimmed_shown rows gone first slots firsts limits is low = trim_shown rows gone (gone_of first gone (length rows)) slots is.placed (past_all rows gone first slots firsts is.placed is.known.of_firsts low)
 
+-- a number that stands in a place is that of the place's stub
+number_at : (slots : Slots) (firsts : List ℕ) (k first : ℕ) → AreOf first_at slots firsts → k < length firsts → get_or firsts k first ≡ first → first_at (slot_of slots k) ≡ first
+number_at slots firsts k first of within is = sym (of.each k) ∙ get_or_any firsts k greatest first within ∙ is
+
 -- of the rows that are left a stub needs the first
 first_left : (rows : List Element) (gone first : ℕ) (slots : Slots) (firsts : List ℕ) → gone + length rows ≤ greatest → ArePlaced rows gone slots → AreOf first_at slots firsts → (first < greatest → Contains firsts first) → 0 < length (drop (gone_of first gone (length rows)) rows) → IsFirst slots (gone + gone_of first gone (length rows))
 first_left rows gone first slots firsts fits placed of met some =
     let left : 0 < length rows - gone_of first gone (length rows) = omega (arith, some, length-drop (gone_of first gone (length rows)) rows) in
     let low : first < greatest = omega (arith, left, fits) in
     let at = met low in
-    let is : first_at (slot_of slots at.0) ≡ first = sym (of.each at.0) ∙ get_or_any firsts at.0 greatest first at.1 ∙ at.2 in
+    let is : first_at (slot_of slots at.0) ≡ first = number_at slots firsts at.0 first of at.1 at.2 in
     let has = has_first (slot_of slots at.0) first is low in
     let live : IsLive slots at.0 has.stub = record { held = has.held; live = has.live } in
     let behind : gone ≤ has.stub.first = (placed at.0 has.stub live).behind in

@@ -1,6 +1,13 @@
-//! Appends rows to the store of one stream with some stubs on it, and tells how many rows it holds
-//! then. Its words are how many stubs and how many rows: 1 and 1000 without words. The stubs lag,
-//! all alike; with a third word they see the last instant alone, and each goes on after each row.
+//! Works the store of one stream with some stubs on it, and tells how many rows it holds then. Its
+//! words are how many stubs, how many times, and at what:
+//!
+//! - `rows` (what it does without a word): a row comes, behind stubs that all lag alike.
+//! - `near`: a row comes that fills the last stub, which then goes on; the others lag.
+//! - `overrun`: a row comes, behind stubs of which all but the first are overrun.
+//! - `rounds`: a row comes, and then each stub, all of the last instant, goes on.
+//! - `detach`: a stub goes, and another comes; the stubs go in turn.
+//!
+//! Without words it is 1 stub and 1000 rows.
 #![tactic(auto)]
 
 ghost use Rattle.std.specs.Prelude.{◌≡◌, [], ◌∷◌, IfOk};
@@ -14,6 +21,7 @@ use cql_store::{Store, StubId};
 use cql_value::{Row, Timed, Value};
 use cql_window::{Count, Length, Window};
 use std::alloc::{AllocError, Global};
+use std::collections::VecDeque;
 use std::marker::Model;
 use std::process::ExitCode;
 use std::sync::Arc;
@@ -74,6 +82,14 @@ impl Fed {
         Ok(())
     }
 
+    // The stub goes, unless it is overrun.
+    fn detach(&mut self, id: StubId) {
+        next_law();
+        if self.store.may_advance(id, self.opened) {
+            self.store.detach(id);
+        }
+    }
+
     // A stub goes to a later cursor, unless it is overrun.
     fn go(&mut self, id: StubId, to: u64) -> Result<(), AllocError> {
         next_law();
@@ -96,26 +112,32 @@ fn numbered(alloc: Global, number: i64) -> Result<Arc<Row>, AllocError>
     )?)
 }
 
-// How many rows the store holds of so many behind so many stubs, each of all rows.
-fn lagging(alloc: Global, stubs: u64, rows: u64) -> Result<u64, AllocError> {
-    let mut fed = Fed::new(alloc);
+// A stub of all rows that comes in the way of none.
+fn lag(fed: &mut Fed) -> Result<StubId, AllocError> {
+    fed.attach(Window::All, GREATEST)
+}
+
+// So many stubs of all rows.
+fn lag_all(fed: &mut Fed, stubs: u64) -> Result<(), AllocError> {
     for _ in 0..stubs {
-        fed.attach(Window::All, GREATEST)?;
+        lag(fed)?;
     }
-    for at in 0..rows {
-        let row = numbered(alloc, i64::try_from(at).unwrap_or(0))?;
-        fed.put(Timed::new(at, row))?;
-    }
-    Ok(fed.store.rows_held())
+    Ok(())
+}
+
+// A stub of the last instant, with a hold.
+fn stub_of_now(fed: &mut Fed, hold: u64) -> Result<StubId, AllocError> {
+    let (Some(length), Some(slide)) = (Length::new(0), Count::new(1)) else {
+        unreachable!()
+    };
+    fed.attach(Window::Range { length, slide }, hold)
 }
 
 // So many stubs of the last instant, each with a hold of 100.
 fn stubs_of_now(alloc: Global, fed: &mut Fed, stubs: u64) -> Result<Vec<StubId>, AllocError> {
     let mut ids = Vec::new(alloc);
     for _ in 0..stubs {
-        if let (Some(length), Some(slide)) = (Length::new(0), Count::new(1)) {
-            ids.push(fed.attach(Window::Range { length, slide }, 100)?)?;
-        }
+        ids.push(stub_of_now(fed, 100)?)?;
     }
     Ok(ids)
 }
@@ -128,15 +150,94 @@ fn go_all(fed: &mut Fed, ids: &[StubId], to: u64) -> Result<(), AllocError> {
     Ok(())
 }
 
-// How many rows the store holds after so many of one shared row, where each stub goes on after
-// each.
-fn in_step(alloc: Global, stubs: u64, rows: u64) -> Result<u64, AllocError> {
-    let mut fed = Fed::new(alloc);
-    let ids = stubs_of_now(alloc, &mut fed, stubs)?;
-    let row = numbered(alloc, 7)?;
+// So many rows come, of the instants from 0 on.
+fn put_all(alloc: Global, fed: &mut Fed, rows: u64) -> Result<(), AllocError> {
     for at in 0..rows {
+        let row = numbered(alloc, i64::try_from(at).unwrap_or(0))?;
+        fed.put(Timed::new(at, row))?;
+    }
+    Ok(())
+}
+
+fn rows(alloc: Global, fed: &mut Fed, stubs: u64, times: u64) -> Result<(), AllocError> {
+    lag_all(fed, stubs)?;
+    put_all(alloc, fed, times)
+}
+
+fn near(alloc: Global, fed: &mut Fed, stubs: u64, times: u64) -> Result<(), AllocError> {
+    lag_all(fed, stubs.saturating_sub(1))?;
+    let last = stub_of_now(fed, 1)?;
+    let row = numbered(alloc, 7)?;
+    for at in 0..times {
         fed.put(Timed::new(at, Arc::try_clone(&row)?))?;
-        go_all(&mut fed, &ids, at.saturating_add(1))?;
+        fed.go(last, at.saturating_add(2))?;
+    }
+    Ok(())
+}
+
+fn overrun(alloc: Global, fed: &mut Fed, stubs: u64, times: u64) -> Result<(), AllocError> {
+    lag(fed)?;
+    for _ in 1..stubs {
+        fed.attach(Window::All, 0)?;
+    }
+    put_all(alloc, fed, times)
+}
+
+fn rounds(alloc: Global, fed: &mut Fed, stubs: u64, times: u64) -> Result<(), AllocError> {
+    let ids = stubs_of_now(alloc, fed, stubs)?;
+    let row = numbered(alloc, 7)?;
+    for at in 0..times {
+        fed.put(Timed::new(at, Arc::try_clone(&row)?))?;
+        go_all(fed, &ids, at.saturating_add(1))?;
+    }
+    Ok(())
+}
+
+fn detach(alloc: Global, fed: &mut Fed, stubs: u64, times: u64) -> Result<(), AllocError> {
+    let mut ids = VecDeque::new(alloc);
+    for _ in 0..stubs {
+        ids.push_back(lag(fed)?)?;
+    }
+    for _ in 0..times {
+        if let Some(id) = ids.pop_front() {
+            fed.detach(id);
+            ids.push_back(lag(fed)?)?;
+        }
+    }
+    Ok(())
+}
+
+// What is done to the store.
+#[derive(Clone, Copy)]
+enum Work {
+    Rows,
+    Near,
+    Overrun,
+    Rounds,
+    Detach,
+}
+
+// The work of a word, if it names one.
+fn work_of(word: &str) -> Option<Work> {
+    match word {
+        "rows" => Some(Work::Rows),
+        "near" => Some(Work::Near),
+        "overrun" => Some(Work::Overrun),
+        "rounds" => Some(Work::Rounds),
+        "detach" => Some(Work::Detach),
+        _ => None,
+    }
+}
+
+// Does the work, and tells how many rows the store then holds.
+fn held_after(alloc: Global, work: Work, stubs: u64, times: u64) -> Result<u64, AllocError> {
+    let mut fed = Fed::new(alloc);
+    match work {
+        Work::Rows => rows(alloc, &mut fed, stubs, times)?,
+        Work::Near => near(alloc, &mut fed, stubs, times)?,
+        Work::Overrun => overrun(alloc, &mut fed, stubs, times)?,
+        Work::Rounds => rounds(alloc, &mut fed, stubs, times)?,
+        Work::Detach => detach(alloc, &mut fed, stubs, times)?,
     }
     Ok(fed.store.rows_held())
 }
@@ -153,11 +254,16 @@ fn main(rt: HostRuntime) -> io::Result<ExitCode> {
     let alloc = rt.alloc();
     let words = env::args(&rt)?.skip(1).collect::<Vec<String>>(alloc)?;
     let stubs = number(&words, 0, 1);
-    let rows = number(&words, 1, 1000);
-    let held = match words.get(2) {
-        Some(_) => in_step(alloc, stubs, rows)?,
-        None => lagging(alloc, stubs, rows)?,
+    let times = number(&words, 1, 1000);
+    let work = match words.get(2) {
+        Some(word) => work_of(word.as_str()),
+        None => Some(Work::Rows),
     };
+    let Some(work) = work else {
+        eprintln!(rt; "stores STUBS TIMES [rows|near|overrun|rounds|detach]")?;
+        return Ok(ExitCode::FAILURE);
+    };
+    let held = held_after(alloc, work, stubs, times)?;
     println!(rt; "{held}")?;
     Ok(ExitCode::SUCCESS)
 }

@@ -4,7 +4,7 @@ use Rattle.std.specs.List.Sorted.{IsPermutation}
 use Rattle.cql_plan.specs.declared.fault.Fault.{Fault as TheFault}
 use Rattle.cql_plan.specs.declared.plan.OutputKind.{OutputKind}
 use Rattle.cql_plan.specs.declared.plan.OutputKind.TheVariants.{Istream, Dstream, Rstream, Signed}
-use Rattle.cql_bag.specs.Bag.{Counts, IsBag, bag_of, put_rows, minus}
+use Rattle.cql_bag.specs.Bag.{Counts, IsBag, bag_of, put_rows}
 use Rattle.cql_bag.specs.Changes.{changed_by, CanChangeBy}
 use Rattle.cql_bag.specs.Law.{IsSameCountsLaw, IsMinusLaw, IsPutAllLaw, IsTakeLaw}
 use Rattle.cql_bag.specs.declared.change.Change.{Change}
@@ -58,12 +58,6 @@ kept_fault puts takes kind f cs other before stands can =
       (tt, subst (λ b. IsBag (changed_by cs b)) (sym none) all.is, λ e. absurd (other e)),
       told_after kind f (changed_by cs (told_before before)) other ∙ ap (λ r. output_of kind r (Bag (changed_by cs (told_before before)))) (sym stands),
     )
-
--- ---- no change
-
-itself : (kind : OutputKind) (b : Counts) (before : Relation) → StandsFor kind (Bag b) before → before ≡ Bag (told_before before)
-itself kind b (Bag x) stands = refl
-itself kind b (Fault f) stands = absurd stands
 
 -- ---- Rstream
 

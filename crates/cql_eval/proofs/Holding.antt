@@ -21,7 +21,6 @@ use Rattle.cql_out.specs.declared.relation.Relation.{Relation}
 use Rattle.cql_eval.specs.Pin.{PinSeen, AreOf, AreWindowsOf}
 use Rattle.cql_eval.specs.Relation.{held_at, bags_at, relation_at}
 use Rattle.cql_eval.specs.Shown.{rows_of, changes_of, IsWalk, AreWalks, HasReached, fresh, bags_held, IsReady, HasPushed, IsShown, StandsFor, told_before}
-use Rattle.cql_window.proofs.Exchanges.{each_take, each_drop}
 
 -- ---- rows of some columns
 
@@ -36,6 +35,16 @@ second_part P (x ∷ xs) ys every = second_part P xs ys every.1
 both_parts : (P : Element → Type 0) (xs ys : List Element) → AllByRecursion P xs → AllByRecursion P ys → AllByRecursion P (xs ++ ys)
 both_parts P [] ys first second = second
 both_parts P (x ∷ xs) ys first second = (first.0, both_parts P xs ys first.1 second)
+
+each_take : (P : Element → Type 0) (n : ℕ) (xs : List Element) → AllByRecursion P xs → AllByRecursion P (take n xs)
+each_take P zero xs every = tt
+each_take P (suc n) [] every = tt
+each_take P (suc n) (x ∷ xs) every = (every.0, each_take P n xs every.1)
+
+each_drop : (P : Element → Type 0) (n : ℕ) (xs : List Element) → AllByRecursion P xs → AllByRecursion P (drop n xs)
+each_drop P zero xs every = every
+each_drop P (suc n) [] every = tt
+each_drop P (suc n) (x ∷ xs) every = each_drop P n xs every.1
 
 -- what came is of the pin
 pub came_columns : (columns : List ColumnType) (xs came : List Element) → AreOf columns xs → IsSegment xs came → AreOf columns came
@@ -84,6 +93,13 @@ pushing_more p input plus x rest bag o after next before pushed =
       contents = (λ i. set (pushed.contents i) input (changed_by (changes_of plus rest) (here i))) ∙ set-set old input mid (changed_by (changes_of plus rest) mid) ∙ before.contents;
       told = pushed.told ∙ before.told;
     }
+
+pub pushing_done : (p : PinSeen) (input : ℕ) (plus : Bool) (bag : Counts) (o after : BenchSeen) → IsPushing p input plus [] bag o after → HasPushed p input bag o after
+pushing_done p input plus bag o after done = record {
+  runs = done.runs;
+  contents = sym (set-get_or (contents_of p.plan after) input []) ∙ done.contents;
+  told = done.told;
+}
 
 -- ---- each window has its walk
 

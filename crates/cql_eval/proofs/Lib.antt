@@ -3,4 +3,3 @@ mod Exchange
 mod Holding
 mod Quiet
 mod Steps
-mod Tallies

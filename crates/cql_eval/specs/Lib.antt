@@ -2,4 +2,3 @@ pub mod Answer
 pub mod Pin
 pub mod Relation
 pub mod Shown
-pub mod Tally

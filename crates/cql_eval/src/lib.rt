@@ -7,7 +7,6 @@ mod bags;
 mod evaluate;
 mod pin;
 mod shown;
-mod tally;
 mod walks;
 
 pub use answered::Answer;

@@ -27,7 +27,7 @@ pub(crate) fn stream(alloc: Global, name: &str) -> Result<Command, AllocError> {
 }
 
 pub(crate) fn put(alloc: Global, stream: &str, at: u64) -> Result<Command, AllocError> {
-    let row = Row::new(alloc, Vec::from_array(alloc, [Value::Number(1)])?)?;
+    let row = Row::new(Vec::from_array(alloc, [Value::Number(1)])?);
     let stream = Text::new(alloc, stream)?;
     Ok(Command::Put { stream, at, row })
 }

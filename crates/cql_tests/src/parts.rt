@@ -26,7 +26,7 @@ fn row(alloc: Global, cells: &[Cell]) -> Result<Row, Fail> {
     for cell in cells {
         values.push(value(alloc, *cell)?)?;
     }
-    Ok(Row::new(alloc, values)?)
+    Ok(Row::new(values))
 }
 
 // Rows in ascending order. Those of a stream are all of its columns' types.

@@ -149,7 +149,7 @@ fn are_fit(rows: &[Timed]) -> bool
 }
 
 fn timed(alloc: Global, at: u64, number: i64) -> Result<Timed, Fail> {
-    let row = Row::new(alloc, vec![in alloc; Value::Number(number)]?)?;
+    let row = Row::new(vec![in alloc; Value::Number(number)]?);
     Ok(Timed::new(at, Arc::new(alloc, row)?))
 }
 

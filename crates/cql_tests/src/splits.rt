@@ -24,7 +24,7 @@ fn rows(count: u64, slide: u64) -> Option<Window> {
 // A row of its number and its key.
 fn row(alloc: Global, number: i64, key: &str) -> Result<Row, Fail> {
     let key = Value::Text(Text::new(alloc, key)?);
-    Ok(Row::new(alloc, vec![in alloc; Value::Number(number), key]?)?)
+    Ok(Row::new(vec![in alloc; Value::Number(number), key]?))
 }
 
 // A row for each time and key, numbered from 0.

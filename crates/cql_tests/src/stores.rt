@@ -129,7 +129,7 @@ fn parts(alloc: Global, count: u64) -> Result<Window, Refused>
 fn shared(alloc: Global, number: i64) -> Result<Arc<Row>, Refused>
     ensures { IfOk result (λ r. length (arc_value r) ≡ 1) }
 {
-    let row = Row::new(alloc, vec![in alloc; Value::Number(number)]?)?;
+    let row = Row::new(vec![in alloc; Value::Number(number)]?);
     Ok(Arc::new(alloc, row)?)
 }
 

@@ -106,10 +106,7 @@ impl Fed {
 fn numbered(alloc: Global, number: i64) -> Result<Arc<Row>, AllocError>
     ensures { IfOk result (λ row. HasTypes (Number ∷ []) (arc_value row)) }
 {
-    Ok(Arc::new(
-        alloc,
-        Row::new(alloc, vec![in alloc; Value::Number(number)]?)?,
-    )?)
+    Ok(Arc::new(alloc, Row::new(vec![in alloc; Value::Number(number)]?))?)
 }
 
 // A stub of all rows that comes in the way of none.

@@ -6,8 +6,7 @@ use Rattle.cql_plan.specs.Ports.{ports}
 use Rattle.cql_ops.specs.Bench.{BenchSeen, bench_seen}
 use Rattle.cql_ops.specs.Seen.{columns_at}
 use Rattle.cql_eval.specs.Shown.{rows_of, IsReady, IsWalk, HasReached, HasPushed}
-use Rattle.cql_eval.proofs.Holding.{walk_at, one_more, next_bag, next_within, reached_more, reached_bags, all_reached, no_length}
-use Rattle.cql_eval.proofs.Tallies.{tallied_after}
+use Rattle.cql_eval.proofs.Holding.{walk_at, one_more, next_within, reached_more, reached_bags, all_reached, no_length}
 use Rattle.cql_eval.proofs.walks.advance.Goals as goal
 
 pub advance_one-requires-clause-input : goal.advance_one-requires-clause-input
@@ -39,13 +38,6 @@ loop-walk-preserved g c =
       bench = c.in_ok-walk.ensures.bench;
       ready = subst (λ l. IsReady c.args.pin.now c.args.cursor (l ++ into_iter_items c.next.new.self) after) (sym items)
           (one_more c.args.pin.now c.args.cursor c.loop-walk.reached.items c.in-Some.walk c.in_ok-walk.walk (into_iter_items c.next.new.self) o after ready (subst (λ n. IsWalk c.args.cursor (columns_at (ports c.args.pin.now.plan) n) c.in-Some.walk.pin c.in_ok-walk.walk) size c.in_ok-walk.ensures.walk) (subst (λ n. HasPushed c.args.pin.now n (bag_of (rows_of c.in_ok-walk.walk.held)) o after) size c.in_ok-walk.ensures.pushed));
-      tally = tallied_after c.args.pin.now (length c.loop-walk.reached.items) (bag_of (rows_of c.in-Some.walk.held)) (bag_of (rows_of c.in_ok-walk.walk.held)) o after c.loop-walk.tally c.advance_one.new.tally
-          (next_within c.args.pin.now c.args.cursor c.loop-walk.reached.items c.in-Some.walk (into_iter_items c.next.new.self) o ready).1
-          (next_bag c.args.pin.now c.args.cursor c.loop-walk.reached.items c.in-Some.walk (into_iter_items c.next.new.self) o ready)
-          (subst (λ n. HasPushed c.args.pin.now n (bag_of (rows_of c.in_ok-walk.walk.held)) o after) size c.in_ok-walk.ensures.pushed)
-          (λ none. c.in_ok-walk.ensures.counted (size ∙ none))
-          (λ some. c.in_ok-walk.ensures.others (λ none. some (sym size ∙ none)))
-          c.loop-walk.invariant.tally;
       reached = subst (AllByRecursion (HasReached c.args.cursor)) (sym items) (reached_more c.args.cursor c.loop-walk.reached.items c.in_ok-walk.walk c.loop-walk.invariant.reached c.in_ok-walk.ensures.reached);
       told = c.in_ok-walk.ensures.pushed.told ∙ c.loop-walk.invariant.told;
     }

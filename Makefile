@@ -12,7 +12,7 @@ help:
 	@echo 'make run     the replies to $(FIRST), from a run that is checked and not proved (a minute)'
 	@echo 'make build   proves and builds $(RUNNER) and $(SERVER) ($(BUILD_TIME))'
 	@echo 'make test    the gate, and then the built programs as users run them (more than half an hour)'
-	@echo 'make bench   builds the programs, and times puts, query texts, fetches, shared streams, a store and the server'
+	@echo 'make bench   builds the programs, and times puts, query texts, fetches, shared streams, a store and the server, and counts instructions (an hour)'
 
 # runs the first script with no proof
 run:
@@ -31,13 +31,16 @@ test:
 	.ci/run
 
 # times puts, texts of two lengths, fetches over many rows, and many readers of one stream, through
-# the built cqlrun; appends to one store, through the built stores; and sessions of the built cqld
+# the built cqlrun, and counts the instructions of fetches; appends to one store, through the built stores; and sessions of the built cqld
 bench: build
 	bench/puts $(RUNNER)
 	bench/texts $(RUNNER)
 	bench/fetches $(RUNNER)
 	bench/shared $(RUNNER)
+	bench/rows $(RUNNER)
+	bench/joins $(SERVER)
 	@cd crates/stores && rt run > /dev/null
 	bench/stores crates/stores/out/stores
 	bench/server $(SERVER)
 	bench/hall $(SERVER)
+	bench/memory $(SERVER)

@@ -1,5 +1,5 @@
-"""Starts a cqld and talks to it, for tests/server and the scripts of bench/. Each wait ends after
-SECONDS with an error.
+"""Starts a cqld and talks to it, for tests/server, the checks of the clients and the scripts of
+bench/. Each wait ends after SECONDS with an error.
 """
 import collections
 import json
@@ -45,6 +45,33 @@ def audit(entries):
     return b"audit: %d entries, %d receipts, agreed\n" % (entries, entries)
 
 
+def put(at, *row, stream="s"):
+    return line_of(at=at, do="put", row=row, stream=stream)
+
+
+def beat(at, stream="s"):
+    return line_of(at=at, do="beat", stream=stream)
+
+
+def block(start, end, *rows):
+    return {"from": start, "rows": [[row] for row in rows], "to": end}
+
+
+def told(end, *blocks):
+    return line_of(blocks=blocks, next=end)
+
+
+def shown(value):
+    """A value in a line of its own, not too long."""
+    text = repr(value)
+    return text if len(text) <= 160 else f"{text[:120]}.. ({len(value)} bytes)"
+
+
+def difference(found, wanted):
+    """What is found that isn't expected, or None."""
+    return None if found == wanted else f"it is {shown(found)} and not {shown(wanted)}"
+
+
 class Stalled(OSError):
     """A wait was too long."""
 
@@ -52,8 +79,9 @@ class Stalled(OSError):
 class Server:
     """A cqld that listens. It is killed at the end of the `with`, if it is still there."""
 
-    def __init__(self, program, table, **words):
-        """Of the words --some-word N is written some_word=N, and --word alone word=True."""
+    def __init__(self, program, table, under=(), **words):
+        """Of the words --some-word N is written some_word=N, and --word alone word=True. `under`: the
+        words of a program that runs it."""
         spelled = []
         for name, value in words.items():
             spelled += ["--" + name.replace("_", "-")] + [str(value)] * (value is not True)
@@ -61,7 +89,7 @@ class Server:
             given.write(table)
             given.seek(0)
             self.child = subprocess.Popen(
-                [program, *spelled], stdin=given, stdout=subprocess.PIPE, stderr=subprocess.PIPE
+                [*under, program, *spelled], stdin=given, stdout=subprocess.PIPE, stderr=subprocess.PIPE
             )
         try:
             line = self.first_line()

@@ -2,7 +2,7 @@
 ghost use Rattle.std.specs.Prelude.{◌≡◌, ◌↔◌, IfOk, IsTrue, option_map};
 ghost use Rattle.std.specs.Arc.{arc_value};
 ghost use Rattle.cql_meaning.specs.Columns.{column_of, columns_of, schema_of};
-ghost use Rattle.cql_core.specs.Prepared.{query_checked, IsReady, command_of};
+ghost use Rattle.cql_core.specs.Prepared.{query_checked, IsReady, command_of, is_on_query};
 
 use crate::same::is_same_command;
 use cql_meaning::{ColumnText, Command, Refusal};
@@ -119,6 +119,19 @@ impl Prepared {
     {
         is_same_command(&self.ready, &other.ready)
     }
+
+    /// Whether it is on a query: makes, fetches, acknowledges or drops one. Takes no memory.
+    pub fn is_on_query(&self) -> bool
+        ensures { result ≡ is_on_query self.now }
+    {
+        match &self.ready {
+            Ready::Query { .. } => true,
+            Ready::Fetch { .. } => true,
+            Ready::Ack { .. } => true,
+            Ready::Drop { .. } => true,
+            _ => false,
+        }
+    }
 }
 
 // The column that is named so, if it is one.
@@ -191,7 +204,7 @@ fn ready_of(alloc: Global, command: Command) -> Result<Ready, AllocError>
         }
         Command::Grant { stream, to } => Ok(Ready::Grant { stream, to }),
         Command::Put { stream, at, row } => {
-            let element = Timed::new(at, Arc::new(alloc, row)?);
+            let element = Timed::new(at, row);
             Ok(Ready::Put { stream, element })
         }
         Command::Beat { stream, at } => Ok(Ready::Beat { stream, at }),

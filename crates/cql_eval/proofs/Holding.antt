@@ -1,9 +1,10 @@
 -- Walks over the windows of a pin, and the bags of what they hold.
 use Rattle.std.proofs.Common.{◌≡◌, ℕ, zero, suc, ◌+◌, ◌≤◌, ◌<◌, List, [], ◌∷◌, ◌++◌, length, get_or, set, take, drop, drop-cons, map, Bool, refl, sym, ap, subst, ◌∙◌, arith, append_assoc, length-append, set-set, get_or-set_same}
 use Rattle.std.specs.List.{AllByRecursion}
-use Rattle.std.proofs.lemmas.List.{set-get_or, append-nil}
+use Rattle.std.proofs.lemmas.List.{append-nil, length-set, length-take, length-drop, take_all, take_more, take-append-drop}
 use Rattle.std.proofs.lemmas.List.Elements.{recursion_from_All, All-from_recursion}
-use Rattle.std.proofs.lemmas.List.Sorted.{All-permutation}
+use Rattle.std.proofs.lemmas.List.Sorted.{All-permutation, IsPermutation-sym}
+use Rattle.std.specs.List.Sorted.{IsPermutation}
 use Rattle.cql_value.specs.declared.schema.ColumnType.{ColumnType}
 use Rattle.cql_value.specs.Element.{Element}
 use Rattle.cql_value.specs.Schema.{HasTypes}
@@ -21,6 +22,7 @@ use Rattle.cql_out.specs.declared.relation.Relation.{Relation}
 use Rattle.cql_eval.specs.Pin.{PinSeen, AreOf, AreWindowsOf}
 use Rattle.cql_eval.specs.Relation.{held_at, bags_at, relation_at}
 use Rattle.cql_eval.specs.Shown.{rows_of, changes_of, IsWalk, AreWalks, HasReached, fresh, bags_held, IsReady, HasPushed, IsShown, StandsFor, told_before}
+use Rattle.cql_window.proofs.Exchanges.{each_take, each_drop}
 
 -- ---- rows of some columns
 
@@ -35,16 +37,6 @@ second_part P (x ∷ xs) ys every = second_part P xs ys every.1
 both_parts : (P : Element → Type 0) (xs ys : List Element) → AllByRecursion P xs → AllByRecursion P ys → AllByRecursion P (xs ++ ys)
 both_parts P [] ys first second = second
 both_parts P (x ∷ xs) ys first second = (first.0, both_parts P xs ys first.1 second)
-
-each_take : (P : Element → Type 0) (n : ℕ) (xs : List Element) → AllByRecursion P xs → AllByRecursion P (take n xs)
-each_take P zero xs every = tt
-each_take P (suc n) [] every = tt
-each_take P (suc n) (x ∷ xs) every = (every.0, each_take P n xs every.1)
-
-each_drop : (P : Element → Type 0) (n : ℕ) (xs : List Element) → AllByRecursion P xs → AllByRecursion P (drop n xs)
-each_drop P zero xs every = every
-each_drop P (suc n) [] every = tt
-each_drop P (suc n) (x ∷ xs) every = each_drop P n xs every.1
 
 -- what came is of the pin
 pub came_columns : (columns : List ColumnType) (xs came : List Element) → AreOf columns xs → IsSegment xs came → AreOf columns came
@@ -75,11 +67,6 @@ pub record IsPushing (p : PinSeen) (input : ℕ) (plus : Bool) (rest : List Elem
   pub contents : set (contents_of p.plan after) input (changed_by (changes_of plus rest) (port_of (contents_of p.plan after) input)) ≡ set (contents_of p.plan o) input bag
   pub told : told_of p.plan after ≡ told_of p.plan o
 
-length_set : (xs : List Counts) (i : ℕ) (x : Counts) → length (set xs i x) ≡ length xs
-length_set [] i x = refl
-length_set (y ∷ xs) zero x = refl
-length_set (y ∷ xs) (suc i) x = ap suc (length_set xs i x)
-
 pub pushing_more : (p : PinSeen) (input : ℕ) (plus : Bool) (x : Element) (rest : List Element) (bag : Counts) (o after next : BenchSeen) → IsPushing p input plus (x ∷ rest) bag o after → IsPushed p.plan p.limit after next input (change_of plus x.row) → IsPushing p input plus rest bag o next
 pushing_more p input plus x rest bag o after next before pushed =
     let old : List Counts = contents_of p.plan after in
@@ -88,18 +75,11 @@ pushing_more p input plus x rest bag o after next before pushed =
     record {
       runs = pushed.runs;
       columns = before.columns.1;
-      within = subst (λ n. input < n) (sym (ap length pushed.contents ∙ length_set old input mid)) before.within;
+      within = subst (λ n. input < n) (sym (ap length pushed.contents ∙ length-set old input mid)) before.within;
       can = subst (CanChangeBy (changes_of plus rest)) (sym here) before.can.1;
       contents = (λ i. set (pushed.contents i) input (changed_by (changes_of plus rest) (here i))) ∙ set-set old input mid (changed_by (changes_of plus rest) mid) ∙ before.contents;
       told = pushed.told ∙ before.told;
     }
-
-pub pushing_done : (p : PinSeen) (input : ℕ) (plus : Bool) (bag : Counts) (o after : BenchSeen) → IsPushing p input plus [] bag o after → HasPushed p input bag o after
-pushing_done p input plus bag o after done = record {
-  runs = done.runs;
-  contents = sym (set-get_or (contents_of p.plan after) input []) ∙ done.contents;
-  told = done.told;
-}
 
 -- ---- each window has its walk
 
@@ -209,7 +189,7 @@ pub rest_is : (xs : List Element) (i : ℕ) (x : Element) → i < length xs → 
 rest_is xs i x lt is = let e : suc i ≡ i + 1 = omega arith in drop-cons xs i x lt ∙ (λ j. sym is j ∷ drop (e j) xs)
 
 pub within_after : (p : PinSeen) (input : ℕ) (bag : Counts) (o after : BenchSeen) → input < length (contents_of p.plan o) → HasPushed p input bag o after → input < length (contents_of p.plan after)
-within_after p input bag o after lt pushed = subst (λ n. input < n) (sym (ap length pushed.contents ∙ length_set (contents_of p.plan o) input bag)) lt
+within_after p input bag o after lt pushed = subst (λ n. input < n) (sym (ap length pushed.contents ∙ length-set (contents_of p.plan o) input bag)) lt
 
 pub port_after : (p : PinSeen) (input : ℕ) (bag : Counts) (o after : BenchSeen) → input < length (contents_of p.plan o) → HasPushed p input bag o after → port_of (contents_of p.plan after) input ≡ bag
 port_after p input bag o after lt pushed = ap (λ l. port_of l input) pushed.contents ∙ get_or-set_same (contents_of p.plan o) input bag [] lt
@@ -248,6 +228,95 @@ all_reached p c ks ls o none ready = subst (λ ms. IsReady p c ms o) (ap (λ l. 
 pub no_length : {A : Type 0} (xs : List A) → length xs ≡ 0 → xs ≡ []
 no_length [] none = refl
 no_length (x ∷ xs) none = absurd (omega (arith, none))
+
+-- ---- the bench is started anew, and told what each walk holds
+
+-- the first input of a bench that holds nothing
+pub none_first : (p : PinSeen) (o : BenchSeen) → contents_of p.plan o ≡ no_rows (length (ports p.plan)) → [] ≡ port_of (contents_of p.plan o) 0
+none_first p o none = sym (ap (λ l. port_of l 0) none ∙ by_many (length (ports p.plan)))
+  where
+    by_many : (n : ℕ) → port_of (no_rows n) 0 ≡ []
+    by_many zero = refl
+    by_many (suc n) = refl
+
+-- rows that are had in another order are of the same columns
+pub same_columns : (columns : List ColumnType) (xs ys : List Element) → IsPermutation ys xs → AreOf columns xs → AreOf columns ys
+same_columns columns xs ys same every =
+    let P : Element → Type 0 = λ x. HasTypes columns x.row in
+    recursion_from_All P ys (All-permutation P xs ys (IsPermutation-sym ys xs same) (All-from_recursion P xs every))
+
+-- of the windows from a place on, the first is that of the walk there
+fresh_at : (c : ℕ) (ts : List (List ColumnType)) (ws : List Pinned) (ks : List Walked) (i : ℕ) (k d : Walked) → AreWalks c ts ws ks → i < length ks → k ≡ get_or ks i d → map fresh (drop i ws) ≡ fresh k.pin ∷ map fresh (drop (suc i) ws)
+fresh_at c [] [] [] i k d are lt is = absurd (omega (arith, lt))
+fresh_at c [] [] (m ∷ ks) i k d are lt is = absurd are
+fresh_at c [] (w ∷ ws) ks i k d are lt is = absurd are
+fresh_at c (t ∷ ts) [] ks i k d are lt is = absurd are
+fresh_at c (t ∷ ts) (w ∷ ws) [] i k d are lt is = absurd are
+fresh_at c (t ∷ ts) (w ∷ ws) (m ∷ ks) zero k d are lt is = ap (λ v. fresh v ∷ map fresh ws) (sym (ap (λ (n : Walked). n.pin) is ∙ are.0.pin))
+fresh_at c (t ∷ ts) (w ∷ ws) (m ∷ ks) (suc i) k d are lt is = fresh_at c ts ws ks i k d are.1 (omega (arith, lt)) is
+
+-- so many walks of the bench's inputs hold what they did, and the others are as before the first row
+abbrev pub begun : List Pinned → List Walked → ℕ → List Walked
+begun ws ks i = take i ks ++ map fresh (drop i ws)
+
+-- the walk at a place, as the bench's inputs have it before and after it is told
+pub record IsNext (p : PinSeen) (c : ℕ) (ks : List Walked) (i : ℕ) (k : Walked) : Type 0 where
+  pub size : length (take i ks) ≡ i
+  pub before : begun p.windows ks i ≡ take i ks ++ fresh k.pin ∷ map fresh (drop (suc i) p.windows)
+  pub after : (take i ks ++ k ∷ []) ++ map fresh (drop (suc i) p.windows) ≡ begun p.windows ks (i + 1)
+  pub walk : IsWalk c (columns_at (ports p.plan) i) k.pin k
+
+pub next_walk : (p : PinSeen) (c : ℕ) (ks : List Walked) (i : ℕ) (k : Walked) → AreWalks c (ports p.plan) p.windows ks → i < length ks → k ≡ get_or ks i k → IsNext p c ks i k
+next_walk p c ks i k are lt is =
+    let e : suc i ≡ i + 1 = omega arith in
+    let size : length (take i ks) ≡ i = omega (arith, length-take i ks, lt) in
+    let split : take i ks ++ k ∷ drop (suc i) ks ≡ ks = ap (λ m. take i ks ++ m ∷ drop (suc i) ks) is ∙ ap (λ l. take i ks ++ l) (sym (drop-cons ks i k lt)) ∙ take-append-drop i ks in
+    record {
+      size = size;
+      before = ap (λ l. take i ks ++ l) (fresh_at c (ports p.plan) p.windows ks i k k are lt is);
+      after = (λ j. (ap (λ m. take i ks ++ m ∷ []) is ∙ sym (take_more ks i k lt)) j ++ map fresh (drop (e j) p.windows));
+      walk = subst (λ n. IsWalk c (columns_at (ports p.plan) n) k.pin k) size (walk_at c (ports p.plan) p.windows (take i ks) k (drop (suc i) ks) (subst (AreWalks c (ports p.plan) p.windows) (sym split) are));
+    }
+
+-- once one more was told
+pub begun_more : (p : PinSeen) (c : ℕ) (ks : List Walked) (i : ℕ) (k : Walked) (o after : BenchSeen) → AreWalks c (ports p.plan) p.windows ks → i < length ks → k ≡ get_or ks i k → IsReady p c (begun p.windows ks i) o → HasPushed p i (bag_of (rows_of k.held)) o after → IsReady p c (begun p.windows ks (i + 1)) after
+begun_more p c ks i k o after are lt is ready pushed =
+    let next = next_walk p c ks i k are lt is in
+    subst (λ l. IsReady p c l after) next.after
+    (one_more p c (take i ks) (fresh k.pin) k (map fresh (drop (suc i) p.windows)) o after (subst (λ l. IsReady p c l o) next.before ready) (subst (λ n. IsWalk c (columns_at (ports p.plan) n) k.pin k) (sym next.size) next.walk) (subst (λ n. HasPushed p n (bag_of (rows_of k.held)) o after) (sym next.size) pushed))
+
+-- before one more is told, its input is there and holds nothing
+pub record IsNextEmpty (p : PinSeen) (i : ℕ) (o : BenchSeen) : Type 0 where
+  pub input : i < length (ports p.plan)
+  pub within : i < length (contents_of p.plan o)
+  pub empty : port_of (contents_of p.plan o) i ≡ []
+
+pub next_empty : (p : PinSeen) (c : ℕ) (ks : List Walked) (i : ℕ) (k : Walked) (o : BenchSeen) → AreWalks c (ports p.plan) p.windows ks → i < length ks → k ≡ get_or ks i k → IsReady p c (begun p.windows ks i) o → IsNextEmpty p i o
+next_empty p c ks i k o are lt is ready =
+    let next = next_walk p c ks i k are lt is in
+    let ready' : IsReady p c (take i ks ++ fresh k.pin ∷ map fresh (drop (suc i) p.windows)) o = subst (λ l. IsReady p c l o) next.before ready in
+    let inside = next_within p c (take i ks) (fresh k.pin) (map fresh (drop (suc i) p.windows)) o ready' in
+    record {
+      input = omega (arith, next.size, inside.0);
+      within = omega (arith, next.size, inside.1);
+      empty = subst (λ n. port_of (contents_of p.plan o) n ≡ []) next.size (next_bag p c (take i ks) (fresh k.pin) (map fresh (drop (suc i) p.windows)) o ready');
+    }
+
+-- once all were told
+windows_many : (c : ℕ) (ts : List (List ColumnType)) (ws : List Pinned) (ks : List Walked) → AreWalks c ts ws ks → length ws ≡ length ks
+windows_many c [] [] [] are = refl
+windows_many c [] [] (k ∷ ks) are = absurd are
+windows_many c [] (w ∷ ws) ks are = absurd are
+windows_many c (t ∷ ts) [] ks are = absurd are
+windows_many c (t ∷ ts) (w ∷ ws) [] are = absurd are
+windows_many c (t ∷ ts) (w ∷ ws) (k ∷ ks) are = ap suc (windows_many c ts ws ks are.1)
+
+pub begun_all : (p : PinSeen) (c : ℕ) (ks : List Walked) (i : ℕ) (o : BenchSeen) → AreWalks c (ports p.plan) p.windows ks → length ks ≤ i → IsReady p c (begun p.windows ks i) o → IsReady p c ks o
+begun_all p c ks i o are le ready =
+    let many = windows_many c (ports p.plan) p.windows ks are in
+    let none : map fresh (drop i p.windows) ≡ [] = ap (map fresh) (no_length (drop i p.windows) (omega (arith, length-drop i p.windows, many, le))) in
+    let all : take i ks ≡ ks = take_all i ks le in
+    all_reached p c ks (map fresh (drop i p.windows)) o none (subst (λ l. IsReady p c (l ++ map fresh (drop i p.windows)) o) all ready)
 
 -- ---- what is shown at a later cursor, where the relation is the same
 

@@ -3,3 +3,5 @@ mod Exchange
 mod Holding
 mod Quiet
 mod Steps
+mod Tallies
+mod Turns

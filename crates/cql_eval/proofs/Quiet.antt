@@ -88,6 +88,15 @@ rstream_stretch p t to o r quiet lt is u ge le =
     ∙ ap (λ q. output_of q (relation_at p t) (relation_at p (t + 1))) (sym r)
     ∙ sym is
 
+-- where nothing changes Rstream tells what it told at the instant before
+pub rstream_again : (p : PinSeen) (n to : ℕ) → p.plan.output ≡ Rstream → IsQuietUntil p n to → 0 < n → n < to → IsStretch (output_at p) n (to - 1) (output_at p (n - 1))
+rstream_again p n to r quiet some lt u ge le =
+    let now : relation_at p (u + 1) ≡ relation_at p n = stays p n to (u + 1) quiet (omega arith) (omega arith) in
+    let at : n - 1 + 1 ≡ n = omega arith in
+    (λ i. output_of (r i) (relation_at p u) (now i))
+    ∙ rstream_alone (relation_at p u) (relation_at p (n - 1)) (relation_at p n)
+    ∙ (λ i. output_of (sym r i) (relation_at p (n - 1)) (relation_at p (sym at i)))
+
 -- ---- the instants that are left
 
 -- the instant is among them

@@ -2,3 +2,4 @@ pub mod Answer
 pub mod Pin
 pub mod Relation
 pub mod Shown
+pub mod Tally

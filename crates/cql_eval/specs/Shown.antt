@@ -1,5 +1,5 @@
 -- What is shown of a pin as its windows are walked over.
-use Rattle.std.specs.Prelude.{◌≡◌, ℕ, ◌+◌, ◌≤◌, ◌<◌, Bool, List, [], ◌∷◌, ◌++◌, map, max, if◌then◌else◌, slice_set}
+use Rattle.std.specs.Prelude.{◌≡◌, ℕ, ◌+◌, ◌≤◌, ◌<◌, Bool, List, [], ◌∷◌, ◌++◌, map, max, Option, Some, None, if◌then◌else◌, slice_set}
 use Rattle.std.specs.List.{AllByRecursion}
 use Rattle.cql_value.specs.declared.schema.ColumnType.{ColumnType}
 use Rattle.cql_value.specs.declared.value.Value.{Value}
@@ -19,8 +19,13 @@ use Rattle.cql_ops.specs.declared.running.Outcome.{Outcome}
 use Rattle.cql_ops.specs.declared.running.Outcome.TheVariants.{Changed, Faulty}
 use Rattle.cql_out.specs.declared.relation.Relation.{Relation}
 use Rattle.cql_out.specs.declared.relation.Relation.TheVariants.{Bag, Fault}
+use Rattle.cql_out.specs.declared.told.Output.{Output}
+use Rattle.cql_out.specs.ByKind.{output_of}
 use Rattle.cql_eval.specs.Pin.{PinSeen, AreOf}
+use Rattle.cql_algebra.specs.Ports.{port_of}
+use Rattle.cql_eval.specs.declared.tally.Tally.{Tally}
 use Rattle.cql_eval.specs.Relation.{relation_at}
+use Rattle.cql_eval.specs.Tally.{IsTally}
 
 -- ---- rows and changes
 
@@ -83,6 +88,10 @@ pub record IsReady (p : PinSeen) (c : ℕ) (ks : List Walked) (o : BenchSeen) : 
   pub walks : AreWalks c (ports p.plan) p.windows ks
   pub contents : contents_of p.plan o ≡ bags_held ks
 
+-- the rows of its first input are counted, where any are
+abbrev pub IsTallied : PinSeen → BenchSeen → Tally → Type 0
+IsTallied p o t = IsTally p.plan.first (port_of (contents_of p.plan o) 0) t
+
 -- one input's bag was changed, and nothing was told
 pub record HasPushed (p : PinSeen) (input : ℕ) (bag : Counts) (o after : BenchSeen) : Type 0 where
   pub runs : RunsPlan p.plan p.limit after
@@ -106,6 +115,11 @@ StandsFor kind (Fault kept) now = now ≡ Fault kept
 abbrev pub LeadsTo : Outcome → Relation → Relation → Type 0
 LeadsTo (Changed changes) before now = CanChangeBy changes.items (told_before before) × (now ≡ Bag (changed_by changes.items (told_before before)))
 LeadsTo (Faulty fault) before now = now ≡ Fault fault
+
+-- what is told from one relation to another: the output; or nothing, where they are the same
+abbrev pub Tells : OutputKind → Option Output → Relation → Relation → Type 0
+Tells kind None before now = now ≡ before
+Tells kind (Some told) before now = told ≡ output_of kind before now
 
 -- the bench runs over what the walks hold, and has told the relation at the cursor, which is kept
 pub record IsShown (p : PinSeen) (c : ℕ) (ks : List Walked) (kept : Relation) (o : BenchSeen) : Type 0 where

@@ -1,18 +1,19 @@
 // The answer to a fetch.
-ghost use Rattle.std.specs.Prelude.{◌≡◌, ◌⊎◌, ◌≤◌, ◌<◌, ◌+◌, ◌*◌, ◌^◌, ℕ, length, IfOk, OnOk};
+ghost use Rattle.std.specs.Prelude.{◌≡◌, ◌↔◌, ◌⊎◌, ◌≤◌, ◌<◌, ◌+◌, ◌*◌, ◌^◌, ℕ, length, IfOk, OnOk, IsTrue};
 ghost use Rattle.std.specs.List.{All, Contains};
 ghost use Rattle.std.specs.List.Sorted.{IsStrictlyIncreasing};
 ghost use Rattle.cql_ops.specs.Bench.{IsBench, bench_seen};
 ghost use Rattle.cql_out.specs.Runs.{StandFor};
+ghost use Rattle.cql_plan.specs.declared.plan.OutputKind.TheVariants.{Rstream};
 ghost use Rattle.cql_eval.specs.Answer.{IsAnswer, rows_in};
 ghost use Rattle.cql_eval.specs.Relation.{relation_at, output_at};
-ghost use Rattle.cql_eval.specs.Shown.{StandsFor, IsShown, AreSame, IsQuiet, IsQuietUntil, first_change, next_of};
+ghost use Rattle.cql_eval.specs.Shown.{StandsFor, Tells, IsShown, IsTallied, AreSame, IsQuiet, IsQuietUntil, first_change, next_of};
 
 use crate::answered::Answer;
 use crate::pin::Pin;
 use crate::shown::{Shown, nothing_shown, same_output, step};
 use cql_ops::{BenchOf, Operator};
-use cql_out::{Block, Relation, Runs};
+use cql_out::{Block, Output, Relation, Runs};
 use cql_plan::OutputKind;
 use cql_value::Items;
 use cql_window::changes;
@@ -105,7 +106,14 @@ fn next_of(left: &[u64], end: u64) -> u64
     }
 }
 
-// Nothing changes before an instant.
+// Whether the whole relation is told at each instant.
+fn tells_whole(kind: OutputKind) -> bool
+    ensures { IsTrue result ↔ (kind ≡ Rstream) }
+{
+    matches!(kind, OutputKind::Rstream)
+}
+
+// Nothing changes before an instant. Rstream then tells what it told, with nothing made anew.
 fn hold(
     alloc: Global,
     pin: &Pin,
@@ -120,10 +128,42 @@ fn hold(
     ensures stand { OnOk result (StandsFor pin.now.plan.output kept.now (relation_at pin.now runs.old.next) → StandFor (output_at pin.now) pin.now.from runs.old → StandFor (output_at pin.now) pin.now.from runs.new) }
 {
     let next = runs.next();
-    if next < until {
-        let told = same_output(alloc, pin.plan().output(), kept)?;
-        runs.push(next, until - 1, told)?;
+    let kind = pin.plan().output();
+    if next >= until {
+        return Ok(());
     }
+    if tells_whole(kind) && pin.from() < next {
+        runs.lengthen(until - 1);
+        return Ok(());
+    }
+    let told = same_output(alloc, kind, kept)?;
+    runs.push(next, until - 1, told)?;
+    Ok(())
+}
+
+// Takes what was told at the next instant, if anything was; else nothing changes there either.
+fn take_told(pin: &Pin, runs: &mut Runs, told: Option<Output>, until: u64) -> Result<(), AllocError>
+    requires forward { runs.old.next < until }
+    requires bound { until ≤ 2 ^ 62 }
+    requires quiet { IsQuietUntil pin.now (runs.old.next + 1) until }
+    requires told { Tells pin.now.plan.output told (relation_at pin.now runs.old.next) (relation_at pin.now (runs.old.next + 1)) }
+    requires stand { StandFor (output_at pin.now) pin.now.from runs.old }
+    ensures next { OnOk result ((runs.old.next ≤ runs.new.next) × (runs.new.next ≤ until)) }
+    ensures quiet { OnOk result (IsQuietUntil pin.now runs.new.next until) }
+    ensures same { OnOk result (relation_at pin.now runs.new.next ≡ relation_at pin.now (runs.old.next + 1)) }
+    ensures stand { OnOk result (StandFor (output_at pin.now) pin.now.from runs.new) }
+{
+    let at = runs.next();
+    let kind = pin.plan().output();
+    let Some(told) = told else {
+        return Ok(());
+    };
+    // Rstream tells the same at each later instant too.
+    let to = match kind {
+        OutputKind::Rstream => until - 1,
+        _ => at,
+    };
+    runs.push(at, to, told)?;
     Ok(())
 }
 
@@ -141,22 +181,18 @@ fn change<'a, O: Operator>(
     requires forward { runs.old.next < until }
     requires bound { until ≤ 2 ^ 62 }
     requires shown { IsShown pin.now runs.old.next shown.walks.items shown.relation (bench_seen O.seen_in bench.old) }
+    requires tally { IsTallied pin.now (bench_seen O.seen_in bench.old) shown.tally }
     requires quiet { IsQuietUntil pin.now (runs.old.next + 1) until }
     requires stand { StandFor (output_at pin.now) pin.now.from runs.old }
     ensures bench { IsBench O.seen_in bench.new }
     ensures shown { IfOk result (λ s. IsShown pin.now until s.walks.items s.relation (bench_seen O.seen_in bench.new)) }
+    ensures tally { IfOk result (λ s. IsTallied pin.now (bench_seen O.seen_in bench.new) s.tally) }
     ensures next { OnOk result (runs.new.next ≡ until) }
     ensures stand { OnOk result (StandFor (output_at pin.now) pin.now.from runs.new) }
 {
     let at = runs.next();
-    let kind = pin.plan().output();
     let (shown, told) = step(alloc, bench, pin, shown, at + 1)?;
-    // Rstream tells the same at each later instant too.
-    let to = match kind {
-        OutputKind::Rstream => until - 1,
-        _ => at,
-    };
-    runs.push(at, to, told)?;
+    take_told(pin, runs, told, until)?;
     hold(alloc, pin, &shown.relation, runs, until)?;
     Ok(shown)
 }
@@ -178,6 +214,7 @@ fn begin<'a, O: Operator>(
     requires stand { StandFor (output_at pin.now) pin.now.from runs.old }
     ensures bench { IsBench O.seen_in bench.new }
     ensures shown { IfOk result (λ s. IsShown pin.now until s.walks.items s.relation (bench_seen O.seen_in bench.new)) }
+    ensures tally { IfOk result (λ s. IsTallied pin.now (bench_seen O.seen_in bench.new) s.tally) }
     ensures next { OnOk result (runs.new.next ≡ until) }
     ensures stand { OnOk result (StandFor (output_at pin.now) pin.now.from runs.new) }
 {

@@ -7,6 +7,7 @@ mod bags;
 mod evaluate;
 mod pin;
 mod shown;
+mod tally;
 mod walks;
 
 pub use answered::Answer;

@@ -4,3 +4,6 @@ pub mod Places
 pub mod Claiming
 pub mod Receipts
 pub mod Calls
+pub mod Alone
+pub mod Telling
+pub mod Sending

@@ -9,10 +9,13 @@ mod gate;
 mod journal;
 pub mod laws;
 mod lobby;
+mod one_tenant;
 mod replaying;
+mod sent;
 
 pub use audits::{AuditError, audit};
 pub use book::{Book, Entered};
 pub use gate::{Gate, OpenGate, Point};
 pub use journal::{Bare, Entry, Journal, Kept};
 pub use lobby::{Ended, Hall, Pending, Receipt, Seat, SeatsMissing};
+pub use one_tenant::audit_alone;

@@ -77,6 +77,13 @@ fn is_told(step: &Option<Step>, reply: &Reply) -> bool
     if reply.is_no_memory() {
         return true;
     }
+    is_reply_of(step, reply)
+}
+
+/// Whether there is a step, and it tells the reply.
+pub(crate) fn is_reply_of(step: &Option<Step>, reply: &Reply) -> bool
+    ensures { Decides result (option_map stepped_of step.now ≡ Some (answered_by reply.now)) }
+{
     match step {
         Some(step) => reply.is_of(step),
         None => false,
@@ -89,7 +96,12 @@ fn both(one: bool, other: bool) -> bool
     one && other
 }
 
-fn step_again(alloc: Global, core: &mut Core, entry: &Entry) -> Result<Option<Step>, AuditError>
+/// Steps an entry again, unless it is left out.
+pub(crate) fn step_again(
+    alloc: Global,
+    core: &mut Core,
+    entry: &Entry,
+) -> Result<Option<Step>, AuditError>
     ensures told { IfOk result (λ step. option_map stepped_of step ≡ told core.old (noted entry.now)) }
     ensures core { IfOk result (λ step. core.new ≡ after core.old (noted entry.now)) }
     ensures err { IfErr result (λ e. e ≡ error.NoMemory) }

@@ -5,7 +5,8 @@ use Rattle.std.proofs.lemmas.Bool.{cases_lt}
 use Rattle.cql_out.specs.declared.told.Output.{Output}
 use Rattle.cql_out.specs.declared.told.Block.{Block}
 use Rattle.cql_out.specs.Output.{is_empty}
-use Rattle.cql_out.specs.Runs.{IsStretch, Extends, GoesOn}
+use Rattle.cql_out.specs.Runs.{IsStretch, Extends, GoesOn, Adjoins}
+use Rattle.cql_out.specs.Blocks.{AreBlocks}
 use Rattle.cql_out.proofs.Blocks.{Follow, differ, follow_from, blocks_from}
 
 module _ (O : ℕ → Output) (m e : ℕ) (o : Output) (forward : m ≤ e) (stretch : IsStretch O m e o) where
@@ -99,3 +100,39 @@ extends_at from to o bs n l front b same forward at is place read =
 pub extends_set : (from to : ℕ) (o : Output) (bs : List Block) (n : ℕ) (l : Block) → from ≤ to → GoesOn bs from o → n ≡ length bs → l ≡ get_or bs (n - 1) l → Extends from to o bs (set bs (n - 1) (record { from = l.from; to = to; output = l.output }))
 extends_set from to o bs n l forward (front, b, same, at, is) len read =
     let place : n - 1 ≡ length front = omega (arith, len, ap length same, length-append front (b ∷ [])) in extends_at from to o bs (n - 1) l front b same forward at is place read
+
+-- ---- the output of the instant before
+
+-- it is that of the block that ends there
+ends_with : (O : ℕ → Output) (c m : ℕ) (front : List Block) (b : Block) → b.to + 1 ≡ m → Follow O c m (front ++ b ∷ []) → b.output ≡ O (m - 1)
+ends_with O c m [] b at follow =
+    let some : b.from ≤ b.to = follow.0.1 in
+    let last : b.to ≡ m - 1 = omega arith in
+    sym (follow.2 b.to some (omega arith)) ∙ ap O last
+ends_with O c m (x ∷ front) b at follow = ends_with O (x.to + 1) m front b at follow.4
+
+-- where none ends there it is empty
+ends_without : (O : ℕ → Output) (c m : ℕ) (bs : List Block) → c < m → (Adjoins bs m → ⊥) → Follow O c m bs → is_empty (O (m - 1)) ≡ true
+ends_without O c m [] lt ends follow = follow (m - 1) (omega arith) (omega arith)
+ends_without O c m (b ∷ []) lt ends follow =
+    let end : b.to < m = follow.0.2 in
+    elim (cases_lt (b.to + 1) m) [
+      | inl more ↦ follow.4 (m - 1) (omega arith) (omega arith)
+      | inr done ↦ absurd (ends ([], b, refl, omega arith))
+    ]
+ends_without O c m (b ∷ d ∷ bs) lt ends follow =
+    let start : b.to + 1 ≤ d.from = follow.4.0.0 in
+    let some : d.from ≤ d.to = follow.4.0.1 in
+    let end : d.to < m = follow.4.0.2 in
+    ends_without O (b.to + 1) m (d ∷ bs) (omega arith) (λ a. ends (b ∷ a.0, a.1, ap (λ l. b ∷ l) a.2, a.3)) follow.4
+
+-- the last block goes on
+pub goes_on_set : (from to : ℕ) (bs : List Block) (n : ℕ) (l : Block) → from ≤ to → Adjoins bs from → n ≡ length bs → l ≡ get_or bs (n - 1) l → (O : ℕ → Output) (c : ℕ) → c < from → IsStretch O from to (O (from - 1)) → AreBlocks O c from bs → AreBlocks O c (to + 1) (set bs (n - 1) (record { from = l.from; to = to; output = l.output }))
+goes_on_set from to bs n l forward (front, b, same, at) len read O c lt stretch are =
+    let follow : Follow O c from (front ++ b ∷ []) = subst (Follow O c from) same (follow_from O c from bs are) in
+    extends_set from to (O (from - 1)) bs n l forward (front, b, same, at, ends_with O c from front b at follow) len read O c (omega arith) stretch are
+
+-- nothing is told
+pub goes_on_empty : (from to : ℕ) (bs : List Block) → from ≤ to → (Adjoins bs from → ⊥) → (O : ℕ → Output) (c : ℕ) → c < from → IsStretch O from to (O (from - 1)) → AreBlocks O c from bs → AreBlocks O c (to + 1) bs
+goes_on_empty from to bs forward ends O c lt stretch are =
+    extends_empty from to (O (from - 1)) bs forward (ends_without O c from bs lt ends (follow_from O c from bs are)) O c (omega arith) stretch are

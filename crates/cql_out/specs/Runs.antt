@@ -24,3 +24,7 @@ Extends from to output old new = (O : ℕ → Output) (c : ℕ) → c ≤ from �
 -- the last block adjoins and has this output
 abbrev pub GoesOn : List Block → ℕ → Output → Type 0
 GoesOn bs from output = (front : List Block) × (b : Block) × (bs ≡ front ++ b ∷ []) × (b.to + 1 ≡ from) × (b.output ≡ output)
+
+-- the last block ends just before the instant
+abbrev pub Adjoins : List Block → ℕ → Type 0
+Adjoins bs from = (front : List Block) × (b : Block) × (bs ≡ front ++ b ∷ []) × (b.to + 1 ≡ from)

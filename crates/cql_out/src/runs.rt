@@ -1,6 +1,7 @@
 // Maximal runs of equal output.
-ghost use Rattle.std.specs.Prelude.{◌≡◌, ◌↔◌, ◌≤◌, ◌<◌, ◌+◌, ◌^◌, ℕ, [], IsTrue, OnOk, OnErr};
-ghost use Rattle.cql_out.specs.Runs.{StandFor, IsStretch, Extends, GoesOn};
+ghost use Rattle.std.specs.Prelude.{◌≡◌, ◌↔◌, ◌≤◌, ◌<◌, ◌+◌, ◌-◌, ◌^◌, ℕ, [], IsTrue, OnOk, OnErr};
+ghost use Rattle.cql_out.specs.Runs.{StandFor, IsStretch, Extends, GoesOn, Adjoins};
+ghost use Rattle.cql_out.specs.Blocks.{AreBlocks};
 ghost use Rattle.cql_out.specs.declared.told.Output.{Output};
 
 use crate::told::{Block, Output};
@@ -50,6 +51,18 @@ impl Runs {
         Ok(())
     }
 
+    /// Every instant from the next one to `to` has the output of the instant before it. Takes no
+    /// memory.
+    pub fn lengthen(&mut self, to: u64)
+        requires forward { self.old.next ≤ to }
+        requires bound { to < 2 ^ 62 }
+        ensures next { self.new.next ≡ to + 1 }
+        ensures stand { (O : ℕ → Output) (c : ℕ) → c < self.old.next → StandFor O c self.old → IsStretch O self.old.next to (O (self.old.next - 1)) → StandFor O c self.new }
+    {
+        go_on(&mut self.blocks, self.next, to);
+        self.next = to + 1;
+    }
+
     /// The instant, in ticks, at which the next stretch is to begin.
     pub fn next(&self) -> u64
         ensures { result ≡ self.now.next }
@@ -72,6 +85,27 @@ fn goes_on(blocks: &[Block], from: u64, output: &Output) -> bool
     match blocks.split_last() {
         None => false,
         Some((last, _)) => last.to < from && from - last.to == 1 && last.output.is(output),
+    }
+}
+
+// Whether the last block ends just before an instant.
+fn adjoins(blocks: &[Block], from: u64) -> bool
+    ensures { IsTrue result ↔ Adjoins blocks.now from }
+{
+    match blocks.split_last() {
+        None => false,
+        Some((last, _)) => last.to < from && from - last.to == 1,
+    }
+}
+
+// Each instant of a stretch has the output of the instant before it.
+fn go_on(blocks: &mut Vec<Block>, from: u64, to: u64)
+    requires forward { from ≤ to }
+    ensures { (O : ℕ → Output) (c : ℕ) → c < from → IsStretch O from to (O (from - 1)) → AreBlocks O c from blocks.old.items → AreBlocks O c (to + 1) blocks.new.items }
+{
+    if adjoins(blocks.as_slice(), from) {
+        let last = blocks.len() - 1;
+        blocks[last].to = to;
     }
 }
 

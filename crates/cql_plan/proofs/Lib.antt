@@ -11,3 +11,5 @@ mod Joined
 mod Qualified
 mod Ports
 mod PlainPlans
+pub mod CrossTrees
+pub mod CrossQueries

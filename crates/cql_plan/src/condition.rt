@@ -24,8 +24,8 @@ pub enum Condition {
     Or(Boxed<Condition>, Boxed<Condition>),
 }
 
-// Whether two values in this order compare so.
-fn compares(comparison: Comparison, order: Ordering) -> bool
+/// Whether two values in this order compare so.
+pub fn compares(comparison: Comparison, order: Ordering) -> bool
     ensures { result ≡ compares comparison order }
 {
     match comparison {

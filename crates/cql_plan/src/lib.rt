@@ -17,7 +17,7 @@ mod same;
 mod source;
 mod typed;
 
-pub use condition::{Condition, Operand, meets};
+pub use condition::{Condition, Operand, compares, meets};
 pub use error::{PlanError, PlanFault};
 pub use expr::{Expr, evaluate};
 pub use fault::Fault;

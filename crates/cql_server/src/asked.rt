@@ -26,12 +26,21 @@ fn command_of(alloc: Global, line: Line<'_>) -> Result<Command, LineFault>
     Ok(command)
 }
 
+/// What a line asks, prepared for a call.
+#[derive(Drop)]
+pub(crate) struct Asked {
+    pub prepared: Arc<Prepared>,
+    /// Whether it is a fetch, which may take long.
+    pub is_fetch: bool,
+}
+
 // The same, prepared for a call.
-pub(crate) fn prepared_of(alloc: Global, line: Line<'_>) -> Result<Arc<Prepared>, LineFault>
-    ensures ok { IfOk result (λ prepared. asked_of (text_of line.entry) ≡ Ok (arc_value prepared)) }
+pub(crate) fn prepared_of(alloc: Global, line: Line<'_>) -> Result<Asked, LineFault>
+    ensures ok { IfOk result (λ asked. asked_of (text_of line.entry) ≡ Ok (arc_value asked.prepared)) }
     ensures err { IfErr result (λ fault. Means (asked_of (text_of line.entry)) (Err fault)) }
 {
     let command = command_of(alloc, line)?;
+    let is_fetch = matches!(command, Command::Fetch { .. });
     let prepared = prepare(alloc, command)?;
-    Ok(prepared)
+    Ok(Asked { prepared, is_fetch })
 }

@@ -87,7 +87,8 @@ impl Caller {
         told
     }
 
-    // Answers one line. One that gives no command makes no call.
+    // Answers one line. One that gives no command makes no call. All that is gathered is written
+    // before a fetch, so that no more is computed for a caller who has left.
     fn answer_line<H: Wait, J: Journal, O: Operator, G: Gate, W: Write>(
         &mut self,
         service: &Service<'_, H, J, G>,
@@ -102,13 +103,18 @@ impl Caller {
         ensures tallies { Tallies J.keeps self.new.seat self.new.receipts.items }
     {
         match prepared_of(service.alloc, line) {
-            Ok(prepared) => self.call(service, bench, prepared, gathered, writer),
+            Ok(asked) => {
+                if asked.is_fetch {
+                    gathered.flush(writer)?;
+                }
+                self.call(service, bench, asked.prepared, gathered, writer)
+            }
             Err(fault) => gathered.put_fault(writer, &fault),
         }
     }
 
-    /// Answers each line until the input ends. All that is gathered is written before a read,
-    /// which may wait, and at the end.
+    /// Answers each line until the input ends. All that is gathered is written before a fetch,
+    /// before a read, which may wait, and at the end.
     pub(crate) fn answer_lines<H: Wait, J: Journal, O: Operator, G: Gate, R: Read, W: Write>(
         &mut self,
         service: &Service<'_, H, J, G>,

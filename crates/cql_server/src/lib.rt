@@ -6,6 +6,7 @@ mod asked;
 mod auditing;
 mod benches;
 mod caller;
+mod connection;
 mod ending;
 mod failure;
 mod login;
@@ -15,6 +16,7 @@ mod tables;
 mod workers;
 
 pub use benches::benches_of;
+pub use connection::Limits;
 pub use failure::Failure;
 pub use serving::serve;
 pub use sessions::{SessionEnd, session};

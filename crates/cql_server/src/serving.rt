@@ -4,6 +4,7 @@ ghost use Rattle.cql_ops.specs.Bench.{IsBench};
 ghost use Rattle.cql_server.specs.declared.failure.Failure.TheVariants as failure;
 
 use crate::auditing::close_and_audit;
+use crate::connection::Limits;
 use crate::ending::Ending;
 use crate::failure::Failure;
 use crate::workers::{Worker, joins, start_all, workers};
@@ -22,6 +23,10 @@ use std::time::{Clock, Duration};
 /// thread for each bench, which serves one session after another; a connection that can't be had
 /// counts as a session too. Callers are tenants of the table, over one core.
 ///
+/// A session ends, as at a read or write that fails, where its caller takes longer than the limits
+/// allow: where the login line isn't whole in time, whatever has come of it; and where a read, or
+/// a write of which nothing is taken, has waited for too long.
+///
 /// Under `audit` each call and what it was told is kept. At the end the calls that the seats have
 /// counted have to be those of the journal, and all that was told has to agree with it: then the
 /// line `audit: E entries, R receipts, agreed` is written, of the entries of the journal and the
@@ -33,6 +38,7 @@ pub fn serve<R, W, G, O>(
     rt: &R,
     alloc: Global,
     listener: &TcpListener,
+    limits: Limits,
     out: &mut W,
     table: &TenantTable,
     benches: Vec<BenchOf<O>>,
@@ -50,9 +56,11 @@ where
     ensures bare { audit ≡ false → IfErr result (λ f. f ≡ failure.NoMemory) }
 {
     if audit {
-        serve_kept(rt, alloc, listener, out, table, benches, sessions, gate)
+        serve_kept(
+            rt, alloc, listener, limits, out, table, benches, sessions, gate,
+        )
     } else {
-        serve_bare(rt, alloc, listener, table, benches, sessions, gate)
+        serve_bare(rt, alloc, listener, limits, table, benches, sessions, gate)
     }
 }
 
@@ -60,6 +68,7 @@ fn serve_bare<R, G, O>(
     rt: &R,
     alloc: Global,
     listener: &TcpListener,
+    limits: Limits,
     table: &TenantTable,
     benches: Vec<BenchOf<O>>,
     sessions: u16,
@@ -75,7 +84,9 @@ where
     let workers = workers(alloc, benches, 0)?;
     let copy = table.try_clone(alloc)?;
     let hall: Hall<Bare> = Hall::new(alloc, copy)?;
-    serve_hall(rt, alloc, listener, &hall, table, workers, sessions, gate)?;
+    serve_hall(
+        rt, alloc, listener, limits, &hall, table, workers, sessions, gate,
+    )?;
     Ok(())
 }
 
@@ -83,6 +94,7 @@ fn serve_kept<R, W, G, O>(
     rt: &R,
     alloc: Global,
     listener: &TcpListener,
+    limits: Limits,
     out: &mut W,
     table: &TenantTable,
     benches: Vec<BenchOf<O>>,
@@ -103,7 +115,9 @@ where
     let workers = workers(alloc, benches, usize::from(sessions))?;
     let copy = table.try_clone(alloc)?;
     let hall: Hall<Kept> = Hall::new(alloc, copy)?;
-    let ends = serve_hall(rt, alloc, listener, &hall, table, workers, sessions, gate)?;
+    let ends = serve_hall(
+        rt, alloc, listener, limits, &hall, table, workers, sessions, gate,
+    )?;
     close_and_audit(alloc, out, table, hall, ends)
 }
 
@@ -112,6 +126,7 @@ fn serve_hall<R, J, G, O>(
     rt: &R,
     alloc: Global,
     listener: &TcpListener,
+    limits: Limits,
     hall: &Hall<J>,
     table: &TenantTable,
     workers: Vec<Worker<O>>,
@@ -135,7 +150,7 @@ where
             requires { All (λ w. IsBench O.seen_in w.bench) workers.items }
             ensures { IfErr result (λ f. f ≡ failure.NoMemory) }
         {
-            let handles = start_all(scope, rt, alloc, from, hall, table, workers, gate)?;
+            let handles = start_all(scope, rt, alloc, from, limits, hall, table, workers, gate)?;
             accept_all(rt, listener, to, sessions);
             Ok(joins(rt, alloc, handles)?)
         },

@@ -28,8 +28,8 @@ pub struct SessionEnd {
 /// command, which is a call of the hall by the login's tenant and may not name one (12). A line
 /// that finds no memory is answered 70; where that was so before its call, no call is made.
 ///
-/// Replies are gathered, up to 65,536 bytes. All that are gathered are written before a read,
-/// which may wait, and at the end. A session ends with the first fault: of the reader, after which
+/// Replies are gathered, up to 65,536 bytes. All that are gathered are written before a fetch,
+/// before a read, which may wait, and at the end. A session ends with the first fault: of the reader, after which
 /// nothing of a line that isn't whole runs; of the writer; or want of memory before the login is
 /// answered, of which the line of 70 is told.
 pub fn session<H, R, W, J, O, G>(

@@ -3,6 +3,7 @@ ghost use Rattle.std.specs.Prelude.{◌≡◌, All, IfOk, IfErr};
 ghost use Rattle.cql_ops.specs.Bench.{IsBench};
 ghost use Rattle.cql_server.specs.declared.failure.Failure.TheVariants as failure;
 
+use crate::connection::{Connection, Limits};
 use crate::ending::Ending;
 use crate::failure::Failure;
 use crate::sessions::session;
@@ -13,6 +14,7 @@ use std::alloc::{AllocError, Global};
 use std::net::TcpStream;
 use std::sync::Wait;
 use std::thread::{Builder, JoinHandle, Scope, Threads};
+use std::time::Clock;
 
 // The bytes of a thread's stack.
 const STACK: usize = 16 << 20;
@@ -36,18 +38,20 @@ impl<O: Drop> Drop for Worker<O> {
 }
 
 impl<O: Operator> Worker<O> {
-    // Serves one session after another, until there are no more.
+    // Serves one session after another, until there are no more. A stream that can't be held to
+    // the limits is closed.
     fn work<R, J, G>(
         self,
         rt: &R,
         alloc: Global,
         from: &Receiver<TcpStream>,
+        limits: Limits,
         hall: &Hall<J>,
         table: &TenantTable,
         gate: &G,
     ) -> Ends
     where
-        R: Wait,
+        R: Wait + Clock,
         J: Journal,
         G: Gate,
         requires { IsBench O.seen_in self.bench }
@@ -58,7 +62,10 @@ impl<O: Operator> Worker<O> {
         } = self;
         let mut is_whole = true;
         for stream in from.iter(rt) {
-            let end = session(rt, alloc, &stream, &stream, hall, table, &mut bench, gate);
+            let Ok(near) = Connection::new(rt, stream, limits) else {
+                continue;
+            };
+            let end = session(rt, alloc, &near, &near, hall, table, &mut bench, gate);
             if J::is_kept() && ends.push(Ending::of(end)).is_err() {
                 is_whole = false;
             }
@@ -90,13 +97,14 @@ pub(crate) fn start_all<'s, E, R, J, G, O>(
     rt: &'s R,
     alloc: Global,
     from: &'s Receiver<TcpStream>,
+    limits: Limits,
     hall: &'s Hall<J>,
     table: &'s TenantTable,
     workers: Vec<Worker<O>>,
     gate: &'s G,
 ) -> Result<Vec<JoinHandle<Ends>>, Failure>
 where
-    R: Wait + Sync + 's,
+    R: Wait + Clock + Sync + 's,
     J: Journal + Send + 's,
     G: Gate + 's,
     O: Operator + Send + 's,
@@ -105,7 +113,7 @@ where
 {
     let mut handles = Vec::with_capacity(alloc, workers.len())?;
     for worker in workers {
-        let handle = start(scope, rt, alloc, from, hall, table, worker, gate)?;
+        let handle = start(scope, rt, alloc, from, limits, hall, table, worker, gate)?;
         handles.push(handle)?;
     }
     Ok(handles)
@@ -116,13 +124,14 @@ fn start<'s, E, R, J, G, O>(
     rt: &'s R,
     alloc: Global,
     from: &'s Receiver<TcpStream>,
+    limits: Limits,
     hall: &'s Hall<J>,
     table: &'s TenantTable,
     worker: Worker<O>,
     gate: &'s G,
 ) -> Result<JoinHandle<Ends>, Failure>
 where
-    R: Wait + Sync + 's,
+    R: Wait + Clock + Sync + 's,
     J: Journal + Send + 's,
     G: Gate + 's,
     O: Operator + Send + 's,
@@ -133,7 +142,7 @@ where
         scope,
         move ||
             requires { IsBench O.seen_in worker.bench }
-        { worker.work(rt, alloc, from, hall, table, gate) },
+        { worker.work(rt, alloc, from, limits, hall, table, gate) },
     );
     match started {
         Ok(handle) => Ok(handle),

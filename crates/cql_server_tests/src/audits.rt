@@ -1,46 +1,23 @@
 // Receipts that agree with the entries of a hall, and some that don't.
-use crate::halls::{fetch, hall, put, query, receipt, stream};
+use crate::callers::{Caller, Ran, close};
+use crate::halls::hall;
 use crate::made::{Unmade, other_table};
-use cql_core::{Command, TenantTable};
-use cql_hall::{AuditError, Ended, Hall, Kept, OpenGate, Receipt, Seat, audit};
-use std::alloc::{AllocError, Global};
+use cql_core::TenantTable;
+use cql_hall::{AuditError, Hall, Kept, OpenGate, Receipt, audit};
+use std::alloc::Global;
 use std::mem::swap;
 use std::sync::Wait;
 use std::test::Fail;
 
-#[derive(Drop)]
-struct Caller {
-    seat: Seat,
-    receipts: Vec<Receipt>,
-}
+const STREAM: &str = r#"{"columns":[["v","int"]],"do":"stream","name":"s"}"#;
 
-impl Caller {
-    fn new(alloc: Global, seat: Seat) -> Caller {
-        Caller {
-            seat,
-            receipts: Vec::new(alloc),
-        }
-    }
+const QUERY: &str = r#"{"do":"query","name":"q","text":"Select Istream(*) From s [Rows 2]"}"#;
 
-    fn call(
-        &mut self,
-        rt: &impl Wait,
-        alloc: Global,
-        hall: &Hall<Kept>,
-        command: Command,
-    ) -> Result<(), AllocError> {
-        let told = receipt(rt, alloc, hall, &mut self.seat, &OpenGate, command)?;
-        self.receipts.push(told)?;
-        Ok(())
-    }
-}
+const PUT: &str = r#"{"at":7,"do":"put","row":[1],"stream":"s"}"#;
 
-// What is left of a hall, and the receipts of its callers.
-#[derive(Drop)]
-struct Ran {
-    ended: Ended,
-    lists: Vec<Vec<Receipt>>,
-}
+const LATER_PUT: &str = r#"{"at":9,"do":"put","row":[1],"stream":"s"}"#;
+
+const FETCH: &str = r#"{"do":"fetch","name":"q"}"#;
 
 // The places are 0, 1, 3 and 5 of the first caller, 2 and 4 of the second.
 fn call_all(
@@ -49,13 +26,12 @@ fn call_all(
     hall: &Hall<Kept>,
     one: &mut Caller,
     two: &mut Caller,
-) -> Result<(), AllocError> {
-    one.call(rt, alloc, hall, stream(alloc, "s")?)?;
-    one.call(rt, alloc, hall, query(alloc)?)?;
-    two.call(rt, alloc, hall, put(alloc, "s", 7)?)?;
-    one.call(rt, alloc, hall, fetch(alloc)?)?;
-    two.call(rt, alloc, hall, put(alloc, "s", 9)?)?;
-    one.call(rt, alloc, hall, fetch(alloc)?)
+) -> Result<(), Unmade> {
+    one.say(rt, alloc, hall, &OpenGate, &[STREAM, QUERY])?;
+    two.say(rt, alloc, hall, &OpenGate, &[PUT])?;
+    one.say(rt, alloc, hall, &OpenGate, &[FETCH])?;
+    two.say(rt, alloc, hall, &OpenGate, &[LATER_PUT])?;
+    one.say(rt, alloc, hall, &OpenGate, &[FETCH])
 }
 
 fn make_calls(rt: &impl Wait, alloc: Global) -> Result<Ran, Unmade> {
@@ -63,10 +39,7 @@ fn make_calls(rt: &impl Wait, alloc: Global) -> Result<Ran, Unmade> {
     let mut one = Caller::new(alloc, hall.seat(tenant));
     let mut two = Caller::new(alloc, hall.seat(tenant));
     call_all(rt, alloc, &hall, &mut one, &mut two)?;
-    let seats = [one.seat, two.seat];
-    let ended = hall.close(&seats).map_err(|_| Unmade::Wrong)?;
-    let lists = Vec::from_array(alloc, [one.receipts, two.receipts])?;
-    Ok(Ran { ended, lists })
+    close(alloc, hall, one, two)
 }
 
 // The place at which an audit over the table fails.
@@ -78,7 +51,7 @@ fn failing(alloc: Global, table: TenantTable, ran: &Ran) -> Result<Option<u64>, 
     }
 }
 
-fn failing_here(alloc: Global, ran: &Ran) -> Result<Option<u64>, Unmade> {
+pub(crate) fn failing_here(alloc: Global, ran: &Ran) -> Result<Option<u64>, Unmade> {
     let table = ran.ended.table.try_clone(alloc)?;
     failing(alloc, table, ran)
 }

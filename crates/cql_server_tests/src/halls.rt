@@ -20,25 +20,25 @@ fn columns(alloc: Global) -> Result<Items<ColumnText>, AllocError> {
     Ok(Items::from_vec(Vec::from_array(alloc, [ColumnText { name, kind }])?))
 }
 
-pub(crate) fn stream(alloc: Global, name: &str) -> Result<Command, AllocError> {
+fn stream(alloc: Global, name: &str) -> Result<Command, AllocError> {
     let columns = columns(alloc)?;
     let name = Text::new(alloc, name)?;
     Ok(Command::Stream { name, columns })
 }
 
-pub(crate) fn put(alloc: Global, stream: &str, at: u64) -> Result<Command, AllocError> {
-    let row = Row::new(Vec::from_array(alloc, [Value::Number(1)])?);
+fn put(alloc: Global, stream: &str, at: u64) -> Result<Command, AllocError> {
+    let row = Row::new(alloc, Vec::from_array(alloc, [Value::Number(1)])?)?;
     let stream = Text::new(alloc, stream)?;
     Ok(Command::Put { stream, at, row })
 }
 
-pub(crate) fn query(alloc: Global) -> Result<Command, AllocError> {
+fn query(alloc: Global) -> Result<Command, AllocError> {
     let name = Text::new(alloc, "q")?;
     let text = Text::new(alloc, "Select Istream(*) From s [Rows 2]")?;
     Ok(Command::Query { name, text })
 }
 
-pub(crate) fn fetch(alloc: Global) -> Result<Command, AllocError> {
+fn fetch(alloc: Global) -> Result<Command, AllocError> {
     let name = Text::new(alloc, "q")?;
     Ok(Command::Fetch { name, until: None })
 }

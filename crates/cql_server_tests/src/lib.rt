@@ -3,7 +3,11 @@
 #![tactic(auto)]
 
 #[cfg(test)]
+mod alone;
+#[cfg(test)]
 mod audits;
+#[cfg(test)]
+mod callers;
 #[cfg(test)]
 mod halls;
 #[cfg(test)]

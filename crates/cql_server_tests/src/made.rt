@@ -1,6 +1,6 @@
 // Tables of tenants, and why a value of a test wasn't made.
 use cql_core::TenantTable;
-use cql_wire::{TenantsFault, read_tenants};
+use cql_wire::{LineFault, TenantsFault, read_tenants};
 use std::alloc::{AllocError, AllocFailed, Global};
 
 const TENANTS: &[u8] = b"{\"tenants\":[\
@@ -35,6 +35,15 @@ impl From<TenantsFault> for Unmade {
         match fault {
             TenantsFault::Refused => Unmade::Wrong,
             TenantsFault::NoMemory => Unmade::NoMemory,
+        }
+    }
+}
+
+impl From<LineFault> for Unmade {
+    fn from(fault: LineFault) -> Unmade {
+        match fault {
+            LineFault::NoMemory => Unmade::NoMemory,
+            _ => Unmade::Wrong,
         }
     }
 }

@@ -7,7 +7,7 @@ use crate::made::table;
 use cql_core::TenantTable;
 use cql_hall::{Gate, OpenGate};
 use cql_ops::{Bench, DistinctOp, Operator, PlainJoin, PlainShape, SetOperation};
-use cql_server::{Failure, serve};
+use cql_server::{Failure, Limits, serve};
 use cql_wire::{Line, Lines, Watched};
 use std::alloc::{AllocError, Global};
 use std::io::ErrorKind;
@@ -190,7 +190,10 @@ fn serve_two<R: Threads + Wait + Clock + Sync, G: Gate>(
     requires { All (IsBench seen_in) benches.items }
 {
     let mut out = Vec::new(alloc);
-    let result = serve(rt, alloc, listener, &mut out, table, benches, 2, true, gate);
+    let limits = Limits::of_seconds(10, 0);
+    let result = serve(
+        rt, alloc, listener, limits, &mut out, table, benches, 2, true, gate,
+    );
     Served { result, out }
 }
 

@@ -10,6 +10,7 @@ use std::test::Fail;
 
 mod cut;
 mod memory;
+mod short;
 
 fn hall<J: Journal>(alloc: Global, table: &TenantTable) -> Result<Hall<J>, Unmade> {
     Ok(Hall::new(alloc, table.try_clone(alloc)?)?)

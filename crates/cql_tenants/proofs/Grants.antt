@@ -1,6 +1,6 @@
 -- Each grant is of a stream that is there.
 use Rattle.std.proofs.Common.{◌≡◌, ℕ, zero, suc, Bool, true, false, ◌&&◌, eqb, List, [], ◌∷◌, set, refl, ap, subst, ◌∙◌, sym, arith}
-use Rattle.std.specs.Prelude.{Option, Some, None, option_map, is_some, is_none, Result, Ok, Err, IfOk, OnOk, OnErr, if◌then◌else◌}
+use Rattle.std.specs.Prelude.{Option, Some, None, option_map, is_some, is_none, Result, Ok, Err, OnOk, OnErr, if◌then◌else◌}
 use Rattle.std.specs.Option.{option_or}
 use Rattle.std.specs.List.{find}
 use Rattle.std.proofs.lemmas.Bool.Decides.{nat_tests}
@@ -148,19 +148,18 @@ pub time_kept : {E : Type 0} (told : Result (Unit {0}) E) (old new : List (Named
 time_kept (Ok u) old new name at ok err m s k = subst (λ l. Has l m s) (sym ok) (timed old name m at s k)
 time_kept (Err e) old new name at ok err m s k = subst (λ l. Has l m s) (sym err) (still old m s k)
 
--- after a stream is made, where it is accepted and there is memory
-pub made_kept : {E F : Type 0} (told : Result (Result (Unit {0}) E) F) (homes : List Home) (i : ℕ) (old new : Home) (name : List ℕ) (schema : List Column) → home_at homes i ≡ old
-    → IfOk told (λ r. OnOk r (new ≡ with_stream name schema old)) → IfOk told (λ r. OnErr r (new ≡ old)) → OnErr told (new ≡ old) → AreOfStreams homes → AreOfStreams (set homes i new)
-made_kept {E} {F} told homes i old new name schema is ok refused err all = by told ok refused err
+-- after a stream is made, where there is memory
+pub made_kept : {F : Type 0} (told : Result (Unit {0}) F) (homes : List Home) (i : ℕ) (old new : Home) (name : List ℕ) (schema : List Column) → home_at homes i ≡ old
+    → OnOk told (new ≡ with_stream name schema old) → OnErr told (new ≡ old) → AreOfStreams homes → AreOfStreams (set homes i new)
+made_kept {F} told homes i old new name schema is ok err all = by told ok err
   where
     same : new ≡ old → AreOfStreams (set homes i new)
     same e = subst (λ home. AreOfStreams (set homes i home)) (sym e) (streams_replaced homes i old old is refl (λ m s k. still old.streams m s k) all)
 
-    by : (told : Result (Result (Unit {0}) E) F) → IfOk told (λ r. OnOk r (new ≡ with_stream name schema old)) → IfOk told (λ r. OnErr r (new ≡ old)) → OnErr told (new ≡ old) → AreOfStreams (set homes i new)
-    by (Ok (Ok u)) ok refused err =
+    by : (told : Result (Unit {0}) F) → OnOk told (new ≡ with_stream name schema old) → OnErr told (new ≡ old) → AreOfStreams (set homes i new)
+    by (Ok u) ok err =
         subst (λ home. AreOfStreams (set homes i home)) (sym ok) (streams_replaced homes i old (with_stream name schema old) is refl (λ m s k. made old.streams _ m s k) all)
-    by (Ok (Err e)) ok refused err = same refused
-    by (Err e) ok refused err = same err
+    by (Err e) ok err = same err
 
 after_done : (homes : List Home) (user : ℕ) (command : StreamCommand) → refused homes user command ≡ None → AreOfStreams homes → AreOfStreams (done homes user command)
 after_done homes user command accepted all j owner name g h =

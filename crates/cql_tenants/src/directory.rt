@@ -66,15 +66,16 @@ impl Directory {
         home_at(&self.homes, tenant.place()).quotas
     }
 
-    /// Whether `make_stream` would be refused, with the same answer, and nothing changed: 31, 21,
-    /// 22, 20, 23, in this order. Takes no memory.
-    pub fn may_make(
+    /// The schema of a stream that the tenant may make, of a schema, or of none where the columns
+    /// that were asked for have none: 31, 21, 22, 20, 23, in this order. Takes no memory.
+    pub fn may_make<'a>(
         &self,
         tenant: TenantId,
         name: &str,
-        schema: Option<&Schema>,
-    ) -> Result<(), StreamRefusal>
-        ensures { result_err result ≡ refused self.now tenant (Make name.now (option_copied schema.entry)) }
+        schema: Option<&'a Schema>,
+    ) -> Result<&'a Schema, StreamRefusal>
+        ensures refused { result_err result ≡ refused self.now tenant (Make name.now (option_copied schema.entry)) }
+        ensures schema { IfOk result (λ s. option_copied schema.entry ≡ Some s.now) }
     {
         if !self.has(tenant) {
             return Err(StreamRefusal::UnknownTenant);
@@ -82,22 +83,18 @@ impl Directory {
         home_at(&self.homes, tenant.place()).may_make(name, schema)
     }
 
-    /// Makes a stream of the tenant's own, of a schema, or of none where the columns that were asked
-    /// for have none: 31, 21, 22, 20, 23, in this order.
+    /// Makes a stream of the tenant's own, which `may_make` took.
     pub fn make_stream(
         &mut self,
         alloc: Global,
         tenant: TenantId,
         name: &str,
-        schema: Option<&Schema>,
-    ) -> Result<Result<(), StreamRefusal>, AllocError>
-        ensures refused { IfOk result (λ told. result_err told ≡ refused self.old tenant (Make name.now (option_copied schema.entry))) }
-        ensures state { OnOk result (self.new ≡ directory_after self.old tenant (Make name.now (option_copied schema.entry))) }
+        schema: &Schema,
+    ) -> Result<(), AllocError>
+        requires { refused self.old tenant (Make name.now (Some schema.now)) ≡ None }
+        ensures state { OnOk result (self.new ≡ directory_after self.old tenant (Make name.now (Some schema.now))) }
         ensures err { OnErr result (self.new ≡ self.old) }
     {
-        if !self.has(tenant) {
-            return Ok(Err(StreamRefusal::UnknownTenant));
-        }
         self.homes[tenant.place()].make(alloc, name, schema)
     }
 
@@ -224,6 +221,7 @@ impl Directory {
         ensures refused { IfOk result (λ told. result_err told ≡ refused self.old tenant (Share stream.now to.now)) }
         ensures state { OnOk result (self.new ≡ directory_after self.old tenant (Share stream.now to.now)) }
         ensures err { OnErr result (self.new ≡ self.old) }
+        ensures memory { OnErr result (refused self.old tenant (Share stream.now to.now) ≡ None) }
     {
         let (schema, place) = match self.granting(tenant, stream, to) {
             Ok(granting) => granting,

@@ -1,5 +1,5 @@
 // What there is of one tenant.
-ghost use Rattle.std.specs.Prelude.{◌≡◌, ◌≤◌, ◌^◌, ◌&&◌, ◌==◌, IfOk, IfSome, OnOk, OnErr, option_copied, slice_get, unwrap_or, []};
+ghost use Rattle.std.specs.Prelude.{◌≡◌, ◌≤◌, ◌^◌, ◌&&◌, ◌==◌, IfOk, IfSome, OnOk, OnErr, option_copied, slice_get, Some, None};
 ghost use Rattle.std.specs.Result.{result_err};
 ghost use Rattle.cql_tenants.specs.Home.{empty_home, is_of, grant_of};
 ghost use Rattle.cql_tenants.specs.Checks.{make_refused, room_refused};
@@ -98,14 +98,14 @@ impl Home {
         Ok(())
     }
 
-    // The schema of a stream that may be made.
-    fn new_schema<'a>(
+    /// The schema of a stream that may be made. Takes no memory.
+    pub fn may_make<'a>(
         &self,
         name: &str,
         schema: Option<&'a Schema>,
     ) -> Result<&'a Schema, StreamRefusal>
         ensures refused { result_err result ≡ make_refused self.now name.now (option_copied schema.entry) }
-        ensures schema { IfOk result (λ s. s.now ≡ unwrap_or (option_copied schema.entry) []) }
+        ensures schema { IfOk result (λ s. option_copied schema.entry ≡ Some s.now) }
     {
         if !is_name(name) {
             return Err(StreamRefusal::BadName);
@@ -115,14 +115,6 @@ impl Home {
         };
         self.room(name)?;
         Ok(schema)
-    }
-
-    /// Whether a stream may be made. Takes no memory.
-    pub fn may_make(&self, name: &str, schema: Option<&Schema>) -> Result<(), StreamRefusal>
-        ensures { result_err result ≡ make_refused self.now name.now (option_copied schema.entry) }
-    {
-        self.new_schema(name, schema)?;
-        Ok(())
     }
 
     /// The least time, in ticks, that the stream at a place still takes; 0 where there is none.
@@ -136,28 +128,18 @@ impl Home {
         }
     }
 
-    /// Makes a stream.
-    pub fn make(
-        &mut self,
-        alloc: Global,
-        name: &str,
-        schema: Option<&Schema>,
-    ) -> Result<Result<(), StreamRefusal>, AllocError>
-        ensures refused { IfOk result (λ told. result_err told ≡ make_refused self.old name.now (option_copied schema.entry)) }
-        ensures ok { IfOk result (λ told. OnOk told (self.new ≡ with_stream name.now (unwrap_or (option_copied schema.entry) []) self.old)) }
-        ensures unchanged { IfOk result (λ told. OnErr told (self.new ≡ self.old)) }
+    /// Makes a stream that may be made.
+    pub fn make(&mut self, alloc: Global, name: &str, schema: &Schema) -> Result<(), AllocError>
+        requires { make_refused self.old name.now (Some schema.now) ≡ None }
+        ensures ok { OnOk result (self.new ≡ with_stream name.now schema.now self.old) }
         ensures err { OnErr result (self.new ≡ self.old) }
     {
-        let schema = match self.new_schema(name, schema) {
-            Ok(schema) => schema.try_clone(alloc)?,
-            Err(refusal) => return Ok(Err(refusal)),
-        };
         let stream = Stream {
-            schema,
+            schema: schema.try_clone(alloc)?,
             clock: Clock::new(),
         };
         match self.streams.push(String::from_str(alloc, name)?, stream) {
-            Ok(()) => Ok(Ok(())),
+            Ok(()) => Ok(()),
             Err(_stream) => Err(AllocError),
         }
     }

@@ -1,1 +1,3 @@
 mod Fitting
+pub mod Numbers
+pub mod Pairs

@@ -1,1 +1,3 @@
 pub mod Pins
+pub mod Numbers
+pub mod Pairs

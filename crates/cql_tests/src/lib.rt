@@ -7,6 +7,10 @@ mod answers;
 #[cfg(test)]
 mod benches;
 #[cfg(test)]
+mod groups;
+#[cfg(test)]
+mod joins;
+#[cfg(test)]
 mod laws;
 #[cfg(test)]
 mod memory;

@@ -6,9 +6,18 @@ use crate::tenants::{Unmade, table_with};
 use cql_core::{
     BenchOf, Command, Core, Operator, Refusal, Reply, TenantId, TenantTable, run, serve,
 };
-use cql_ops::plain_bench;
+use cql_groups::GroupShape;
+use cql_joins::KeyedJoin;
+use cql_ops::{mixed_bench, plain_bench};
 use std::alloc::{AllocError, Global};
 use std::test::Fail;
+
+// By which operators joins and groups are computed.
+#[derive(Clone, Copy)]
+enum Makes {
+    Plain,
+    Keyed,
+}
 
 fn table_of(alloc: Global, script: &Script) -> Result<TenantTable, Unmade> {
     table_with(alloc, &["a", "b"], script.hold)
@@ -123,18 +132,27 @@ fn is_served<O: Operator>(
 // The same with a bench of its own.
 fn is_served_alone(
     alloc: Global,
+    makes: Makes,
     core: &mut Core,
     table: &TenantTable,
     call: &Call,
 ) -> Result<bool, Unmade> {
-    is_served(alloc, core, &mut plain_bench(alloc), table, call)
+    match makes {
+        Makes::Plain => is_served(alloc, core, &mut plain_bench(alloc), table, call),
+        Makes::Keyed => {
+            let joins = (KeyedJoin::new(alloc), KeyedJoin::new(alloc));
+            let shapes = (GroupShape::new(alloc), GroupShape::new(alloc));
+            let bench = &mut mixed_bench(alloc, joins, shapes);
+            is_served(alloc, core, bench, table, call)
+        }
+    }
 }
 
-fn are_all_served(alloc: Global, script: &Script) -> Result<bool, Unmade> {
+fn are_all_served(alloc: Global, makes: Makes, script: &Script) -> Result<bool, Unmade> {
     let table = table_at_last(alloc, script)?;
     let mut core = core_at_last(alloc, script)?;
     for call in script.calls {
-        if !is_served_alone(alloc, &mut core, &table, call)? {
+        if !is_served_alone(alloc, makes, &mut core, &table, call)? {
             return Ok(false);
         }
     }
@@ -148,7 +166,17 @@ fn are_all_served(alloc: Global, script: &Script) -> Result<bool, Unmade> {
 fn a_command_without_memory_changes_nothing(rt: HostRuntime) -> Result<(), Fail> {
     for script in scripts() {
         let what = script.what;
-        assert!(rt; are_all_served(rt.alloc(), script)?, "{what}");
+        assert!(rt; are_all_served(rt.alloc(), Makes::Plain, script)?, "{what}");
+    }
+    Ok(())
+}
+
+// The same with keyed joins and kept groups.
+#[test]
+fn a_keyed_command_without_memory_changes_nothing(rt: HostRuntime) -> Result<(), Fail> {
+    for script in scripts() {
+        let what = script.what;
+        assert!(rt; are_all_served(rt.alloc(), Makes::Keyed, script)?, "{what}");
     }
     Ok(())
 }
@@ -172,23 +200,41 @@ fn commands(
 
 fn run_alone(
     alloc: Global,
+    makes: Makes,
     table: TenantTable,
     commands: Vec<(TenantId, Command)>,
 ) -> Result<Vec<Reply>, AllocError> {
-    run(alloc, table, commands, &mut plain_bench(alloc))
+    match makes {
+        Makes::Plain => run(alloc, table, commands, &mut plain_bench(alloc)),
+        Makes::Keyed => {
+            let joins = (KeyedJoin::new(alloc), KeyedJoin::new(alloc));
+            let shapes = (GroupShape::new(alloc), GroupShape::new(alloc));
+            run(
+                alloc,
+                table,
+                commands,
+                &mut mixed_bench(alloc, joins, shapes),
+            )
+        }
+    }
 }
 
-fn replies(alloc: Global, script: &Script, without: Option<usize>) -> Result<Vec<Reply>, Unmade> {
+fn replies(
+    alloc: Global,
+    makes: Makes,
+    script: &Script,
+    without: Option<usize>,
+) -> Result<Vec<Reply>, Unmade> {
     let table = table_of(alloc, script)?;
     let commands = commands(alloc, &table, script, without)?;
-    Ok(run_alone(alloc, table, commands)?)
+    Ok(run_alone(alloc, makes, table, commands)?)
 }
 
 // The same, once more where the run itself had no memory.
-fn replies_at_last(alloc: Global, script: &Script) -> Result<Vec<Reply>, Unmade> {
-    match replies(alloc, script, None) {
+fn replies_at_last(alloc: Global, makes: Makes, script: &Script) -> Result<Vec<Reply>, Unmade> {
+    match replies(alloc, makes, script, None) {
         Ok(replies) => Ok(replies),
-        Err(_why) => replies(alloc, script, None),
+        Err(_why) => replies(alloc, makes, script, None),
     }
 }
 
@@ -199,11 +245,12 @@ fn has_no_memory(reply: &Reply) -> bool {
 // Whether replies are those of a run without the command at a place.
 fn are_those_without(
     alloc: Global,
+    makes: Makes,
     script: &Script,
     replies: &[Reply],
     without: usize,
 ) -> Result<bool, Unmade> {
-    let others = self::replies(alloc, script, Some(without))?;
+    let others = self::replies(alloc, makes, script, Some(without))?;
     let mut left = others.as_slice();
     for (place, reply) in replies.iter().enumerate() {
         if place != without {
@@ -228,10 +275,10 @@ fn are_all_told(alloc: Global, script: &Script, replies: &[Reply]) -> Result<boo
     Ok(replies.len() == script.calls.len())
 }
 
-fn is_run(alloc: Global, script: &Script) -> Result<bool, Unmade> {
-    let replies = replies_at_last(alloc, script)?;
+fn is_run(alloc: Global, makes: Makes, script: &Script) -> Result<bool, Unmade> {
+    let replies = replies_at_last(alloc, makes, script)?;
     match replies.iter().position(has_no_memory) {
-        Some(without) => are_those_without(alloc, script, &replies, without),
+        Some(without) => are_those_without(alloc, makes, script, &replies, without),
         None => are_all_told(alloc, script, &replies),
     }
 }
@@ -242,7 +289,17 @@ fn is_run(alloc: Global, script: &Script) -> Result<bool, Unmade> {
 fn a_list_of_commands(rt: HostRuntime) -> Result<(), Fail> {
     for script in scripts() {
         let what = script.what;
-        assert!(rt; is_run(rt.alloc(), script)?, "{what}");
+        assert!(rt; is_run(rt.alloc(), Makes::Plain, script)?, "{what}");
+    }
+    Ok(())
+}
+
+// The same with keyed joins and kept groups.
+#[test]
+fn a_keyed_list_of_commands(rt: HostRuntime) -> Result<(), Fail> {
+    for script in scripts() {
+        let what = script.what;
+        assert!(rt; is_run(rt.alloc(), Makes::Keyed, script)?, "{what}");
     }
     Ok(())
 }

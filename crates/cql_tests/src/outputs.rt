@@ -18,7 +18,7 @@ pub(crate) type Told = (u64, u64, Numbers);
 fn rows(alloc: Global, numbers: &[i64]) -> Result<Items<Row>, AllocError> {
     let mut rows = Vec::new(alloc);
     for number in numbers {
-        rows.push(Row::new(vec![in alloc; Value::Number(*number)]?))?;
+        rows.push(Row::new(alloc, vec![in alloc; Value::Number(*number)]?)?)?;
     }
     Ok(Items::from_vec(rows))
 }

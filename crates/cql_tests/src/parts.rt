@@ -26,7 +26,7 @@ fn row(alloc: Global, cells: &[Cell]) -> Result<Row, Fail> {
     for cell in cells {
         values.push(value(alloc, *cell)?)?;
     }
-    Ok(Row::new(values))
+    Ok(Row::new(alloc, values)?)
 }
 
 // Rows in ascending order. Those of a stream are all of its columns' types.
@@ -152,7 +152,9 @@ fn readable_streams(rt: HostRuntime) -> Result<(), Fail> {
     let (a, b) = (place(&table, "a")?, place(&table, "b")?);
     let stranger = place(&self::table(alloc, &["a", "b", "c"])?, "c")?;
     let mut directory = Directory::new(alloc, &table)?;
-    directory.make_stream(alloc, a, "s", Some(&schema(alloc)?))??;
+    let schema = schema(alloc)?;
+    let schema = directory.may_make(a, "s", Some(&schema))?;
+    directory.make_stream(alloc, a, "s", schema)?;
     directory.grant(alloc, a, "s", "b")??;
     assert_eq!(rt; directory.readable(alloc, a)??.len(), 1);
     assert_eq!(rt; directory.readable(alloc, b)??.len(), 1);

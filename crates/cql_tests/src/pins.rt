@@ -149,8 +149,8 @@ fn are_fit(rows: &[Timed]) -> bool
 }
 
 fn timed(alloc: Global, at: u64, number: i64) -> Result<Timed, Fail> {
-    let row = Row::new(vec![in alloc; Value::Number(number)]?);
-    Ok(Timed::new(at, Arc::new(alloc, row)?))
+    let row = Row::new(alloc, vec![in alloc; Value::Number(number)]?)?;
+    Ok(Timed::new(at, row))
 }
 
 fn timed_rows(alloc: Global, rows: &[(u64, i64)]) -> Result<Vec<Timed>, Fail> {

@@ -70,7 +70,7 @@ fn grant(alloc: Global, stream: &str, to: &str) -> Result<Command, Unmade> {
 }
 
 fn put(alloc: Global, stream: &str, at: u64, number: i64) -> Result<Command, Unmade> {
-    let row = Row::new(vec![in alloc; Value::Number(number)]?);
+    let row = Row::new(alloc, vec![in alloc; Value::Number(number)]?)?;
     Ok(Command::Put {
         stream: Text::new(alloc, stream)?,
         at,

@@ -2,7 +2,6 @@
 use cql_value::{Items, Row, Text, Timed, Value};
 use cql_window::{Count, Length, Window, charge, split};
 use std::alloc::Global;
-use std::sync::Arc;
 use std::test::Fail;
 
 const GREATEST: u64 = 4611686018427387903;
@@ -24,7 +23,7 @@ fn rows(count: u64, slide: u64) -> Option<Window> {
 // A row of its number and its key.
 fn row(alloc: Global, number: i64, key: &str) -> Result<Row, Fail> {
     let key = Value::Text(Text::new(alloc, key)?);
-    Ok(Row::new(vec![in alloc; Value::Number(number), key]?))
+    Ok(Row::new(alloc, vec![in alloc; Value::Number(number), key]?)?)
 }
 
 // A row for each time and key, numbered from 0.
@@ -32,7 +31,7 @@ fn numbered(alloc: Global, elements: &[(u64, &str)]) -> Result<Vec<Timed>, Fail>
     let mut rows = Vec::new(alloc);
     let mut number = 0i64;
     for (time, key) in elements {
-        let row = Arc::new(alloc, row(alloc, number, key)?)?;
+        let row = row(alloc, number, key)?;
         rows.push(Timed::new(*time, row))?;
         number = number.saturating_add(1);
     }

@@ -1,14 +1,12 @@
 // Stores on which every call is right, where memory may run out, and as they go on.
 ghost use Rattle.std.specs.Prelude.{◌≡◌, IfOk, length};
 ghost use Rattle.cql_store.specs.Next.{FitsWindow};
-ghost use Rattle.std.specs.Arc.{arc_value};
 
 use cql_store::{Store, StubId};
 use cql_value::{Items, Row, Timed, Value, are_same};
 use cql_window::{Count, Length, Window, WindowPin};
 use std::alloc::{AllocError, AllocFailed, Global};
 use std::marker::Model;
-use std::sync::Arc;
 use std::test::Fail;
 
 const GREATEST: u64 = 4611686018427387903;
@@ -126,11 +124,10 @@ fn parts(alloc: Global, count: u64) -> Result<Window, Refused>
     Ok(Window::Parts { columns, count })
 }
 
-fn shared(alloc: Global, number: i64) -> Result<Arc<Row>, Refused>
-    ensures { IfOk result (λ r. length (arc_value r) ≡ 1) }
+fn shared(alloc: Global, number: i64) -> Result<Row, Refused>
+    ensures { IfOk result (λ r. length r ≡ 1) }
 {
-    let row = Row::new(vec![in alloc; Value::Number(number)]?);
-    Ok(Arc::new(alloc, row)?)
+    Ok(Row::new(alloc, vec![in alloc; Value::Number(number)]?)?)
 }
 
 fn row(alloc: Global, at: u64, number: i64) -> Result<Timed, Refused>
@@ -241,7 +238,7 @@ fn rounds(alloc: Global, number: u64) -> Result<u64, Refused> {
     }
     let row = shared(alloc, 7)?;
     for at in 0..number {
-        tried.put(Timed::new(at, Arc::try_clone(&row)?))?;
+        tried.put(Timed::new(at, row.share()?))?;
         go_all(&mut tried, &ids, at.saturating_add(1))?;
     }
     Ok(tried.store.rows_held())

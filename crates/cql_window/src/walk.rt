@@ -1,6 +1,7 @@
 // A walk over the rows of a pin.
 ghost use Rattle.std.specs.Prelude.{◌≡◌, ◌≤◌, ◌+◌, ◌++◌, List, [], take, length, IfOk, OnOk};
 ghost use Rattle.std.specs.List.{AllByRecursion};
+ghost use Rattle.std.specs.List.Sorted.{IsPermutation};
 ghost use Rattle.cql_value.specs.Element.{Element};
 ghost use Rattle.cql_window.specs.declared.window.Window.TheVariants.{Parts};
 ghost use Rattle.cql_window.specs.Laws.{between};
@@ -105,6 +106,17 @@ impl<'a> Walk<'a> {
         };
         Ok((walk, moved))
     }
+
+    /// What the window holds at the cursor, in some order. The rows are shared. Takes as many steps
+    /// as there are.
+    pub fn held(&self, alloc: Global) -> Result<Vec<Timed>, AllocError>
+        ensures { IfOk result (λ r. IsPermutation r.items self.now.held) }
+    {
+        match self.pin.window() {
+            Window::Parts { .. } => self.queues.rows(alloc),
+            _ => rows_between(alloc, self.pin, self.places.low, self.places.high),
+        }
+    }
 }
 
 // The rows from one place to another. They are shared.
@@ -119,9 +131,14 @@ fn rows_between(
     ensures { IfOk result (λ r. r.items ≡ between from to (pin.now.content ++ pin.now.unseen)) }
 {
     let (first, second) = segment(pin.content(), pin.unseen(), from, to);
+    // mostly they are settled, or unseen
+    if first.is_empty() {
+        return copies_of(alloc, second);
+    }
     let mut rows = copies_of(alloc, first)?;
-    let mut more = copies_of(alloc, second)?;
-    rows.append(&mut more)?;
+    if !second.is_empty() {
+        rows.append(&mut copies_of(alloc, second)?)?;
+    }
     Ok(rows)
 }
 

@@ -92,7 +92,7 @@ fn row_of(alloc: Global, items: &[Json]) -> Result<Row, LineFault>
     for item in items {
         values.push(value_of(alloc, item)?)?;
     }
-    Ok(Row::new(values))
+    Ok(Row::new(alloc, values)?)
 }
 
 // A list of exactly two texts: the name and the type of a column.

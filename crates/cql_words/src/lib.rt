@@ -6,6 +6,20 @@ ghost use Rattle.std.specs.Prelude.{◌≤◌, IfOk};
 use clap::{Arg, ArgAction, Command, Error};
 use std::alloc::Global;
 
+/// The version, which is that of the top entry of CHANGELOG.md.
+pub const VERSION: &str = "0.1.0";
+
+const JOIN_FORMS: &[&str] = &["plain", "keyed"];
+
+/// The operators by which joins and groups are computed.
+#[derive(Clone, Copy, Debug, PartialEq, Eq)]
+pub enum JoinForm {
+    /// All rows anew at each instant.
+    Plain,
+    /// What the changes of an instant change, by look-ups of equal values.
+    Keyed,
+}
+
 /// What is served, and how.
 #[derive(Clone, Copy, Debug)]
 pub struct Config {
@@ -15,6 +29,13 @@ pub struct Config {
     pub workers: u8,
     /// How many sessions are served in all; at 0 there is no end.
     pub sessions: u16,
+    /// By how many seconds of a session its login line has to be whole, up to 3,600; at 0 it need
+    /// never be.
+    pub login: u16,
+    /// For how many seconds a session waits for its caller, up to 86,400; at 0 there is no end.
+    pub idle: u32,
+    /// How joins and groups are computed.
+    pub join: JoinForm,
     /// Whether each call is kept, and checked after the last session.
     pub audit: bool,
 }
@@ -22,23 +43,39 @@ pub struct Config {
 /// Reads the words, of which the first is the program's name.
 pub fn read_words(alloc: Global, words: &[String]) -> Result<Config, Error>
     ensures workers { IfOk result (λ c. (1 ≤ c.workers) × (c.workers ≤ 64)) }
+    ensures login { IfOk result (λ c. c.login ≤ 3600) }
+    ensures idle { IfOk result (λ c. c.idle ≤ 86400) }
 {
     let matches = command(alloc)?.try_get_matches_from(words)?;
     Ok(Config {
         port: matches.get_one::<u16>("port").unwrap_or(0),
         workers: matches.get_one::<u8>("workers").unwrap_or(4).clamp(1, 64),
         sessions: matches.get_one::<u16>("sessions").unwrap_or(0),
+        login: matches.get_one::<u16>("login").unwrap_or(10).min(3600),
+        idle: matches.get_one::<u32>("idle").unwrap_or(0).min(86_400),
+        join: join_form(matches.get_str("join")),
         audit: matches.get_flag("audit"),
     })
 }
 
+// The form of that name; keyed where none is named.
+fn join_form(name: Option<&str>) -> JoinForm {
+    match name {
+        Some("plain") => JoinForm::Plain,
+        _ => JoinForm::Keyed,
+    }
+}
+
 fn command<'a>(alloc: Global) -> Result<Command<'a>, Error> {
-    let command = Command::new(alloc, "cqld").about(
+    let command = Command::new(alloc, "cqld").version(VERSION).about(
         "Serves continuous queries to the tenants of the first line of standard input",
     );
     let command = command.arg(port(alloc))?;
     let command = command.arg(workers(alloc))?;
     let command = command.arg(sessions(alloc))?;
+    let command = command.arg(login(alloc))?;
+    let command = command.arg(idle(alloc))?;
+    let command = command.arg(join(alloc))?;
     Ok(command.arg(audit(alloc))?)
 }
 
@@ -67,6 +104,33 @@ fn sessions<'a>(alloc: Global) -> Arg<'a> {
         .value_parser(clap::value_parser!(u16))
         .default_value("0")
         .help("How many sessions are served in all, or 0 for no end")
+}
+
+fn login<'a>(alloc: Global) -> Arg<'a> {
+    Arg::new(alloc, "login")
+        .long("login")
+        .value_name("SECONDS")
+        .value_parser(clap::value_parser!(u16).range(0..=3600))
+        .default_value("10")
+        .help("By when a session's login line has to be whole, or 0 for never")
+}
+
+fn idle<'a>(alloc: Global) -> Arg<'a> {
+    Arg::new(alloc, "idle")
+        .long("idle")
+        .value_name("SECONDS")
+        .value_parser(clap::value_parser!(u32).range(0..=86_400))
+        .default_value("0")
+        .help("How long a session waits for its caller, or 0 for no end")
+}
+
+fn join<'a>(alloc: Global) -> Arg<'a> {
+    Arg::new(alloc, "join")
+        .long("join")
+        .value_name("FORM")
+        .value_parser(JOIN_FORMS)
+        .default_value("keyed")
+        .help("How joins and groups are computed: plain, all rows anew, or keyed, what changes")
 }
 
 fn audit<'a>(alloc: Global) -> Arg<'a> {

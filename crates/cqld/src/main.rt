@@ -9,10 +9,10 @@ mod operators;
 use clap::error::ErrorKind;
 use cql_core::{Bench, Operator, TenantTable};
 use cql_hall::OpenGate;
-use cql_server::{Failure, benches_of, serve};
+use cql_server::{Failure, Limits, benches_of, serve};
 use cql_wire::{TableFault, Watched, first_table};
-use cql_words::{Config, read_words};
-use operators::Operators;
+use cql_words::{Config, JoinForm, read_words};
+use operators::{Operators, keyed_operators, plain_operators};
 use std::alloc::Global;
 use std::net::{Net, TcpListener, TcpStream};
 use std::process::ExitCode;
@@ -87,22 +87,43 @@ where
         if boxes.reserve(7).is_err() {
             return Err(Failure::NoMemory);
         }
-        let Ok(operators) = Operators::new(alloc) else {
-            return Err(Failure::NoMemory);
-        };
         // Operators of the caller's own may stand in the place of these.
-        let Operators {
-            left,
-            right,
-            set_op,
-        } = operators;
-        boxes.push_reserved(left.join);
-        boxes.push_reserved(left.shape);
-        boxes.push_reserved(left.distinct);
-        boxes.push_reserved(right.join);
-        boxes.push_reserved(right.shape);
-        boxes.push_reserved(right.distinct);
-        boxes.push_reserved(set_op);
+        match config.join {
+            JoinForm::Plain => {
+                let Ok(operators) = plain_operators(alloc) else {
+                    return Err(Failure::NoMemory);
+                };
+                let Operators {
+                    left,
+                    right,
+                    set_op,
+                } = operators;
+                boxes.push_reserved(left.join);
+                boxes.push_reserved(left.shape);
+                boxes.push_reserved(left.distinct);
+                boxes.push_reserved(right.join);
+                boxes.push_reserved(right.shape);
+                boxes.push_reserved(right.distinct);
+                boxes.push_reserved(set_op);
+            }
+            JoinForm::Keyed => {
+                let Ok(operators) = keyed_operators(alloc) else {
+                    return Err(Failure::NoMemory);
+                };
+                let Operators {
+                    left,
+                    right,
+                    set_op,
+                } = operators;
+                boxes.push_reserved(left.join);
+                boxes.push_reserved(left.shape);
+                boxes.push_reserved(left.distinct);
+                boxes.push_reserved(right.join);
+                boxes.push_reserved(right.shape);
+                boxes.push_reserved(right.distinct);
+                boxes.push_reserved(set_op);
+            }
+        }
         if lists.push(boxes).is_err() {
             return Err(Failure::NoMemory);
         }
@@ -148,6 +169,7 @@ where
         rt,
         alloc,
         &listener,
+        Limits::of_seconds(config.login, config.idle),
         &mut io::writer(rt),
         table,
         benches,

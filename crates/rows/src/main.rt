@@ -1,26 +1,74 @@
-//! Runs each script that lies in its folder, and tells where its replies aren't the expected ones.
+//! Runs each script that lies in its folder by benches of every make, and tells where its replies
+//! aren't the expected ones.
 #![tactic(auto)]
 
-use cql_ops::plain_bench;
+ghost use Rattle.cql_ops.specs.Bench.{IsBench};
+
+use cql_groups::GroupShape;
+use cql_joins::KeyedJoin;
+use cql_ops::{BenchOf, Operator, PlainJoin, PlainShape, mixed_bench, plain_bench};
 use cql_wire::{Watched, program};
-use std::alloc::Global;
+use std::alloc::{AllocError, Global};
 use std::process::ExitCode;
 use std::{fs, io};
 
 // The replies to a script, or what keeps it from its end.
-fn replies(alloc: Global, text: &[u8]) -> Result<Vec<u8>, &'static str> {
+fn replies<O: Operator>(
+    alloc: Global,
+    text: &[u8],
+    bench: &mut BenchOf<O>,
+) -> Result<Vec<u8>, &'static str>
+    requires { IsBench O.seen_in bench.old }
+{
     let mut reader = Watched::new(text);
     let mut writer = Watched::new(Vec::new(alloc));
-    let told = program(
-        alloc,
-        &[],
-        &mut reader,
-        &mut writer,
-        &mut plain_bench(alloc),
-    );
+    let told = program(alloc, &[], &mut reader, &mut writer, bench);
     match told {
         (0, _) => Ok(writer.into_inner()),
         (_, fault) => Err(fault),
+    }
+}
+
+// The makes of a bench's joins and shapes.
+#[derive(Clone, Copy)]
+enum Mix {
+    Plain,
+    KeyedJoins,
+    GroupShapes,
+    Keyed,
+}
+
+const MIXES: [Mix; 4] = [Mix::Plain, Mix::KeyedJoins, Mix::GroupShapes, Mix::Keyed];
+
+impl Mix {
+    fn name(self) -> &'static str {
+        match self {
+            Mix::Plain => "plain operators",
+            Mix::KeyedJoins => "keyed joins",
+            Mix::GroupShapes => "kept groups",
+            Mix::Keyed => "keyed joins and kept groups",
+        }
+    }
+
+    fn replies(self, alloc: Global, text: &[u8]) -> Result<Vec<u8>, &'static str> {
+        match self {
+            Mix::Plain => replies(alloc, text, &mut plain_bench(alloc)),
+            Mix::KeyedJoins => {
+                let joins = (KeyedJoin::new(alloc), KeyedJoin::new(alloc));
+                let shapes = (PlainShape::new(alloc), PlainShape::new(alloc));
+                replies(alloc, text, &mut mixed_bench(alloc, joins, shapes))
+            }
+            Mix::GroupShapes => {
+                let joins = (PlainJoin::new(alloc), PlainJoin::new(alloc));
+                let shapes = (GroupShape::new(alloc), GroupShape::new(alloc));
+                replies(alloc, text, &mut mixed_bench(alloc, joins, shapes))
+            }
+            Mix::Keyed => {
+                let joins = (KeyedJoin::new(alloc), KeyedJoin::new(alloc));
+                let shapes = (GroupShape::new(alloc), GroupShape::new(alloc));
+                replies(alloc, text, &mut mixed_bench(alloc, joins, shapes))
+            }
+        }
     }
 }
 
@@ -37,20 +85,36 @@ fn first_difference<'a>(written: &'a str, wanted: &str) -> (u64, &'a str) {
     (number, "")
 }
 
+// What is wrong with the replies by a bench of these makes, if anything.
+fn fault_by(
+    alloc: Global,
+    mix: Mix,
+    text: &[u8],
+    wanted: &str,
+) -> Result<Option<String>, AllocError> {
+    let by = mix.name();
+    let written = match mix.replies(alloc, text) {
+        Ok(written) => String::from_utf8_lossy(alloc, written.as_slice())?,
+        Err(fault) => return Ok(Some(format!(in alloc; "by {by}: {fault}")?)),
+    };
+    if written.as_str() == wanted {
+        return Ok(None);
+    }
+    let (number, line) = first_difference(written.as_str(), wanted);
+    Ok(Some(format!(in alloc; "by {by} first at line {number}: {line}")?))
+}
+
 // What is wrong with the replies to the script of that name, if anything.
 fn fault_of(rt: &HostRuntime, name: &str) -> io::Result<Option<String>> {
     let alloc = rt.alloc();
     let text = fs::read(rt, format!(in alloc; "{name}.in")?)?;
     let wanted = fs::read_to_string(rt, format!(in alloc; "{name}.out")?)?;
-    let written = match replies(alloc, text.as_slice()) {
-        Ok(written) => String::from_utf8_lossy(alloc, written.as_slice())?,
-        Err(fault) => return Ok(Some(String::from_str(alloc, fault)?)),
-    };
-    if written.as_str() == wanted.as_str() {
-        return Ok(None);
+    for mix in MIXES {
+        if let Some(fault) = fault_by(alloc, mix, text.as_slice(), wanted.as_str())? {
+            return Ok(Some(fault));
+        }
     }
-    let (number, line) = first_difference(written.as_str(), wanted.as_str());
-    Ok(Some(format!(in alloc; "first at line {number}: {line}")?))
+    Ok(None)
 }
 
 fn main(rt: HostRuntime) -> io::Result<ExitCode> {

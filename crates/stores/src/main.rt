@@ -11,7 +11,6 @@
 #![tactic(auto)]
 
 ghost use Rattle.std.specs.Prelude.{◌≡◌, [], ◌∷◌, IfOk};
-ghost use Rattle.std.specs.Arc.{arc_value};
 ghost use Rattle.cql_value.specs.Schema.{HasTypes};
 ghost use Rattle.cql_store.specs.Next.{FitsWindow};
 ghost use Rattle.cql_value.specs.declared.schema.ColumnType.TheVariants.{Number};
@@ -24,7 +23,6 @@ use std::alloc::{AllocError, Global};
 use std::collections::VecDeque;
 use std::marker::Model;
 use std::process::ExitCode;
-use std::sync::Arc;
 use std::{env, io};
 
 /// The greatest instant, and a number of rows that no stub has.
@@ -103,10 +101,10 @@ impl Fed {
 }
 
 // A row of one number.
-fn numbered(alloc: Global, number: i64) -> Result<Arc<Row>, AllocError>
-    ensures { IfOk result (λ row. HasTypes (Number ∷ []) (arc_value row)) }
+fn numbered(alloc: Global, number: i64) -> Result<Row, AllocError>
+    ensures { IfOk result (λ row. HasTypes (Number ∷ []) row) }
 {
-    Ok(Arc::new(alloc, Row::new(vec![in alloc; Value::Number(number)]?))?)
+    Ok(Row::new(alloc, vec![in alloc; Value::Number(number)]?)?)
 }
 
 // A stub of all rows that comes in the way of none.
@@ -166,7 +164,7 @@ fn near(alloc: Global, fed: &mut Fed, stubs: u64, times: u64) -> Result<(), Allo
     let last = stub_of_now(fed, 1)?;
     let row = numbered(alloc, 7)?;
     for at in 0..times {
-        fed.put(Timed::new(at, Arc::try_clone(&row)?))?;
+        fed.put(Timed::new(at, row.share()?))?;
         fed.go(last, at.saturating_add(2))?;
     }
     Ok(())
@@ -184,7 +182,7 @@ fn rounds(alloc: Global, fed: &mut Fed, stubs: u64, times: u64) -> Result<(), Al
     let ids = stubs_of_now(alloc, fed, stubs)?;
     let row = numbered(alloc, 7)?;
     for at in 0..times {
-        fed.put(Timed::new(at, Arc::try_clone(&row)?))?;
+        fed.put(Timed::new(at, row.share()?))?;
         go_all(fed, &ids, at.saturating_add(1))?;
     }
     Ok(())

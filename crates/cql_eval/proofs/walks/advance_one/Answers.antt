@@ -8,7 +8,8 @@ use Rattle.cql_ops.specs.Seen.{columns_at}
 use Rattle.cql_ops.specs.Running.{contents_of}
 use Rattle.cql_eval.specs.Pin.{AreOf}
 use Rattle.cql_eval.specs.Shown.{rows_of, changes_of}
-use Rattle.cql_eval.proofs.Exchange.{Exchanged, can_come, window_moved}
+use Rattle.cql_eval.specs.Tally.{IsTally}
+use Rattle.cql_eval.proofs.Exchange.{Exchanged, bag_counts, can_come, window_moved}
 use Rattle.cql_eval.proofs.Holding.{came_columns, exchange_columns, left_columns, now_columns, port_after, pushed_both}
 use Rattle.cql_eval.proofs.walks.advance_one.Goals as goal
 
@@ -69,3 +70,12 @@ returns-clause-pushed g c =
     ∙ (λ i. changed_by (changes_of true (c.deref.ensures.value i)) (c.requires.held i)) in
     pushed_both c.args.pin.now c.args.input _ _ (bag_of (rows_of c.in_ok-walk.walk.held)) o mid after c.in_ok-push_rows.ensures.pushed c.in_ok-push_rows-2.ensures.pushed
     ((λ i. changed_by (changes_of false (c.deref-2.ensures.value i)) (here i)) ∙ moved.done)
+
+pub returns-clause-counted : goal.returns-clause-counted
+returns-clause-counted g c = λ first tally.
+    let came = c.in_ok-walk.moved.came.items in
+    let left = c.in_ok-walk.moved.left.items in
+    let moved : Exchanged c.args.walk.held came left c.in_ok-walk.walk.held
+    = window_moved c.same_counts.ensures c.put_all_counts.ensures c.take_counts.ensures c.args.walk.held came left c.in_ok-walk.walk.held c.in_ok-walk.ensures.moved in
+    subst (λ b. IsTally c.args.pin.now.plan.first b c.count_moved.new.tally) moved.done
+    (c.in_ok-count_moved.ensures.first first (bag_of (rows_of c.args.walk.held)) (bag_counts c.put_all_counts.ensures (rows_of c.args.walk.held)).0 (can_come came (bag_of (rows_of c.args.walk.held))) moved.can tally)

@@ -1,0 +1,18 @@
+-- The operator of shapes that keeps groups may go to another thread.
+use denote.Param.Send.{IsSend, sendable}
+use Rattle.std.proofs.alloc.Global.TheSendSync as heap
+use Rattle.cql_groups.proofs.keyed_shape.Kept.TheSendSync as kept
+use Rattle.cql_groups.specs.contracts.keyed_shape.KeyedShape as keyed_shape
+use Rattle.cql_groups.specs.contracts.group_shape.Way as way
+use Rattle.cql_groups.specs.contracts.group_shape.GroupShape as group_shape
+use Rattle.cql_ops.proofs.Crosses.{plain_shape_send}
+use Rattle.cql_plan.proofs.CrossQueries.{shape_send}
+
+keyed_shape_send : IsSend keyed_shape.the_row
+keyed_shape_send = search (sendable, heap.the_send, shape_send, kept.the_field_send) depth 20
+
+way_send : IsSend (way.the_field).row
+way_send = search (sendable, plain_shape_send, keyed_shape_send) depth 20
+
+pub group_shape_send : IsSend group_shape.the_row
+group_shape_send = search (sendable, heap.the_send, way_send) depth 20

@@ -1,0 +1,15 @@
+use Rattle.std.proofs.Common.{◌<◌, nat_lt, sym, subst, arith}
+use Rattle.std.proofs.lemmas.Bool.Decides.{nat_tests}
+use Rattle.std.specs.Prelude.{IsTrue, ℕ}
+use Rattle.cql_groups.specs.Cells.{IsKeyedItem}
+use Rattle.cql_groups.proofs.Keyed.{has_column}
+use Rattle.cql_groups.proofs.group_shape.is_keyed_item.Goals as goal
+
+below : (m n : ℕ) → IsTrue (nat_lt m n) → m < n
+below m n h = grind (arith, nat_tests)
+
+pub returns-in-Min : goal.returns-in-Min
+returns-in-Min c = λ h types len. subst (IsKeyedItem types c.args.groups.now) (sym c.in-Min.is) (has_column types c.in-Min.place (subst (λ n. c.in-Min.place < n) (sym len) (below c.in-Min.place c.args.columns h)))
+
+pub returns-in-Max : goal.returns-in-Max
+returns-in-Max c = λ h types len. subst (IsKeyedItem types c.args.groups.now) (sym c.in-Max.is) (has_column types c.in-Max.place (subst (λ n. c.in-Max.place < n) (sym len) (below c.in-Max.place c.args.columns h)))

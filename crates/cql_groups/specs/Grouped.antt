@@ -1,0 +1,97 @@
+-- A shape by its groups: what is kept of each, and what is told.
+use Rattle.std.specs.Prelude.{◌≡◌, ◌++◌, ◌+◌, ◌<◌, ◌≤◌, ◌^◌, List, [], ◌∷◌, Option, Some, None, IfSome, true, false, map, if◌then◌else◌}
+use Rattle.std.specs.Map.{lookup}
+use Rattle.std.specs.Ordering.{is_eq}
+use Rattle.cql_value.specs.Order.{row_cmp}
+use Rattle.cql_value.specs.Schema.{HasTypes}
+use Rattle.cql_value.specs.declared.value.Value.{Value}
+use Rattle.cql_bag.specs.Bag.{Counts, IsBag, count, size_of}
+use Rattle.cql_bag.specs.Changes.{changed_by, CanChangeBy}
+use Rattle.cql_bag.specs.declared.change.Change.{Change}
+use Rattle.cql_plan.specs.declared.node.Item.{Item}
+use Rattle.cql_plan.specs.declared.node.Shape.{Shape}
+use Rattle.cql_plan.specs.Fit.{IsTyped}
+use Rattle.cql_plan.specs.Node.{item_types}
+use Rattle.cql_algebra.specs.Shape.{key_of, group_of, items_over}
+use Rattle.cql_algebra.specs.Typed.{AreOf}
+use Rattle.cql_groups.specs.Cells.{IsKeyed, cell_of, cell_changed, row_of_cells}
+use Rattle.cql_ops.specs.Clauses.{AreChangesOf}
+use Rattle.cql_ops.specs.Linear.{with_entry}
+use Rattle.cql_ops.specs.Settle.{is_among}
+use Rattle.cql_groups.specs.declared.grouped.Group.{Group}
+
+-- what is kept of the rows of a key: how many there are, one row that has the key, and what each item needs
+pub record IsGroupOf (shape : Shape) (key : List Value) (rows : Counts) (g : Group) : Type 0 where
+  pub size : g.size ≡ size_of rows
+  pub few : g.size < 2 ^ 63
+  pub cells : g.cells.items ≡ map (cell_of rows) shape.items
+  pub sample : key_of shape.groups g.sample ≡ key
+  pub types : HasTypes shape.columns g.sample
+
+-- after one of its rows came or went
+pub record IsChangedGroup (c : Change) (old new : Group) : Type 0 where
+  pub size : new.size + (if c.plus then 0 else 1) ≡ old.size + (if c.plus then 1 else 0)
+  pub few : new.size < 2 ^ 63
+  pub cells : new.cells.items ≡ map (cell_changed c) old.cells.items
+  pub sample : new.sample ≡ old.sample
+  pub told : new.told ≡ old.told
+  pub pushed : new.pushed ≡ old.pushed
+
+-- the row of a group that has rows; one without rows has none
+abbrev pub IsDue : Group → Option (List Value) → Type 0
+IsDue g None = g.size ≡ 0
+IsDue g (Some row) = (1 ≤ g.size) × (row_of_cells g.size g.sample g.cells.items ≡ Some row)
+
+-- some item has no value
+abbrev pub IsLacking : Group → Type 0
+IsLacking g = (1 ≤ g.size) × (row_of_cells g.size g.sample g.cells.items ≡ None)
+
+-- what is held of a key, where some keys are left to be told: a group that isn't left has told its row
+pub record IsHeldOf (shape : Shape) (left : List (List Value)) (key : List Value) (rows : Counts) (g : Group) : Type 0 where
+  pub group : IsGroupOf shape key rows g
+  pub waits : g.pushed ≡ true → is_among left key ≡ true
+  pub settled : g.pushed ≡ false → (row : List Value) × (g.told ≡ Some row) × (1 ≤ g.size) × (items_over shape.items rows ≡ Some row)
+  pub typed : IsTyped shape → IfSome g.told (HasTypes (item_types shape.columns shape.items))
+
+abbrev pub IsHeldAt : Shape → List (List Value) → List Value → Counts → Option Group → Type 0
+IsHeldAt shape left key rows None = rows ≡ []
+IsHeldAt shape left key rows (Some g) = IsHeldOf shape left key rows g
+
+abbrev pub at_key : List Value → List (List Value × Group) → Option Group
+at_key key groups = lookup (λ k. is_eq (row_cmp key k)) groups
+
+-- the group that was at a key, or one without a row, none of which was told
+pub record IsNew (items : List Item) (row : List Value) (g : Group) : Type 0 where
+  pub size : g.size ≡ 0
+  pub sample : g.sample ≡ row
+  pub cells : g.cells.items ≡ map (cell_of []) items
+  pub told : g.told ≡ None
+  pub pushed : g.pushed ≡ false
+
+abbrev pub IsTaken : List Item → List Value → Option Group → Group → Type 0
+IsTaken items row None g = IsNew items row g
+IsTaken items row (Some h) g = g ≡ h
+
+-- the rows told of some groups
+abbrev pub told_rows : List (List Value × Group) → Counts
+told_rows [] = []
+told_rows (e ∷ es) = with_entry e.1.told 1 (told_rows es)
+
+-- the groups of the port's bag, and the bag that was told of them
+pub record IsGrouping (shape : Shape) (port told : Counts) (groups : List (List Value × Group)) (left : List (List Value)) : Type 0 where
+  pub keyed : IsKeyed shape
+  pub in_port : AreOf shape.columns port
+  pub port_bag : IsBag port
+  pub told_bag : IsBag told
+  pub held : (key : List Value) → IsHeldAt shape left key (group_of shape.groups port key) (at_key key groups)
+  pub rows : (row : List Value) → count row told ≡ count row (told_rows groups)
+
+-- changes of the bag that was told, of rows of the items' types
+pub record AreTold (shape : Shape) (told after : Counts) (changes : List Change) : Type 0 where
+  pub there : CanChangeBy changes told
+  pub leads : after ≡ changed_by changes told
+  pub columns : IsTyped shape → AreChangesOf (item_types shape.columns shape.items) changes
+
+-- a list grew by such changes
+abbrev pub TellsGroups : Shape → Counts → Counts → List Change → List Change → Type 0
+TellsGroups shape told after before out = (changes : List Change) × (out ≡ before ++ changes) × AreTold shape told after changes

@@ -1,0 +1,4 @@
+pub mod Cells
+pub mod GroupLaws
+pub mod Grouped
+pub mod GroupShape

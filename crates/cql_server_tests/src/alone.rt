@@ -1,0 +1,168 @@
+// Fetches that are held while queries are dropped and made anew, and audits of one tenant alone.
+use crate::audits::failing_here;
+use crate::callers::{Caller, Ran, close};
+use crate::halls::hall;
+use crate::holding::Holding;
+use crate::made::{Unmade, table};
+use cql_core::{Reply, TenantId};
+use cql_hall::{AuditError, Hall, Kept, OpenGate, audit_alone};
+use std::alloc::Global;
+use std::sync::Wait;
+use std::test::Fail;
+use std::thread;
+use std::thread::Threads;
+use std::time::Clock;
+
+const FETCH: &[&str] = &[r#"{"do":"fetch","name":"q"}"#];
+
+// The place at which an audit of one tenant alone fails.
+fn failing_alone(alloc: Global, ran: &Ran, tenant: TenantId) -> Result<Option<u64>, Unmade> {
+    let table = ran.ended.table.try_clone(alloc)?;
+    match audit_alone(alloc, table, &ran.ended.entries, tenant, &ran.lists) {
+        Ok(()) => Ok(None),
+        Err(AuditError::Mismatch { place }) => Ok(Some(place)),
+        Err(AuditError::NoMemory) => Err(Unmade::NoMemory),
+    }
+}
+
+// A fetch that is held until the other caller has made the calls of these lines.
+fn fetch_beside<R: Threads + Wait + Sync, C: Clock + Sync>(
+    rt: &R,
+    alloc: Global,
+    hall: &Hall<Kept>,
+    one: &mut Caller,
+    other: &mut Caller,
+    gate: &Holding<C>,
+    lines: &[&str],
+) -> Result<(), Unmade> {
+    let (first, second) = thread::join(
+        rt,
+        || one.say(rt, alloc, hall, gate, FETCH),
+        || {
+            gate.wait_for_pinned();
+            other.say(rt, alloc, hall, gate, lines)
+        },
+    );
+    first?;
+    second
+}
+
+const MADE: &[&str] = &[
+    r#"{"columns":[["v","int"]],"do":"stream","name":"s"}"#,
+    r#"{"do":"query","name":"q","text":"Select Rstream(*) From s"}"#,
+    r#"{"at":1,"do":"put","row":[1],"stream":"s"}"#,
+    r#"{"at":1,"do":"beat","stream":"s"}"#,
+];
+
+const MADE_ANEW: &[&str] = &[
+    r#"{"do":"drop","name":"q"}"#,
+    r#"{"do":"query","name":"q","text":"Select Rstream(*) From s"}"#,
+    r#"{"at":2,"do":"put","row":[2],"stream":"s"}"#,
+];
+
+const OF_THE_HELD: &[u8] = b"{\"ok\":true}\n{\"base\":0}\n{\"ok\":true}\n{\"ok\":true}\n\
+{\"blocks\":[{\"from\":1,\"rows\":[[1]],\"to\":1}],\"next\":2}\n";
+
+const OF_THE_OTHER: &[u8] = b"{\"ok\":true}\n{\"base\":2}\n{\"ok\":true}\n";
+
+// The places of the last call of one caller and of the first of another.
+fn last_and_first(one: &Caller, other: &Caller) -> Option<(u64, u64)> {
+    let last = one.receipts.last()?.place?;
+    let first = other.receipts.first()?.place?;
+    Some((last, first))
+}
+
+// A fetch tells what was there when it was pinned, though its query is dropped and made anew
+// before it is answered; and its place is before the drop's.
+#[test]
+fn a_query_is_made_anew_beside_its_fetch(rt: HostRuntime) -> Result<(), Fail> {
+    let alloc = rt.alloc();
+    let (hall, tenant) = hall(alloc)?;
+    let gate = Holding::new(rt, 3);
+    let mut one = Caller::new(alloc, hall.seat(tenant));
+    let mut two = Caller::new(alloc, hall.seat(tenant));
+    one.say(&rt, alloc, &hall, &OpenGate, MADE)?;
+    fetch_beside(&rt, alloc, &hall, &mut one, &mut two, &gate, MADE_ANEW)?;
+    assert!(rt; !gate.is_expired());
+    assert!(rt; one.replies(alloc)?.as_slice() == OF_THE_HELD);
+    assert!(rt; two.replies(alloc)?.as_slice() == OF_THE_OTHER);
+    assert_eq!(rt; last_and_first(&one, &two), Some((4, 5)));
+    let ran = close(alloc, hall, one, two)?;
+    assert_eq!(rt; failing_here(alloc, &ran)?, None);
+    assert_eq!(rt; failing_alone(alloc, &ran, tenant)?, None);
+    Ok(())
+}
+
+const OWNERS: &[&str] = &[
+    r#"{"columns":[["v","int"]],"do":"stream","name":"s"}"#,
+    r#"{"do":"grant","stream":"s","to":"b"}"#,
+    r#"{"do":"query","name":"p","text":"Select Rstream(*) From s"}"#,
+];
+
+const READERS: &[&str] = &[
+    r#"{"do":"query","name":"q","text":"Select Rstream(*) From a.s [Rows 1]"}"#,
+];
+
+const PUT: &[&str] = &[r#"{"at":1,"do":"put","row":[4],"stream":"s"}"#];
+
+// What the owner does while the reader's fetch is held.
+const BESIDE: &[&str] = &[
+    r#"{"do":"fetch","name":"p"}"#,
+    r#"{"at":2,"do":"put","row":[5],"stream":"s"}"#,
+    r#"{"do":"ack","name":"p","to":1}"#,
+    r#"{"do":"drop","name":"p"}"#,
+];
+
+const BEAT: &[&str] = &[r#"{"at":2,"do":"beat","stream":"s"}"#];
+
+const OF_THE_READER: &[u8] = b"{\"base\":0}\n{\"blocks\":[],\"next\":1}\n\
+{\"blocks\":[{\"from\":1,\"rows\":[[4]],\"to\":1},{\"from\":2,\"rows\":[[5]],\"to\":2}],\"next\":3}\n";
+
+// The reader's last fetch has place 11.
+fn call_all<R: Threads + Wait + Sync, C: Clock + Sync>(
+    rt: &R,
+    alloc: Global,
+    hall: &Hall<Kept>,
+    owner: &mut Caller,
+    reader: &mut Caller,
+    gate: &Holding<C>,
+) -> Result<(), Unmade> {
+    owner.say(rt, alloc, hall, &OpenGate, OWNERS)?;
+    reader.say(rt, alloc, hall, &OpenGate, READERS)?;
+    owner.say(rt, alloc, hall, &OpenGate, PUT)?;
+    fetch_beside(rt, alloc, hall, reader, owner, gate, BESIDE)?;
+    owner.say(rt, alloc, hall, &OpenGate, BEAT)?;
+    reader.say(rt, alloc, hall, &OpenGate, FETCH)
+}
+
+// The reader's last reply is another.
+fn replace_last(ran: &mut Ran) -> Result<(), Unmade> {
+    let list = ran.lists.last_mut().ok_or(Unmade::Wrong)?;
+    let last = list.last_mut().ok_or(Unmade::Wrong)?;
+    last.reply = Reply::Base(0);
+    Ok(())
+}
+
+// What each of two tenants was told agrees by itself; and a reply that wasn't told is found in all
+// that was told and in what its tenant was, but not in what the other was.
+#[test]
+fn two_tenants_each_alone(rt: HostRuntime) -> Result<(), Fail> {
+    let alloc = rt.alloc();
+    let (hall, a) = hall(alloc)?;
+    let b = table(alloc)?.find("b").ok_or(Unmade::Wrong)?;
+    let gate = Holding::new(rt, 4);
+    let mut owner = Caller::new(alloc, hall.seat(a));
+    let mut reader = Caller::new(alloc, hall.seat(b));
+    call_all(&rt, alloc, &hall, &mut owner, &mut reader, &gate)?;
+    assert!(rt; !gate.is_expired());
+    assert!(rt; reader.replies(alloc)?.as_slice() == OF_THE_READER);
+    let mut ran = close(alloc, hall, owner, reader)?;
+    assert_eq!(rt; failing_here(alloc, &ran)?, None);
+    assert_eq!(rt; failing_alone(alloc, &ran, a)?, None);
+    assert_eq!(rt; failing_alone(alloc, &ran, b)?, None);
+    replace_last(&mut ran)?;
+    assert_eq!(rt; failing_here(alloc, &ran)?, Some(11));
+    assert_eq!(rt; failing_alone(alloc, &ran, a)?, None);
+    assert_eq!(rt; failing_alone(alloc, &ran, b)?, Some(11));
+    Ok(())
+}

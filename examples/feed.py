@@ -1,0 +1,243 @@
+#!/usr/bin/env python3
+"""Puts the lines of a log, and puts them again where a cqld was started anew.
+
+usage: examples/feed.py --port N --tenant NAME --setup FILE --log FILE --places FOLDER
+           [--ahead ROWS] [--reach TICKS] [--poll SECONDS]
+
+A cqld keeps nothing when it stops. What lasts stands in front of it, here as two files of commands,
+a line of JSON each, as the server takes them: the setup with streams, grants and queries, and the
+log with puts and heartbeats, in the order of their times. The log may grow; the feeder waits for
+more of it.
+
+Where a connection is lost the feeder connects anew. A server without streams was started anew: it
+is told the setup and then the log from its beginning. With --reach, lines are left out which are
+too old for windows that look back so many ticks from where the slowest consumer is. Each query is
+acknowledged up to the place of its consumer (examples/consume.py), the `next` of FOLDER/QUERY; so
+each consumer goes on where it was, and is told what it would have been told without the stop.
+
+The feeder is at most ROWS rows ahead of the slowest consumer, but for rows of one instant, so that
+no query is overrun: the quota `hold` has to be as large as ROWS and a window's rows together. Each
+query needs a consumer, and each stream lines in the log.
+
+A connection may be lost while the server goes on. Then the times that the streams still take say
+which lines came in; where they fit two places of the log, as with several rows at one instant, the
+feeder ends rather than put a row twice or leave one out. A new start of the server sets that
+right.
+
+The key is taken from the environment variable CQL_KEY. The feeder runs until it is interrupted.
+The status is 1 where it can't go on, 2 for its words.
+
+On a topic of Kafka or Redpanda the same stands so. The log is a topic of one partition, a line the
+value of a record, and a line's number its offset: Log.lines then assigns the partition, seeks to
+the offset and polls. No offset is committed, since it is the server that forgets, not the feeder.
+The topic has to keep its records for as long as windows look back from the slowest consumer, and
+with --reach the first offset is found by offsetsForTimes, where records have the times of their
+lines. The setup is a file as here. A consumer keeps its place where its output goes, in the same
+transaction: as records of the output's topic, or in the rows of a database.
+"""
+import argparse
+import collections
+import contextlib
+import itertools
+import json
+import os
+import pathlib
+import sys
+import time
+from typing import Any, Deque, Dict, Iterator, Optional, Sequence, Tuple
+
+sys.path.append(str(pathlib.Path(__file__).resolve().parent.parent / "clients/python"))
+import romburik
+from romburik import Session
+
+Line = Dict[str, Any]
+
+
+class CannotGoOn(Exception):
+    """The feeder ends, since what it did next could be wrong."""
+
+
+class Log:
+    """The lines of a file that are whole, numbered from 0."""
+
+    def __init__(self, path: str) -> None:
+        self._file = open(path, "rb")
+        self._next = 0
+
+    def lines(self, start: int) -> Iterator[Line]:
+        """The lines from one on that are there so far."""
+        if start < self._next:
+            self._file.seek(0)
+            self._next = 0
+        while True:
+            line = self._file.readline()
+            if not line.endswith(b"\n"):
+                self._file.seek(-len(line), os.SEEK_CUR)
+                return
+            self._next += 1
+            if self._next > start:
+                yield self._read(line)
+
+    def _read(self, line: bytes) -> Line:
+        with contextlib.suppress(ValueError):
+            read = json.loads(line)
+            if isinstance(read, dict) and read.get("do") in ("put", "beat"):
+                if isinstance(read.get("at"), int) and isinstance(read.get("stream"), str):
+                    return read
+        raise CannotGoOn(f"line {self._next} of the log is no put or heartbeat: {line!r:.100}")
+
+
+class Feeder:
+    """What is known beyond one connection."""
+
+    def __init__(self, words: argparse.Namespace) -> None:
+        self._words = words
+        self._log = Log(words.log)
+        with open(words.setup, encoding="utf-8") as setup:
+            self._setup = [json.loads(line) for line in setup if line.strip()]
+        # how many lines of the log were answered, and how many were sent, if that is known
+        self._answered = 0
+        self._sent: Optional[int] = None
+        # up to which line refusals were told
+        self._told = 0
+        # the times of the last rows, without those that all consumers have taken
+        self._waiting: Deque[int] = collections.deque(maxlen=words.ahead)
+
+    def run(self, key: str) -> None:
+        """Feeds one server after another, without an end."""
+        words = self._words
+        while True:
+            with contextlib.suppress(romburik.ConnectionLost):
+                with Session(host=words.host, port=words.port, tenant=words.tenant, key=key) as it:
+                    self._begin(it)
+                    self._feed(it)
+            time.sleep(words.poll)
+
+    def _begin(self, session: Session) -> None:
+        """Makes what the setup has, and finds the line of the log that comes next."""
+        is_new = not session.list().streams
+        if is_new:
+            self._answered = self._sent = 0
+        for command in self._setup:
+            try:
+                session.call(command)
+            except (romburik.StreamExists, romburik.AlreadyGranted, romburik.QueryExists):
+                pass  # it was made before the connection was lost
+            except romburik.Refused as refusal:
+                raise CannotGoOn(f"the setup's {command}: {refusal}") from refusal
+        self._answered = self._first_line() if is_new else self._line_reached(session)
+        self._waiting.clear()
+        if not is_new:
+            lines = itertools.islice(self._log.lines(0), self._answered)
+            self._waiting.extend(line["at"] for line in lines if line["do"] == "put")
+
+    def _first_line(self) -> int:
+        """The first line that the slowest consumer's windows may still look at."""
+        if self._words.reach is None:
+            return 0
+        names = [it["name"] for it in self._setup if it["do"] == "query"]
+        least = min(map(self._place, names), default=0) - 1 - self._words.reach
+        lines = self._log.lines(0)
+        return sum(1 for _ in itertools.takewhile(lambda line: line["at"] < least, lines))
+
+    def _line_reached(self, session: Session) -> int:
+        """The line behind those that came in, told by the times that the streams still take."""
+        told = {it.name: it.open for it in session.list().streams}
+        opens = dict.fromkeys(told, 0)
+        fits = [0] if opens == told and self._answered == 0 else []
+        for number, line in enumerate(itertools.islice(self._log.lines(0), self._sent), start=1):
+            stream = line["stream"]
+            if stream in opens:
+                opens[stream] = max(opens[stream], line["at"] + (line["do"] == "beat"))
+            if number >= self._answered and opens == told:
+                fits.append(number)
+        if len(fits) != 1:
+            raise CannotGoOn("it isn't known which lines came in; start the server anew")
+        return fits[0]
+
+    def _place(self, query: str) -> int:
+        """The instant up to which the query's consumer has taken all."""
+        try:
+            with open(os.path.join(self._words.places, query), encoding="utf-8") as file:
+                return int(json.load(file)["next"])
+        except FileNotFoundError:
+            return 0
+
+    def _feed(self, session: Session) -> None:
+        """Puts what the log has, and what comes into it."""
+        size = max(1, self._words.ahead // 2)
+        while True:
+            self._wait_for_consumers(session, size)
+            lines = [*itertools.islice(self._log.lines(self._answered), size)]
+            if not lines:
+                time.sleep(self._words.poll)
+            self._sent = self._answered + len(lines)
+            with contextlib.closing(session.call_many(lines)) as outcomes:
+                for line, outcome in zip(lines, outcomes):
+                    self._count(line, outcome)
+
+    def _count(self, line: Line, outcome: object) -> None:
+        """Takes note of a line that was answered."""
+        if isinstance(outcome, romburik.NoMemory):
+            raise CannotGoOn(f"line {self._answered + 1} of the log: {outcome}")
+        if isinstance(outcome, romburik.Refused):
+            if self._answered >= self._told:
+                print(f"feed: line {self._answered + 1} of the log: {outcome}", file=sys.stderr)
+        elif line["do"] == "put":
+            self._waiting.append(line["at"])
+        self._answered += 1
+        self._told = max(self._told, self._answered)
+
+    def _wait_for_consumers(self, session: Session, count: int) -> None:
+        """Waits until so many more rows may be put."""
+        while True:
+            slowest, final = self._acknowledge(session)
+            while self._waiting and self._waiting[0] < slowest:
+                self._waiting.popleft()
+            if slowest >= final or len(self._waiting) + count <= self._words.ahead:
+                return
+            time.sleep(self._words.poll)
+
+    def _acknowledge(self, session: Session) -> Tuple[int, int]:
+        """Acknowledges what consumers have taken, and gives the least cursor and the instant below
+        which all is final."""
+        listing = session.list()
+        final = min((it.open for it in listing.streams), default=0)
+        slowest = final
+        for query in listing.queries:
+            place = min(self._place(query.name), final)
+            if place > query.next:
+                # the consumer may have acknowledged more meanwhile
+                with contextlib.suppress(romburik.Behind):
+                    session.ack(query.name, place)
+            slowest = min(slowest, max(place, query.next))
+        return slowest, final
+
+
+def main(given: Optional[Sequence[str]] = None) -> int:
+    parser = argparse.ArgumentParser(description="Puts the lines of a log, again where needed.")
+    parser.add_argument("--host", default="127.0.0.1")
+    parser.add_argument("--port", type=int, required=True)
+    parser.add_argument("--tenant", required=True)
+    parser.add_argument("--setup", required=True, help="streams, grants and queries")
+    parser.add_argument("--log", required=True, help="puts and heartbeats")
+    parser.add_argument("--places", required=True, help="the folder of the consumers' places")
+    parser.add_argument("--ahead", type=int, default=100, help="rows ahead of consumers (100)")
+    parser.add_argument("--reach", type=int, help="ticks that windows look back")
+    parser.add_argument("--poll", type=float, default=0.2, help="seconds between looks (0.2)")
+    words = parser.parse_args(given)
+    if "CQL_KEY" not in os.environ:
+        parser.error("CQL_KEY isn't set")
+    if words.ahead < 1:
+        parser.error("--ahead is at least 1")
+    try:
+        Feeder(words).run(os.environ["CQL_KEY"])
+    except KeyboardInterrupt:
+        return 0
+    except (CannotGoOn, romburik.Error, OSError, ValueError) as error:
+        print(f"feed: {error}", file=sys.stderr)
+    return 1
+
+
+if __name__ == "__main__":
+    sys.exit(main())

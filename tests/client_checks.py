@@ -1,0 +1,855 @@
+"""What tests/server checks of clients/python, as a module and as a terminal, and of the examples
+that stand on it. Each check gives pairs of a name and of what is wrong, or None.
+"""
+import contextlib
+import json
+import os
+import pathlib
+import pty
+import random
+import re
+import select
+import signal
+import socket
+import subprocess
+import sys
+import tempfile
+import threading
+import time
+
+from served import (
+    DONE,
+    SECONDS,
+    Caller,
+    Ended,
+    Server,
+    Stalled,
+    audit,
+    beat,
+    block,
+    difference,
+    line_of,
+    put,
+    refused,
+    tenants,
+    told,
+)
+
+TOP = pathlib.Path(__file__).resolve().parent.parent
+MODULE = TOP / "clients/python"
+FEED = TOP / "examples/feed.py"
+CONSUME = TOP / "examples/consume.py"
+sys.path.append(str(MODULE))
+import romburik
+
+TENANTS = tenants("ab")
+WIDE = tenants("a", hold=65536, result=65536)
+STREAM = line_of(columns=[["v", "int"]], do="stream", name="s")
+QUERY = line_of(do="query", name="q", text="Select Istream(*) From s [Range 2]")
+FETCH = line_of(do="fetch", name="q")
+LIST = line_of(do="list")
+BASE = line_of(base=0)
+LATE = refused(41, "Late")
+LATE_MEANS = b"  41: the time is below the least that the stream still takes\n"
+OVERRUN = refused(60, "Overrun")
+OWN_QUERY = {"base": 0, "name": "q", "next": 0, "text": "ISTREAM(SELECT * FROM s [RANGE 2])"}
+LIST_OF_ONE = line_of(queries=[OWN_QUERY], readable=[], streams=[{"name": "s", "open": 9}])
+GREATEST = 2**63 - 1
+# How long something is looked at that should stay as it is.
+SILENCE = 0.2
+
+
+# ---- The module.
+
+
+def session(server, tenant="a", timeout=SECONDS):
+    return romburik.Session(port=server.port, tenant=tenant, key="k" + tenant, timeout=timeout)
+
+
+def error_of(call, *given):
+    """What a call raises, or None."""
+    try:
+        call(*given)
+    except Exception as error:
+        return error
+    return None
+
+
+def refusal_of(call, *given):
+    """Class, name and number of a call's refusal, or what else becomes of it."""
+    error = error_of(call, *given)
+    known = isinstance(error, romburik.Refused)
+    return (type(error), error.name, error.number) if known else error
+
+
+def session_methods(program):
+    """Each command by its method, and what it gives."""
+    greatest = ("\u00e9", GREATEST)
+    with Server(program, TENANTS, sessions=2, workers=2, audit=True) as server:
+        with session(server) as owner, session(server, "b") as reader:
+            owner.stream("s", {"k": "text", "v": "int"})
+            owner.grant("s", "b")
+            yield "a base", difference(owner.query("q", "Select Istream(*) From s [Now]"), 0)
+            reader.query("p", "Select v From a.s [Range 1]")
+            owner.query("f", "Select Rstream(v + 1) From s [Now]")
+            owner.put("s", 5, ["x", 1])
+            owner.put("s", 7, greatest)
+            owner.beat("s", 7)
+            first, second = romburik.Rows(5, 5, (("x", 1),)), romburik.Rows(7, 7, (greatest,))
+            wanted = romburik.Answer((first, second), 8)
+            yield "an answer", difference(owner.fetch("q"), wanted)
+            wanted = romburik.Answer((first,), 6)
+            yield "an answer until", difference(owner.fetch("q", until=6), wanted)
+            changes = (
+                romburik.Changes(5, 5, plus=((1,),), minus=()),
+                romburik.Changes(7, 7, plus=((GREATEST,),), minus=((1,),)),
+            )
+            yield "changes", difference(reader.fetch("p").blocks, changes)
+            faults = romburik.Rows(5, 5, ((2,),)), romburik.Fault(7, 7, "overflow")
+            yield "a fault", difference(owner.fetch("f").blocks, faults)
+            wanted = [
+                f'{{"from":7,"rows":[["\u00e9",{GREATEST}]],"to":7}}',
+                f'{{"from":7,"minus":[[1]],"plus":[[{GREATEST}]],"to":7}}',
+                '{"fault":"overflow","from":7,"to":7}',
+            ]
+            lines = [it.line() for it in (second, changes[1], faults[1])]
+            yield "lines of blocks", difference(lines, wanted)
+            owner.ack("q", 8)
+            owner.drop("f")
+            own = romburik.Query("q", "ISTREAM(SELECT * FROM s [NOW])", 0, 8)
+            wanted = romburik.Listing((own,), (), (romburik.Stream("s", 8),))
+            yield "a listing", difference(owner.list(), wanted)
+            readable = reader.list().readable
+            yield "what may be read", difference(readable, (romburik.Stream("a.s", 8),))
+            reply = owner.call({"do": "beat", "stream": "s", "at": 9})
+            yield "a command by its keys", difference(reply, {"ok": True})
+        closed = error_of(owner.list)
+        yield "a session that is closed", difference(type(closed), romburik.ConnectionLost)
+        yield "calls by methods", difference(server.end(), Ended(0, b"", audit(17)))
+
+
+def session_refusals(program):
+    """They are exceptions with a name and a number; what can't be sent isn't."""
+    with Server(program, TENANTS) as server, session(server) as it:
+        it.stream("s", {"v": "int"})
+        for kind, number, call, *given in (
+            (romburik.StreamExists, 20, it.stream, "s", {"v": "int"}),
+            (romburik.BadColumns, 22, it.stream, "t", {}),
+            (romburik.UnknownStream, 30, it.put, "t", 1, [1]),
+            (romburik.UnknownTenant, 31, it.grant, "s", "c"),
+            (romburik.WrongRow, 40, it.put, "s", 1, ["x"]),
+            (romburik.AtTooLarge, 42, it.beat, "s", 1 << 62),
+            (romburik.UnknownQuery, 57, it.ack, "q", 1),
+            (romburik.BadKey, 12, it.put, "s", -1, [1]),
+            (romburik.BadCommand, 11, it.call, {"do": "lists"}),
+        ):
+            wanted = kind, kind.__name__, number
+            yield f"a refusal {number}", difference(refusal_of(call, *given), wanted)
+        bad = error_of(it.query, "q", "Select * Form s")
+        wanted = romburik.BadQuery, 9, "50 BadQuery: the text is no query from byte 9 on"
+        yield "a refusal with a place", difference((type(bad), bad.at, str(bad)), wanted)
+        later = romburik.Refused.of({"name": "Later", "refused": 99})
+        found = type(later), later.name, later.number
+        yield "a refusal of a later server", difference(found, (romburik.Refused, "Later", 99))
+        it.stream("t", {"v": "text"})
+        room = romburik.LONGEST_LINE - len(put(1, "", stream="t").rstrip(b"\n"))
+        yield "the longest line", difference(error_of(it.put, "t", 1, ["x" * room]), None)
+        for name, wanted, call, *given in (
+            ("a longer line", romburik.LineTooLong, it.put, "t", 1, ["x" * (room + 1)]),
+            ("a blank line", ValueError, it.ask, b" \t\r"),
+            ("two lines", ValueError, it.ask, b"{}\n{}"),
+            ("a number that is none", ValueError, it.put, "s", 1, [float("nan")]),
+            ("a text that is none", UnicodeEncodeError, it.put, "t", 1, ["\ud800"]),
+        ):
+            yield name, difference(type(error_of(call, *given)), wanted)
+        yield "the session behind all these", difference(len(it.list().streams), 2)
+
+
+def session_logins(program):
+    with Server(program, TENANTS, workers=1) as server:
+        port = server.port
+        for tenant, key in ("a", "kb"), ("c", "ka"), ("a", ""):
+
+            def log_in(tenant=tenant, key=key):
+                romburik.Session(port=port, tenant=tenant, key=key)
+
+            wanted = romburik.WrongKey, "WrongKey", 13
+            yield f"a login of {tenant} with {key!r}", difference(refusal_of(log_in), wanted)
+        with session(server) as it:
+            yield "what is shown of a session", difference("ka" in repr(it), False)
+    lost = error_of(lambda: romburik.Session(port=port, tenant="a", key="ka"))
+    yield "no server", difference(type(lost), romburik.ConnectionLost)
+
+
+def many_lines(program):
+    """Many are under way at once, each has its reply, and none is left for the next call."""
+    with Server(program, WIDE) as server, session(server) as it:
+        it.stream("s", {"v": "int"})
+        rows = [(at // 2, [at]) for at in range(5000)]
+        rows[10:10] = [(2, [1]), (5, ["x"])]
+        done = it.put_many("s", iter(rows))
+        found = done.accepted, [(one.index, one.at, one.row) for one in done.refused]
+        yield "rows that are put", difference(found, (5000, [(10, 2, (1,)), (11, 5, ("x",))]))
+        kinds = [type(one.refusal) for one in done.refused]
+        yield "rows that are refused", difference(kinds, [romburik.Late, romburik.WrongRow])
+        for window in 1, 7, 256:
+            times = [3000 + window, 0] * 20
+            beats = [{"do": "beat", "stream": "s", "at": at} for at in times]
+            kinds = [isinstance(it, romburik.Refused) for it in it.call_many(beats, window)]
+            yield f"{window} at once", difference(kinds, [False] + [True] * 39)
+        replies = it.ask_lines([LIST.rstrip(b"\n")] * 1000)
+        first = next(replies)
+        yield "a call among others", difference(type(error_of(it.list)), RuntimeError)
+        replies.close()
+        yield "a call behind others", difference(it.ask(LIST.rstrip(b"\n")), first)
+
+        def beats_that_break_off():
+            yield {"do": "beat", "stream": "s", "at": 9000}
+            raise KeyError("at")
+
+        error = error_of(list, it.call_many(beats_that_break_off()))
+        yield "commands that break off", difference(type(error), KeyError)
+        yield "what came before that", difference(it.list().streams[0].open, 9001)
+
+
+def long_lines(program):
+    """More than any buffer holds goes both ways at once."""
+    with Server(program, WIDE) as server, session(server) as it:
+        it.stream("s", {"v": "text"})
+        it.stream("t", {"v": "text"})
+        it.query("q", "Select Rstream(*) From s [Rows 1]")
+        it.put_many("s", ((at, [str(at) * 50_000]) for at in range(10)))
+        long_put = {"do": "put", "stream": "t", "at": 1, "row": ["y" * 60_000]}
+        outcomes = [*it.call_many([long_put, {"do": "fetch", "name": "q"}] * 30)]
+        yield "long lines", difference(outcomes[::2], [{"ok": True}] * 30)
+        blocks = [len(one["blocks"]) for one in outcomes[1::2]]
+        yield "long replies", difference(blocks, [9] * 30)
+
+
+def readme(program):
+    """The first examples of the module's page do what it says."""
+    page = (MODULE / "README.md").read_text()
+    examples = re.findall("```python\n(.*?)```", page, re.DOTALL)
+    printed = []
+    with Server(program, WIDE) as server:
+        ran = subprocess.run(
+            [sys.executable, "-"],
+            input=examples[0].replace("7000", str(server.port)),
+            env=environment(),
+            capture_output=True,
+            text=True,
+            timeout=SECONDS,
+            check=False,
+        )
+        wanted = 0, "", re.findall("# (Answer.*\n)", examples[0])
+        found = ran.returncode, ran.stderr, [ran.stdout]
+        yield "a page's first example", difference(found, wanted)
+        with session(server) as it:
+            names = {"print": lambda *said: printed.append(said), "session": it}
+            for example in examples[1:3]:
+                exec(example, {"romburik": romburik, **names})
+    yield "a page's next examples", difference(printed, [(41, "Late"), (990,)])
+
+
+class Peer:
+    """Stands for a server. It takes a connection for each list of pairs: of a line that has to
+    come, or None for none, and of its reply, or None where the connection is to break off."""
+
+    def __init__(self, *connections):
+        self.fault = None
+        self.connections = connections
+        self.listener = socket.create_server(("127.0.0.1", 0))
+        self.listener.settimeout(SECONDS)
+        self.port = self.listener.getsockname()[1]
+        self.thread = threading.Thread(target=self.serve)
+
+    def __enter__(self):
+        self.thread.start()
+        return self
+
+    def __exit__(self, *_):
+        self.thread.join()
+        self.listener.close()
+
+    def serve(self):
+        with contextlib.suppress(OSError):
+            for pairs in self.connections:
+                with self.listener.accept()[0] as near, near.makefile("rb") as lines:
+                    near.settimeout(SECONDS)
+                    self.converse(near, lines, pairs)
+
+    def converse(self, near, lines, pairs):
+        for wanted, reply in pairs:
+            if wanted is not None:
+                self.fault = self.fault or difference(lines.readline(), wanted)
+            if reply is None:
+                return
+            near.sendall(reply)
+        lines.readline()  # a line more, or the end
+
+
+LOG_IN = line_of(key="ka", tenant="a"), DONE
+
+
+def ack(to):
+    return line_of(do="ack", name="q", to=to)
+
+
+def lost_connections(_):
+    """A call tells that it lost its connection, and leaves no reply for the next."""
+    replies = b"", b'{"ok"', b"[]\n"
+    with Peer(*([LOG_IN, (LIST, reply)] for reply in replies)) as peer:
+        with session(peer, timeout=0.2) as it:
+            error = error_of(it.list)
+            wanted = romburik.ConnectionLost, "nothing came for 0.2 seconds", False
+            yield "no reply", difference((type(error), str(error), it.is_open), wanted)
+            it.connect()
+            yield "half a reply", difference(type(error_of(it.list)), romburik.ConnectionLost)
+            it.connect()
+            found = type(error_of(it.list)), it.is_open
+            yield "a reply that is none", difference(found, (romburik.BadReply, False))
+        yield "the calls of these", peer.fault
+    with Peer([LOG_IN, (None, None)]) as peer, session(peer) as it:
+        peer.thread.join()
+        found = [type(error_of(it.list)) for _ in range(2)]
+        yield "a session that is ended", difference(found, [romburik.ConnectionLost] * 2)
+    with Peer([LOG_IN, (put(1, 1), DONE), (put(2, 2), LATE), (put(3, 3), None)]) as peer:
+        with session(peer) as it:
+            lost = error_of(it.put_many, "s", [(at, [at]) for at in range(1, 9)], 2)
+            found = lost.done.accepted, [one.at for one in lost.done.refused], lost.in_doubt
+            yield "rows in doubt", difference(found, (1, [2], ((3, (3,)), (4, (4,)))))
+
+
+def followed(blocks):
+    """The first values of the blocks that are followed, and how that ends."""
+    found = []
+    error = error_of(lambda: found.extend(one.rows[0][0] for one in blocks))
+    return found, type(error)
+
+
+def lost_while_following(_):
+    """A query is followed from where it was acknowledged, also on servers that are new."""
+    listing = LIST, line_of(queries=[OWN_QUERY], readable=[], streams=[])
+    unknown, ahead = refused(57, "UnknownQuery"), refused(61, "Ahead")
+    answers = [told(at, block(at - 1, at - 1, at)) for at in range(10)]
+    connections = (
+        [LOG_IN, listing, (FETCH, answers[3]), (ack(3), None)],
+        [
+            LOG_IN,
+            *[(ack(3), reply) for reply in (unknown, ahead, DONE)],
+            (FETCH, answers[5]),
+            (ack(5), DONE),
+            (FETCH, None),
+        ],
+        [],
+        [LOG_IN, (ack(5), DONE), (FETCH, told(5)), (FETCH, answers[6]), (ack(6), None)],
+        [LOG_IN, (ack(6), DONE), (FETCH, OVERRUN)],
+    )
+    with Peer(*connections) as peer, session(peer) as it:
+        found = followed(it.follow("q", poll=0.01))
+        yield "a query that is followed", difference(found, ([3, 5, 6], romburik.Overrun))
+    yield "the calls of that", peer.fault
+    until = [line_of(do="fetch", name="q", until=at) for at in (9, 11)]
+    pairs = (ack(7), unknown), (ack(7), DONE), (until[0], answers[9]), (ack(9), DONE)
+    with Peer([LOG_IN, *pairs, (until[1], OVERRUN)]) as peer, session(peer) as it:
+        found = followed(it.follow("q", since=7, span=2, poll=0.01))
+        yield "one followed from an instant", difference(found, ([9], romburik.Overrun))
+    yield "the calls of that one", peer.fault
+    for name, reply, wanted in (
+        ("a query that isn't there", unknown, romburik.UnknownQuery),
+        ("a server that is silent", b"", romburik.ConnectionLost),
+        ("a query that begins later", refused(62, "Behind"), romburik.Behind),
+    ):
+        pairs = [LOG_IN, listing, (FETCH, None)], [LOG_IN, (ack(0), reply)]
+        with Peer(*pairs) as peer, session(peer, timeout=0.1) as it:
+            found = followed(it.follow("q", poll=0.01, patience=0.005))
+            yield f"{name}, followed", difference(found, ([], wanted))
+
+
+def rows_block(first, last, value):
+    return romburik.Rows(first, last, ((value,),))
+
+
+def whole_blocks(_):
+    """Blocks that are cut anyhow are joined to the same whole ones."""
+    run = [rows_block(2, 4, 1), rows_block(5, 9, 2), rows_block(12, 15, 2), rows_block(17, 18, 3)]
+    draw = random.Random(5)
+    for _ in range(20):
+        cuts = sorted({0, 19, *draw.sample(range(1, 19), draw.randrange(8))})
+        found, joining = [], romburik.WholeBlocks()
+        for start, end in zip(cuts, cuts[1:]):
+            there = [it for it in run if it.first < end and it.last >= start]
+            cut = tuple(
+                rows_block(max(it.first, start), min(it.last, end - 1), it.rows[0][0])
+                for it in there
+            )
+            found += joining.take(romburik.Answer(cut, end))
+            joining = romburik.WholeBlocks(joining.held)
+        yield f"blocks cut at {cuts}", difference((found, joining.held), (run[:3], run[3]))
+
+
+# ---- The terminal.
+
+
+def environment(key="ka", **more):
+    """That of a program whose key is in it, without this one's own."""
+    kept = {name: it for name, it in os.environ.items() if name not in ("CQL_KEY", "PYTHONPATH")}
+    kept.update(PYTHONPATH=str(MODULE), PYTHONDONTWRITEBYTECODE="1", ROMBURIK_HISTORY="")
+    return {**kept, **more, **({} if key is None else {"CQL_KEY": key})}
+
+
+def terminal_words(port, *words):
+    return [sys.executable, "-m", "romburik", "--port", str(port), "--tenant", "a", *words]
+
+
+def terminal(port, *words, key="ka", given=b""):
+    """Runs the terminal with these lines on its standard input, and with the key around it."""
+    ran = subprocess.run(
+        terminal_words(port, *words),
+        input=given,
+        env=environment(key),
+        capture_output=True,
+        timeout=SECONDS,
+        check=False,
+        start_new_session=True,
+    )
+    return Ended(ran.returncode, ran.stderr, ran.stdout)
+
+
+@contextlib.contextmanager
+def file_of(*lines):
+    """The path of a file of these lines."""
+    with tempfile.NamedTemporaryFile() as file:
+        file.write(b"".join(lines))
+        file.flush()
+        yield file.name
+
+
+def terminal_lines(program):
+    """Lines of a file, and lines one by one, with their replies."""
+    lines = STREAM, QUERY, put(5, 1), b"put s 4 [1]\n", b" \t\r\n", beat(8), b"fetch q\n"
+    pairs = (
+        (STREAM, DONE),
+        (QUERY, BASE),
+        (put(5, 1), DONE),
+        (b"put s 4 [1]\n", LATE + LATE_MEANS),
+        (beat(8), DONE),
+        (b"fetch q\n", told(9, block(5, 5, 1))),
+    )
+    list_told = b"> " + LIST + b"< " + LIST_OF_ONE
+    with Server(program, TENANTS) as server:
+        with file_of(*lines) as path:
+            wanted = b"".join(b"> " + line + b"< " + reply for line, reply in pairs)
+            ended = terminal(server.port, "--file", path)
+            yield "the terminal with a file", difference(ended, Ended(1, b"", wanted))
+        ended = terminal(server.port, given=LIST + b"\n" + LIST)
+        yield "the terminal with lines", difference(ended, Ended(0, b"", list_told * 2))
+        ended = terminal(server.port, given=b"lists\nput s\nlist\n")
+        wanted = (
+            b"> lists\n  there is no command lists, but "
+            b"stream, grant, put, beat, query, fetch, ack, drop, list\n"
+            b"> put s\n  the form is: put STREAM AT ROW\n> list\n< " + LIST_OF_ONE
+        )
+        yield "the terminal with no commands", difference(ended, Ended(1, b"", wanted))
+        with file_of(LIST, b"put s\n") as path:
+            ended = terminal(server.port, "--file", path)
+            wanted = f"romburik: line 2 of {path}: the form is: put STREAM AT ROW\n".encode()
+            yield "the terminal with a bad file", difference(ended, Ended(2, wanted, b""))
+
+
+def terminal_statuses(program):
+    wrong = b"romburik: the login is refused: 13 WrongKey: "
+    with Server(program, TENANTS) as server, file_of(b"ka\r\nkb\n") as keys:
+        empty = Ended(0, b"", b"")
+        ended = terminal(server.port, "--key-file", keys, key=None)
+        yield "the key of a file", difference(ended, empty)
+        ended = terminal(server.port, key=None, given=b"ka\n")
+        found = ended.status, ended.written, b"key of a: " in ended.said
+        yield "the terminal asks for the key", difference(found, (0, b"", True))
+        for key in ("kb", "k\u00e4"):
+            ended = terminal(server.port, key=key, given=LIST)
+            found = ended.status, ended.said[: len(wrong)], ended.written
+            yield f"the terminal with the key {key!a}", difference(found, (3, wrong, b""))
+        ended = terminal(server.port, key=b"k\xff", given=LIST)
+        yield "a key that is no text", difference((ended.status, ended.written), (2, b""))
+        for words in (
+            ["--file", "/nowhere/lines"],
+            ["--key-file", "/nowhere/key"],
+            ["--key", "ka"],
+            ["--follow", "q", "--file", keys],
+            ["--port", "65536"],
+            ["--timeout", "0"],
+        ):
+            key = None if "--key-file" in words else "ka"
+            ended = terminal(server.port, *words, key=key)
+            name = " ".join(["the terminal with", *words[:1]])
+            yield name, difference((ended.status, ended.written), (2, b""))
+        ended = terminal(server.port, "--follow", "q")
+        wanted = Ended(1, b"romburik: 57 UnknownQuery: there is no query of that name\n", b"")
+        yield "the terminal follows no query", difference(ended, wanted)
+    ended = terminal(server.port)
+    yield "the terminal without a server", difference((ended.status, ended.written), (4, b""))
+    with Peer([LOG_IN, (LIST, None)]) as peer:
+        ended = terminal(peer.port, given=LIST)
+    wanted = Ended(4, b"romburik: the connection broke off\n", b"")
+    yield "the terminal is broken off", difference(ended, wanted)
+
+
+TABLE_LINES = (
+    b"stream s k text v int\n",
+    b"query q Select Istream(*) From s [Range 2]\n",
+    b"query p Select * From s [Now]\n",
+    b'put s 5 ["\\u001b[1m\\u4e2d",-1]\n',
+    b'put s 10 ["abcd",12]\n',
+    b"beat s 11\n",
+    b"fetch p\n",
+    b"fetch q 10\n",
+    b"list\n",
+)
+TABLES = """\
+from  to  row
+   5   5  +    \\u001b[1m\u4e2d  -1
+   6   6  -    \\u001b[1m\u4e2d  -1
+  10  10  +    abcd         12
+  11  11  -    abcd         12
+next 12
+from  to  row
+   5   5  \\u001b[1m\u4e2d  -1
+next 10
+query  base  next  text
+q         0     0  ISTREAM(SELECT * FROM s [RANGE 2])
+p         0     0  SELECT * FROM s [NOW]
+stream  open
+s         12
+"""
+
+
+def terminal_tables(program):
+    """Blocks and lists as aligned columns, without what would steer a terminal."""
+    with Server(program, TENANTS) as server, file_of(*TABLE_LINES) as path:
+        ended = terminal(server.port, "--table", "--file", path)
+    lines = ended.written.decode().splitlines(True)
+    found = "".join(line for line in lines if line[0] not in "<>")
+    yield "tables", difference((ended.status, found), (0, TABLES))
+
+
+def lines_of(stream, count):
+    """So many lines that a program writes, as they come."""
+    found, end = b"", time.monotonic() + SECONDS
+    while found.count(b"\n") < count:
+        if not select.select([stream], [], [], max(0, end - time.monotonic()))[0]:
+            raise Stalled(f"it wrote only {found!r}")
+        read = os.read(stream.fileno(), 1 << 16)
+        if not read:
+            break
+        found += read
+    return found
+
+
+def terminal_follows(program):
+    """Blocks come as they are final, and are acknowledged behind that."""
+    with Server(program, TENANTS) as server, Caller(server, "a") as caller:
+        for line in STREAM, QUERY, put(5, 1), beat(8):
+            caller.ask(line)
+        child = subprocess.Popen(
+            terminal_words(server.port, "--follow", "q"),
+            env=environment(),
+            stdout=subprocess.PIPE,
+            stderr=subprocess.PIPE,
+        )
+        with child:
+            first = lines_of(child.stdout, 1)
+            yield "a first block", difference(first, line_of(**block(5, 5, 1)))
+            caller.send(put(9, 2), put(10, 3), beat(10))
+            more = lines_of(child.stdout, 2)
+            wanted = line_of(**block(9, 9, 2)) + line_of(**block(10, 10, 3))
+            yield "more blocks", difference(more, wanted)
+            for _ in range(3):
+                caller.replies.readline()
+            end = time.monotonic() + SECONDS
+            while json.loads(caller.ask(LIST))["queries"][0]["next"] < 11:
+                if time.monotonic() > end:
+                    raise Stalled("what was shown isn't acknowledged")
+                time.sleep(0.02)
+            child.send_signal(signal.SIGINT)
+            written, said = child.communicate(timeout=SECONDS)
+        found = Ended(child.returncode, said, written)
+        yield "an interrupt", difference(found, Ended(130, b"", b""))
+
+
+def typed(port, history, *keys):
+    """What a terminal shows where these keys are typed, each once the prompt is there, and a
+    program's status."""
+    near, far = pty.openpty()
+    child = subprocess.Popen(
+        terminal_words(port),
+        env=environment(TERM="dumb", INPUTRC="/dev/null", ROMBURIK_HISTORY=history),
+        stdin=far,
+        stdout=far,
+        stderr=far,
+        start_new_session=True,
+    )
+    os.close(far)
+    seen, end = b"", time.monotonic() + SECONDS
+    waiting = [*keys]
+    try:
+        while select.select([near], [], [], max(0, end - time.monotonic()))[0]:
+            try:
+                seen += os.read(near, 1 << 16)
+            except OSError:
+                break  # the other end is closed
+            if waiting and seen.endswith(b"a> "):
+                os.write(near, waiting.pop(0))
+        return seen, child.wait(SECONDS)
+    finally:
+        child.kill()
+        child.wait()
+        os.close(near)
+
+
+def terminal_is_typed_at(program):
+    """Words are completed, names among them; earlier lines come back, also of an earlier run."""
+    with Server(program, TENANTS) as server, tempfile.TemporaryDirectory() as folder:
+        with Caller(server, "a") as caller:
+            for line in STREAM, QUERY, beat(8):
+                caller.ask(line)
+        history = os.path.join(folder, "history")
+        seen, status = typed(server.port, history, b"li\t\n", b"put s 5 [1]\n", b"exit\n")
+        found = status, LIST_OF_ONE.rstrip() in seen, LATE.rstrip() in seen, b"  41: " in seen
+        yield "lines that are typed", difference(found, (0, True, True, True))
+        seen, status = typed(server.port, history, b"fet\tq\t\n", b"\x10\x10\x10\x10\n", b"\x04")
+        found = status, told(9).rstrip() in seen, LIST_OF_ONE.rstrip() in seen
+        yield "earlier lines", difference(found, (0, True, True))
+    with Peer([LOG_IN, (LIST, None)], [LOG_IN, (LIST, LIST_OF_ONE)]) as peer:
+        seen, status = typed(peer.port, "", b"list\n", b"list\n", b"exit\n")
+    found = status, b"broke off, and was made anew" in seen, LIST_OF_ONE.rstrip() in seen
+    yield "lines over a lost connection", difference(found, (0, True, True))
+
+
+# ---- The feeder and its consumers.
+
+SETUP = (
+    {"columns": [["k", "text"], ["v", "int"]], "do": "stream", "name": "s"},
+    {"columns": [["k", "text"], ["w", "int"]], "do": "stream", "name": "u"},
+)
+TEXTS = {
+    "came": "Select Istream(*) From s [Range 3]",
+    "counts": "Select Rstream(k, Count(*), Sum(v)) From s [Range 12] Group By k",
+    "pairs": "Select s.k, v, w From s [Rows 4], u [Partition By k Rows 1] Where s.k = u.k",
+}
+
+
+class Feed:
+    """A folder with the files of a feeder and its consumers, and their processes."""
+
+    def __init__(self, folder, texts, log):
+        self.folder = pathlib.Path(folder)
+        self.texts = texts
+        self.log = log
+        self.places = self.folder / "places"
+        self.places.mkdir()
+        queries = [{"do": "query", "name": name, "text": text} for name, text in texts.items()]
+        (self.folder / "setup").write_bytes(b"".join(line_of(**it) for it in (*SETUP, *queries)))
+        (self.folder / "log").write_bytes(b"".join(log))
+        self.children = {}
+
+    def __enter__(self):
+        return self
+
+    def __exit__(self, *_):
+        for child in self.children.values():
+            child.kill()
+            child.wait()
+
+    def start(self, name, port, *words):
+        """Starts the feeder, or the consumer of a query."""
+        script = FEED if name == "feed" else CONSUME
+        words = ["--port", str(port), "--tenant", "a", "--places", self.places, *words]
+        with open(self.folder / "errors", "ab") as errors:
+            self.children[name] = subprocess.Popen(
+                [sys.executable, script, "--poll", "0.01", *words],
+                env=environment(),
+                stderr=errors,
+            )
+
+    def feed(self, port, *words):
+        files = ["--setup", self.folder / "setup", "--log", self.folder / "log"]
+        self.start("feed", port, *files, "--ahead", "20", *words)
+
+    def consume(self, port, query, until):
+        out = ["--out", self.folder / query, "--until", str(until)]
+        self.start(query, port, "--query", query, *out)
+
+    def stop(self, name):
+        self.children[name].kill()
+        self.children[name].wait()
+
+    def printed(self):
+        """What each consumer has printed."""
+        files = {query: self.folder / query for query in self.texts}
+        return {query: it.read_bytes() if it.exists() else b"" for query, it in files.items()}
+
+    def blocks(self):
+        return sum(text.count(b"\n") for text in self.printed().values())
+
+    def has_ended(self):
+        """Whether all consumers are at their end; an end that is none is an error."""
+        statuses = [child.poll() for child in self.children.values()]
+        if any(statuses) or self.children["feed"].poll() is not None:
+            raise OSError((self.folder / "errors").read_text() or f"statuses {statuses}")
+        return statuses.count(0) == len(self.texts)
+
+
+def wait_for(condition):
+    """Looks until it holds."""
+    end = time.monotonic() + SECONDS
+    while not condition():
+        if time.monotonic() > end:
+            raise Stalled("what is waited for doesn't come")
+        time.sleep(0.002)
+
+
+def log_of(draw, rows):
+    """Lines of both streams in the order of their times, and the instant behind all of them."""
+    lines, at = [], 0
+    for number in range(rows):
+        at += draw.choice((0, 0, 1, 1, 2, 7))
+        row = draw.choice("xyz"), draw.randrange(9)
+        lines.append(put(at, *row, stream="u" if number % 5 == 0 else "s"))
+        if number % 20 == 19:
+            lines += [beat(at, stream="s"), beat(at, stream="u")]
+            at += 1
+    return [*lines, beat(at + 20, stream="s"), beat(at + 20, stream="u")], at + 21
+
+
+def blocks_of_one_run(program, texts, log):
+    """The whole blocks of each query, where the server goes on and all is fetched at once."""
+    found = {}
+    table = tenants("a", hold=65536)
+    with Server(program, table) as server, Caller(server, "a") as caller:
+        queries = [{"do": "query", "name": name, "text": text} for name, text in texts.items()]
+        for line in (*(line_of(**it) for it in (*SETUP, *queries)), *log):
+            reply = caller.ask(line)
+            if b"refused" in reply:
+                raise OSError(f"{reply!r} is the reply to {line!r}")
+        for query in texts:
+            answer = json.loads(caller.ask(line_of(do="fetch", name=query)))
+            whole = [it for it in answer["blocks"] if it["to"] + 1 < answer["next"]]
+            found[query] = b"".join(line_of(**it) for it in whole)
+    return found
+
+
+def free_port():
+    """A port below those that the system gives to connections."""
+    for port in random.Random().sample(range(20_000, 30_000), 100):
+        with contextlib.suppress(OSError), socket.create_server(("127.0.0.1", port)):
+            return port
+    raise OSError("no port is free")
+
+
+def kills(program, seed, texts, *words):
+    """The server is killed five times, here and there a consumer too, and nothing is told twice."""
+    draw = random.Random(seed)
+    log, until = log_of(draw, 240)
+    wanted = blocks_of_one_run(program, texts, log)
+    count = sum(text.count(b"\n") for text in wanted.values())
+    places = sorted(draw.sample(range(count * 3 // 4), 5))
+    port = free_port()
+    with tempfile.TemporaryDirectory() as folder, Feed(folder, texts, log) as feed:
+        feed.feed(port, *words)
+        for query in texts:
+            feed.consume(port, query, until)
+        for place in places:
+            with Server(program, tenants("a"), port=port, workers=8):
+                wait_for(lambda place=place: feed.blocks() >= place)
+                time.sleep(draw.uniform(0, 0.1))
+                feed.has_ended()
+            if draw.random() < 0.5:
+                query = draw.choice([*texts])
+                feed.stop(query)
+                feed.consume(port, query, until)
+        with Server(program, tenants("a"), port=port, workers=8):
+            wait_for(feed.has_ended)
+        printed = feed.printed()
+    yield f"{count} blocks and kills at {places}", None if count > 100 else "they are few"
+    for query in texts:
+        yield f"{query} over kills at {places}", difference(printed[query], wanted[query])
+
+
+def feeder_outlives_servers(program):
+    yield from kills(program, 1, TEXTS)
+    recent = {name: text for name, text in TEXTS.items() if name != "pairs"}
+    yield from kills(program, 2, recent, "--reach", "12")
+
+
+def feeder_waits_for_consumers(program):
+    """It acknowledges for one that is away, and goes no further than it may."""
+    log = [put(at, "x", at) for at in range(60)] + [beat(at, stream="u") for at in range(60)]
+    log.sort(key=lambda line: json.loads(line)["at"])
+    with tempfile.TemporaryDirectory() as folder, Feed(folder, TEXTS, log) as feed:
+        for query in TEXTS:
+            (feed.places / query).write_text('{"next":30}')
+        with Server(program, tenants("a")) as server, session(server) as it:
+            feed.feed(server.port)
+            wait_for(lambda: [one.next for one in it.list().queries] == [30] * 3)
+            time.sleep(SILENCE)
+            listing = it.list()
+            found = [one.next for one in listing.queries], listing.streams[0].open < 50
+        yield "consumers that are away", difference(found, ([30] * 3, True))
+
+
+def feeder_is_started_anew(program):
+    """It goes on where the server is, and ends where that isn't known."""
+    texts = {"came": TEXTS["came"]}
+    log = [put(2 * at + 2, "x", at, stream="su"[at % 2]) for at in range(60)]
+    log += [beat(200, stream=stream) for stream in "su"]
+    wanted = blocks_of_one_run(program, texts, log)
+    with tempfile.TemporaryDirectory() as folder, Feed(folder, texts, log) as feed:
+        with Server(program, tenants("a"), workers=8) as server:
+            feed.feed(server.port)
+            feed.consume(server.port, "came", 201)
+            for blocks in 3, 7, 20:
+                wait_for(lambda blocks=blocks: feed.blocks() >= blocks)
+                feed.stop("feed")
+                feed.feed(server.port)
+            wait_for(feed.has_ended)
+        yield "a feeder started anew", difference(feed.printed(), wanted)
+        with open(feed.folder / "came", "ab") as out, Server(program, tenants("a")) as server:
+            out.write(b"what its place doesn't know of")
+            out.flush()
+            feed.consume(server.port, "came", 201)
+            wait_for(feed.has_ended)
+        yield "what a consumer didn't keep", difference(feed.printed(), wanted)
+    log = [put(1, "x", 1), put(1, "x", 1), put(1, "x", 2, stream="u")]
+    with tempfile.TemporaryDirectory() as folder, Feed(folder, texts, log) as feed:
+        with Server(program, tenants("a")) as server:
+            with Caller(server, "a") as caller:
+                for line in SETUP:
+                    caller.ask(line_of(**line))
+                caller.ask(log[0])
+            feed.feed(server.port)
+            status = feed.children["feed"].wait(SECONDS)
+            said = (feed.folder / "errors").read_text()
+    wanted = 1, "feed: it isn't known which lines came in; start the server anew\n"
+    yield "a feeder in doubt", difference((status, said), wanted)
+
+
+CHECKS = (
+    session_methods,
+    session_refusals,
+    session_logins,
+    many_lines,
+    long_lines,
+    readme,
+    lost_connections,
+    lost_while_following,
+    whole_blocks,
+    terminal_lines,
+    terminal_statuses,
+    terminal_tables,
+    terminal_follows,
+    terminal_is_typed_at,
+    feeder_outlives_servers,
+    feeder_waits_for_consumers,
+    feeder_is_started_anew,
+)

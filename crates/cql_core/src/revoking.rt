@@ -1,0 +1,52 @@
+// The queries that lose a stream.
+ghost use Rattle.std.specs.Prelude.{◌≡◌, ◌≤◌, ◌<◌, length};
+ghost use Rattle.std.specs.List.{list_any};
+ghost use Rattle.cql_streams.specs.Stores.{held_at};
+ghost use Rattle.cql_streams.specs.declared.spot.Spot.{Spot as spot};
+ghost use Rattle.cql_core.specs.Sound.{uses_of, lives};
+ghost use Rattle.cql_core.specs.Revoked.{is_at_stream, AreAllStreams, Revoked};
+
+use crate::query_state::QueryState;
+use crate::spots::detach_all;
+use cql_streams::{Spot, Stores};
+use cql_tenants::{Shelf, TenantId};
+
+// Whether one of these stubs stands on the stream.
+fn any_at(spots: &[Spot], owner: TenantId, stream: usize) -> bool
+    ensures { result ≡ list_any (is_at_stream owner stream) spots.now }
+{
+    spots
+        .iter()
+        .any(|spot| spot.owner == owner && spot.stream == stream)
+}
+
+// The query at a place is revoked where a stub of it stands on the stream.
+fn revoke_at(
+    stores: &mut Stores,
+    queries: &mut Shelf<QueryState>,
+    place: usize,
+    owner: TenantId,
+    stream: usize,
+) {
+    let (_name, query) = queries.entry(place);
+    let Some(spots) = query.stubs() else {
+        return;
+    };
+    if any_at(spots, owner, stream) {
+        detach_all(stores, spots);
+        queries.close(place);
+    }
+}
+
+/// Each of these queries of which a stub stands on the stream is revoked: all its stubs are taken
+/// away. Takes no memory.
+pub fn revoke_on(
+    stores: &mut Stores,
+    queries: &mut Shelf<QueryState>,
+    owner: TenantId,
+    stream: usize,
+) {
+    for place in 0..queries.len() {
+        revoke_at(stores, queries, place, owner, stream);
+    }
+}

@@ -1,6 +1,6 @@
 use Rattle.std.proofs.Common.{◌≡◌, take}
 use Rattle.cql_places.specs.Places.{at_places}
-use Rattle.cql_places.proofs.through.columns_through.Given as goal
+use Rattle.cql_places.proofs.through.wide_columns.Given as goal
 
 -- the places of the columns so far
 abbrev pub invariant-loop-column : goal.invariant-loop-column

@@ -9,4 +9,4 @@ pub mod places;
 pub mod through;
 
 pub use places::{all_places, are_all};
-pub use through::{row_through, timed_through, window_through};
+pub use through::{row_at, timed_at, wide_window};

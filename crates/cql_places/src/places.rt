@@ -1,5 +1,5 @@
 // All places of a row.
-ghost use Rattle.std.specs.Prelude.{◌≡◌, ◌≤◌, ◌×◌, ◌↔◌, IsTrue, length};
+ghost use Rattle.std.specs.Prelude.{◌≡◌, ◌≤◌, ◌↔◌, IsTrue, length};
 ghost use Rattle.cql_places.specs.Places.{all_places};
 
 use cql_value::Schema;

@@ -40,7 +40,7 @@ fn values_at(alloc: Global, values: &[Value], places: &[usize]) -> Result<Vec<Va
 
 /// The row of the values at the places. Where these are all of the row, it is the same row with
 /// one more holder, and nothing is copied.
-pub fn row_through(alloc: Global, row: &Row, places: &[usize]) -> Result<Row, AllocError>
+pub fn row_at(alloc: Global, row: &Row, places: &[usize]) -> Result<Row, AllocError>
     ensures { IfOk result (λ r. r ≡ at_places row.now places.now) }
 {
     if are_all(places, row.len()) {
@@ -50,16 +50,16 @@ pub fn row_through(alloc: Global, row: &Row, places: &[usize]) -> Result<Row, Al
     Row::new(alloc, values)
 }
 
-/// The element with the values at the places, by `row_through`.
-pub fn timed_through(alloc: Global, timed: &Timed, places: &[usize]) -> Result<Timed, AllocError>
+/// The element with the values at the places, by `row_at`.
+pub fn timed_at(alloc: Global, timed: &Timed, places: &[usize]) -> Result<Timed, AllocError>
     ensures { IfOk result (λ t. t ≡ narrowed places.now timed.now) }
 {
-    let row = row_through(alloc, timed.row(), places)?;
+    let row = row_at(alloc, timed.row(), places)?;
     Ok(Timed::new(timed.at(), row))
 }
 
 // What stands at the columns' places.
-fn columns_through(
+fn wide_columns(
     alloc: Global,
     places: &[usize],
     columns: &[usize],
@@ -76,12 +76,12 @@ fn columns_through(
 }
 
 /// A window over the columns at the places, as one over the whole row. Only parts take memory.
-pub fn window_through(alloc: Global, window: Window, places: &[usize]) -> Result<Window, AllocError>
+pub fn wide_window(alloc: Global, places: &[usize], window: Window) -> Result<Window, AllocError>
     ensures { IfOk result (λ wide. wide ≡ wide_window places.now window) }
 {
     match window {
         Window::Parts { columns, count } => Ok(Window::Parts {
-            columns: columns_through(alloc, places, columns.as_slice())?,
+            columns: wide_columns(alloc, places, columns.as_slice())?,
             count,
         }),
         other => Ok(other),

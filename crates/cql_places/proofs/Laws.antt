@@ -1,0 +1,25 @@
+-- The laws of places.
+use Rattle.std.proofs.Common.{◌≡◌, ℕ, refl, ap}
+use Rattle.cql_value.specs.Element.{Element}
+use Rattle.cql_window.specs.declared.window.Window.{Window}
+use Rattle.cql_window.specs.declared.window.Window.TheVariants.{Range, Rows, All as all, Parts}
+use Rattle.cql_places.specs.Law.{IsAllLaw, IsChainLaw, IsWideLaw, IsTwiceLaw}
+use Rattle.cql_places.proofs.Picks.{at_all, chained, among_all}
+
+pub all_law : IsAllLaw
+all_law xs = at_all xs
+
+pub chain_law : IsChainLaw
+chain_law xs places columns h = chained xs places columns h
+
+pub wide_law : IsWideLaw
+wide_law (Range len slide) many h = refl
+wide_law (Rows count slide) many h = refl
+wide_law all many h = refl
+wide_law (Parts columns count) many h = ap (λ cs. Parts cs count) (among_all many columns h)
+
+pub twice_law : IsTwiceLaw
+twice_law places columns (Range len slide) h k = refl
+twice_law places columns (Rows count slide) h k = refl
+twice_law places columns all h k = refl
+twice_law places columns (Parts parts count) h k = sym (ap (λ cs. Parts cs count) (chained places columns parts h))

@@ -76,8 +76,8 @@ first_places from (suc few) (suc many) h = ap (λ l. from ∷ l) (first_places (
 -- ONE MORE PLACE
 take_one : {A : Type 0} (xs : List A) (i : ℕ) (x : A) → slice_get xs i ≡ Some x → take (i + 1) xs ≡ take i xs ++ x ∷ []
 take_one [] i x h = absurd cc
-take_one (y ∷ ys) zero x h = cc
-take_one (y ∷ ys) (suc i) x h = ap (λ l. y ∷ l) (take_one ys i x h)
+take_one (y ∷ ys) zero x h = grind arith
+take_one (y ∷ ys) (suc i) x h = let e : suc i + 1 ≡ suc (i + 1) = omega arith in ap (λ n. take n (y ∷ ys)) e ∙ ap (λ l. y ∷ l) (take_one ys i x h)
 
 -- the things at one more place
 pub at_more : {A : Type 0} (xs : List A) (places : List ℕ) (i : ℕ) → i < length places → at_places xs (take (i + 1) places) ≡ at_places xs (take i places) ++ cons_option (slice_get xs (get_or places i 0)) []

@@ -11,7 +11,7 @@ use crate::lookup::{Lookup, Readable};
 use crate::plan::Input;
 use crate::row::{Field, column_named, fields_of, kinds_of};
 use cql_syntax::syntax;
-use cql_places::window_through;
+use cql_places::wide_window;
 use cql_value::{ColumnType, Items, Name};
 use cql_window::{Count, Length, Window};
 use std::alloc::{AllocError, Global};
@@ -152,7 +152,7 @@ fn source_with(
     let alias = alias_of(input)?;
     let fields = fields_of(alloc, &alias, readable.schema.columns())?;
     let window = window_of(alloc, fields.as_slice(), &input.window)?;
-    let window = window_through(alloc, window, readable.places)?;
+    let window = wide_window(alloc, readable.places, window)?;
     let owner = input
         .stream
         .qualifier

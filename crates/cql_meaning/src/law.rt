@@ -3,6 +3,7 @@
 ghost use Rattle.cql_meaning.specs.Binding.{IsBindingLaw};
 ghost use Rattle.cql_meaning.specs.Headline.{IsHeadlineLaw};
 ghost use Rattle.cql_meaning.specs.Law.{IsMachineLaw, AreRefusalLaws, AreQueryLaws, IsLimitLaw};
+ghost use Rattle.cql_meaning.specs.Hidden.{IsHiddenLaw};
 ghost use Rattle.cql_meaning.specs.Order.{IsOrderLaw};
 ghost use Rattle.cql_meaning.specs.Rows.{IsHeldLaw};
 
@@ -15,7 +16,7 @@ pub fn headline_law()
 
 /// For each language: what a tenant is told is what it would be told on a server on which no other
 /// tenant has a query; the reply to its next command is what its view so far means; and each stub
-/// is what its window needs of all rows in the view.
+/// is, by the columns that the tenant sees, what its window needs of all rows in the view.
 pub fn machine_law()
     ensures { IsMachineLaw }
 {}
@@ -51,4 +52,10 @@ pub fn order_law()
 /// names, each input on the stream of its name, or the language's refusal.
 pub fn binding_law()
     ensures { IsBindingLaw }
+{}
+
+/// For each language: two runs that differ in nothing but values at places which no grant to a
+/// tenant shows tell that tenant the same.
+pub fn hidden_law()
+    ensures { IsHiddenLaw }
 {}

@@ -1,16 +1,14 @@
 -- The laws of places.
-use Rattle.std.proofs.Common.{◌≡◌, ℕ, refl, ap}
-use Rattle.cql_value.specs.Element.{Element}
-use Rattle.cql_window.specs.declared.window.Window.{Window}
+use Rattle.std.proofs.Common.{refl, ap, sym}
 use Rattle.cql_window.specs.declared.window.Window.TheVariants.{Range, Rows, All as all, Parts}
 use Rattle.cql_places.specs.Law.{IsAllLaw, IsChainLaw, IsWideLaw, IsTwiceLaw}
 use Rattle.cql_places.proofs.Picks.{at_all, chained, among_all}
 
 pub all_law : IsAllLaw
-all_law xs = at_all xs
+all_law row = at_all row
 
 pub chain_law : IsChainLaw
-chain_law xs places columns h = chained xs places columns h
+chain_law row places columns h = chained row places columns h
 
 pub wide_law : IsWideLaw
 wide_law (Range len slide) many h = refl

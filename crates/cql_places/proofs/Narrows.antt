@@ -1,15 +1,14 @@
 -- Windows through the places of chosen columns.
-use Rattle.std.proofs.Common.{◌≡◌, ℕ, zero, suc, ◌+◌, ◌-◌, ◌*◌, ◌/◌, ◌<◌, Bool, true, false, ◌&&◌, List, [], ◌∷◌, ◌++◌, map, length, take, drop, get_or, refl, ap, ◌∙◌, sym, arith}
+use Rattle.std.proofs.Common.{◌≡◌, ℕ, zero, suc, ◌+◌, ◌-◌, ◌*◌, ◌/◌, Bool, true, false, ◌&&◌, List, [], ◌∷◌, ◌++◌, map, length, take, drop, refl, ap, ◌∙◌, sym}
 use Rattle.std.specs.Prelude.{Option, Some, None, nat_lt, slice_get, if◌then◌else◌}
-use Rattle.std.specs.List.{AllByRecursion, filter, filter_map, cons_option, prefix_len, list_all}
-use Rattle.cql_value.specs.declared.value.Value.{Value}
+use Rattle.std.specs.List.{AllByRecursion, filter, cons_option}
 use Rattle.cql_value.specs.Element.{Element}
 use Rattle.cql_window.specs.declared.window.Window.{Window}
 use Rattle.cql_window.specs.declared.window.Window.TheVariants.{Range, Rows, All as all, Parts}
-use Rattle.cql_window.specs.Window.{end_of, last_n, same_value, same_part, count_part, last_of_parts, count_before, front_len, kept, content, beyond}
+use Rattle.cql_window.specs.Window.{end_of, same_value, same_part, count_part, last_of_parts, count_before, front_len, kept}
 use Rattle.cql_places.specs.Places.{at_places}
 use Rattle.cql_places.specs.Windows.{narrowed, wide_window, HasPlaces}
-use Rattle.cql_places.specs.Law.{NarrowLaw, IsNarrowLaw}
+use Rattle.cql_places.specs.Law.{IsNarrowLaw}
 use Rattle.cql_places.proofs.Picks.{picked_by, picked}
 
 -- LISTS
@@ -94,9 +93,9 @@ narrow_law places w c settled xs h =
     let n = front_len wide c xs in
     record {
       content =
-        (λ i. kept w c (map (narrowed places) settled ++ take (front_narrow places w c xs i) (map (narrowed places) xs)))
-        ∙ (λ i. kept w c (map (narrowed places) settled ++ map_take (narrowed places) n xs i))
-        ∙ ap (kept w c) (sym (map_both (narrowed places) settled (take n xs)))
-        ∙ kept_narrow places w c (settled ++ take n xs) (all_front (HasPlaces places) settled xs n h);
+          (λ i. kept w c (map (narrowed places) settled ++ take (front_narrow places w c xs i) (map (narrowed places) xs)))
+          ∙ (λ i. kept w c (map (narrowed places) settled ++ map_take (narrowed places) n xs i))
+          ∙ ap (kept w c) (sym (map_both (narrowed places) settled (take n xs)))
+          ∙ kept_narrow places w c (settled ++ take n xs) (all_front (HasPlaces places) settled xs n h);
       beyond = (λ i. drop (front_narrow places w c xs i) (map (narrowed places) xs)) ∙ map_drop (narrowed places) n xs;
     }

@@ -1,6 +1,7 @@
 -- The laws of places.
-use Rattle.std.specs.Prelude.{◌≡◌, ◌≤◌, ℕ, List, ◌++◌, length}
+use Rattle.std.specs.Prelude.{◌≡◌, ℕ, List, ◌++◌, length}
 use Rattle.std.specs.List.{AllByRecursion}
+use Rattle.cql_value.specs.declared.value.Value.{Value}
 use Rattle.cql_value.specs.Element.{Element}
 use Rattle.cql_window.specs.declared.window.Window.{Window}
 use Rattle.cql_window.specs.Window.{content, beyond}
@@ -8,12 +9,12 @@ use Rattle.cql_places.specs.Places.{at_places, all_places, AreWithin}
 use Rattle.cql_places.specs.Windows.{narrowed_all, wide_window, PartsWithin, HasPlaces}
 
 -- at all places stands all
-abbrev pub IsAllLaw : Type 1
-IsAllLaw = {A : Type 0} (xs : List A) → at_places xs (all_places (length xs)) ≡ xs
+abbrev pub IsAllLaw : Type 0
+IsAllLaw = (row : List Value) → at_places row (all_places (length row)) ≡ row
 
 -- places of what stands at places are places of the whole
-abbrev pub IsChainLaw : Type 1
-IsChainLaw = {A : Type 0} (xs : List A) (places columns : List ℕ) → AreWithin places (length xs) → at_places (at_places xs places) columns ≡ at_places xs (at_places places columns)
+abbrev pub IsChainLaw : Type 0
+IsChainLaw = (row : List Value) (places columns : List ℕ) → AreWithin places (length row) → at_places (at_places row places) columns ≡ at_places row (at_places places columns)
 
 -- over all columns a window is as it is over the whole row
 abbrev pub IsWideLaw : Type 0

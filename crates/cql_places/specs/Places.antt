@@ -1,5 +1,5 @@
 -- Places in a stream's row: a tenant sees the values at its places, in their order.
-use Rattle.std.specs.Prelude.{ℕ, ◌<◌, List, length, slice_get}
+use Rattle.std.specs.Prelude.{ℕ, ◌<◌, List, slice_get}
 use Rattle.std.specs.List.{AllByRecursion, filter_map, range_with_len}
 
 -- what stands at the places, in their order

@@ -1,6 +1,5 @@
 -- Windows through places: what a store keeps are whole rows, and what a tenant sees are the values at its places.
-use Rattle.std.specs.Prelude.{ℕ, List, ◌++◌, map, length}
-use Rattle.std.specs.List.{AllByRecursion}
+use Rattle.std.specs.Prelude.{ℕ, List, map, length}
 use Rattle.cql_value.specs.Element.{Element}
 use Rattle.cql_window.specs.declared.window.Window.{Window}
 use Rattle.cql_window.specs.declared.window.Window.TheVariants.{Range, Rows, All as all, Parts}

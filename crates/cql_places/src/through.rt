@@ -58,6 +58,16 @@ pub fn timed_at(alloc: Global, timed: &Timed, places: &[usize]) -> Result<Timed,
     Ok(Timed::new(timed.at(), row))
 }
 
+// A place, if there is one, goes behind the others.
+fn push_place(wide: &mut Items<usize>, place: Option<&usize>) -> Result<(), AllocError>
+    ensures { OnOk result (wide.new ≡ wide.old ++ cons_option (option_copied place.entry) []) }
+{
+    match place {
+        None => Ok(()),
+        Some(place) => wide.push(*place),
+    }
+}
+
 // What stands at the columns' places.
 fn wide_columns(
     alloc: Global,
@@ -68,9 +78,7 @@ fn wide_columns(
 {
     let mut wide = Items::new(alloc);
     for column in columns {
-        if let Some(place) = at(places, *column) {
-            wide.push(*place)?;
-        }
+        push_place(&mut wide, at(places, *column))?;
     }
     Ok(wide)
 }

@@ -4,4 +4,5 @@ mod Holding
 mod Quiet
 mod Steps
 mod Tallies
+mod Through
 mod Turns

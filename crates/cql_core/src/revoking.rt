@@ -1,10 +1,11 @@
 // The queries that lose a stream.
 ghost use Rattle.std.specs.Prelude.{◌≡◌, ◌≤◌, ◌<◌, length};
 ghost use Rattle.std.specs.List.{list_any};
+ghost use Rattle.cql_tenants.specs.Named.{each, change_placed};
 ghost use Rattle.cql_streams.specs.Stores.{held_at};
 ghost use Rattle.cql_streams.specs.declared.spot.Spot.{Spot as spot};
 ghost use Rattle.cql_core.specs.Sound.{uses_of, lives};
-ghost use Rattle.cql_core.specs.Revoked.{is_at_stream, AreAllStreams, Revoked};
+ghost use Rattle.cql_core.specs.Revoked.{is_at_stream, revoked_at, AreAllStreams, Freed};
 
 use crate::query_state::QueryState;
 use crate::spots::detach_all;
@@ -17,7 +18,7 @@ fn any_at(spots: &[Spot], owner: TenantId, stream: usize) -> bool
 {
     spots
         .iter()
-        .any(|spot| spot.owner == owner && spot.stream == stream)
+        .any(|spot| spot.owner.place() == owner.place() && spot.stream == stream)
 }
 
 // The query at a place is revoked where a stub of it stands on the stream.
@@ -27,11 +28,15 @@ fn revoke_at(
     place: usize,
     owner: TenantId,
     stream: usize,
-) {
+)
+    requires within { place < length queries.old }
+    requires streams { AreAllStreams stores.old queries.old }
+    requires held { (p : spot) → uses_of p queries.old ≤ lives (held_at stores.old p) }
+    ensures revoked { queries.new ≡ change_placed (revoked_at owner stream) place queries.old }
+    ensures freed { Freed stores.old stores.new queries.old queries.new }
+{
     let (_name, query) = queries.entry(place);
-    let Some(spots) = query.stubs() else {
-        return;
-    };
+    let spots = query.stubs();
     if any_at(spots, owner, stream) {
         detach_all(stores, spots);
         queries.close(place);
@@ -45,7 +50,12 @@ pub fn revoke_on(
     queries: &mut Shelf<QueryState>,
     owner: TenantId,
     stream: usize,
-) {
+)
+    requires streams { AreAllStreams stores.old queries.old }
+    requires held { (p : spot) → uses_of p queries.old ≤ lives (held_at stores.old p) }
+    ensures revoked { queries.new ≡ each (revoked_at owner stream) queries.old }
+    ensures freed { Freed stores.old stores.new queries.old queries.new }
+{
     for place in 0..queries.len() {
         revoke_at(stores, queries, place, owner, stream);
     }

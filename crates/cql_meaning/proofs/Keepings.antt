@@ -71,13 +71,18 @@ module _ (language : Language) (is : IsLanguage language) (t : ℕ) (s : State) 
         (or_held t s.homes q.places_of k.quotas.hold a.cursor a.came q.plan q.stubs full there);
   }
 
+  abbrev first_or : Named LiveSeen → List (Named LiveSeen) → Named LiveSeen
+  first_or other [] = other
+  first_or other (x ∷ xs) = x
+
   kept_along : (qs : List (Named Shade)) (asked : List (Named Asked)) → AllFull t s.homes qs → each live_seen qs ≡ each (trimmed k.quotas.hold) asked → AreKept k.quotas.hold (each live_of qs) asked
   kept_along [] [] full e = tt
   kept_along [] (a ∷ rest) full e = absurd cc
   kept_along (q ∷ qs) [] full e = absurd cc
   kept_along (q ∷ qs) (a ∷ rest) full e =
-      let name : q.name ≡ a.name = cc in
-      let item : live_seen q.item ≡ trimmed k.quotas.hold a.item = cc in
+      let first : Named LiveSeen = record { name = q.name; item = live_seen q.item } in
+      let name : q.name ≡ a.name = ap (λ (l : List (Named LiveSeen)). (first_or first l).name) e in
+      let item : live_seen q.item ≡ trimmed k.quotas.hold a.item = ap (λ (l : List (Named LiveSeen)). (first_or first l).item) e in
       let tail : each live_seen qs ≡ each (trimmed k.quotas.hold) rest = cc in
       ((name, one_kept q.item a.item item full.0), kept_along qs rest full.1 tail)
 

@@ -2,10 +2,8 @@
 use Rattle.std.proofs.Common.{◌≡◌, ℕ, Bool, true, false, List, [], ◌∷◌, map, refl, ap, subst, ◌∙◌, sym}
 use Rattle.std.specs.Prelude.{Option, Some, None, option_map, unwrap_or, nat_lt, if◌then◌else◌}
 use Rattle.cql_value.specs.Element.{Element}
-use Rattle.cql_window.specs.declared.window.Window.{Window}
 use Rattle.cql_window.specs.Window.{charge}
 use Rattle.cql_places.specs.Windows.{wide_window}
-use Rattle.cql_store.specs.Held.{Held}
 use Rattle.cql_plan.specs.declared.plan.Input.{Input}
 use Rattle.cql_tenants.specs.declared.home.Home.{Home}
 use Rattle.cql_tenants.specs.Named.{Named, each}
@@ -13,7 +11,7 @@ use Rattle.cql_meaning.specs.Source.{Source, BoundInput, BoundPlan}
 use Rattle.cql_meaning.specs.Language.{Language, IsLanguage, bare}
 use Rattle.cql_meaning.specs.Machine.{Live, State, queries_at}
 use Rattle.cql_meaning.specs.Solo.{Came, Asked, Known, rows_on}
-use Rattle.cql_meaning.specs.Trimmed.{lost, kept, held_over, narrow_held, wide_input, IsHeld, AreHeld, IsKept, AreKept}
+use Rattle.cql_meaning.specs.Trimmed.{lost, kept, held_over, narrow_held, IsHeld, AreHeld, IsKept, AreKept}
 use Rattle.cql_meaning.proofs.Shades.{ShadeStub, Shade, StubSeen, LiveSeen, stub_of, live_of, wide_at, stub_seen, live_seen, stub_over, trimmed, bare_wide}
 use Rattle.cql_meaning.proofs.Shown.{FullStub, FullStubs, AreSet, FullOr, AllFull}
 use Rattle.cql_meaning.proofs.Ties.{Tied, revoked_is}

@@ -2,10 +2,8 @@
 use Rattle.std.proofs.Common.{◌≡◌, ℕ, Bool, true, false, List, [], ◌∷◌, map, refl, ap, subst, ◌∙◌, sym}
 use Rattle.std.specs.Prelude.{Option, Some, None, option_map, unwrap_or, nat_lt, if◌then◌else◌}
 use Rattle.cql_value.specs.Element.{Element}
-use Rattle.cql_window.specs.declared.window.Window.{Window}
 use Rattle.cql_window.specs.Window.{charge}
 use Rattle.cql_places.specs.Windows.{wide_window}
-use Rattle.cql_store.specs.Held.{Held}
 use Rattle.cql_plan.specs.declared.plan.Input.{Input}
 use Rattle.cql_tenants.specs.declared.home.Home.{Home}
 use Rattle.cql_tenants.specs.Named.{Named, each}
@@ -13,7 +11,7 @@ use Rattle.cql_meaning.specs.Source.{Source, BoundInput, BoundPlan}
 use Rattle.cql_meaning.specs.Language.{Language, IsLanguage, bare}
 use Rattle.cql_meaning.specs.Machine.{Live, State, queries_at}
 use Rattle.cql_meaning.specs.Solo.{Came, Asked, Known, rows_on}
-use Rattle.cql_meaning.specs.Trimmed.{lost, kept, held_over, narrow_held, wide_input, IsHeld, AreHeld, IsKept, AreKept}
+use Rattle.cql_meaning.specs.Trimmed.{lost, kept, held_over, narrow_held, IsHeld, AreHeld, IsKept, AreKept}
 use Rattle.cql_meaning.proofs.Shades.{ShadeStub, Shade, StubSeen, LiveSeen, stub_of, live_of, wide_at, stub_seen, live_seen, stub_over, trimmed, bare_wide}
 use Rattle.cql_meaning.proofs.Shown.{FullStub, FullStubs, AreSet, FullOr, AllFull}
 use Rattle.cql_meaning.proofs.Ties.{Tied, revoked_is}
@@ -71,13 +69,18 @@ module _ (language : Language) (is : IsLanguage language) (t : ℕ) (s : State) 
         (or_held t s.homes q.places_of k.quotas.hold a.cursor a.came q.plan q.stubs full there);
   }
 
+  abbrev first_or : Named LiveSeen → List (Named LiveSeen) → Named LiveSeen
+  first_or other [] = other
+  first_or other (x ∷ xs) = x
+
   kept_along : (qs : List (Named Shade)) (asked : List (Named Asked)) → AllFull t s.homes qs → each live_seen qs ≡ each (trimmed k.quotas.hold) asked → AreKept k.quotas.hold (each live_of qs) asked
   kept_along [] [] full e = tt
   kept_along [] (a ∷ rest) full e = absurd cc
   kept_along (q ∷ qs) [] full e = absurd cc
   kept_along (q ∷ qs) (a ∷ rest) full e =
-      let name : q.name ≡ a.name = cc in
-      let item : live_seen q.item ≡ trimmed k.quotas.hold a.item = cc in
+      let first : Named LiveSeen = record { name = q.name; item = live_seen q.item } in
+      let name : q.name ≡ a.name = ap (λ (l : List (Named LiveSeen)). (first_or first l).name) e in
+      let item : live_seen q.item ≡ trimmed k.quotas.hold a.item = ap (λ (l : List (Named LiveSeen)). (first_or first l).item) e in
       let tail : each live_seen qs ≡ each (trimmed k.quotas.hold) rest = cc in
       ((name, one_kept q.item a.item item full.0), kept_along qs rest full.1 tail)
 

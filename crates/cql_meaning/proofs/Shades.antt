@@ -1,5 +1,5 @@
 -- Beside each query of the machine stands its shade: the plan as it was typed over the columns that are seen, the places of these in whole rows, and of each stub its window over them. The machine's query is what is left of it over whole rows.
-use Rattle.std.proofs.Common.{◌≡◌, ℕ, Bool, true, false, ◌||◌, List, [], ◌∷◌, ◌++◌, map, length, refl, ap, ◌∙◌, sym}
+use Rattle.std.proofs.Common.{◌≡◌, ℕ, Bool, true, false, ◌||◌, List, [], ◌∷◌, ◌++◌, map, refl, ap, ◌∙◌, sym}
 use Rattle.std.specs.Prelude.{Option, Some, None, option_map, Result, Ok, Err, is_some, if◌then◌else◌}
 use Rattle.std.specs.List.{list_any}
 use Rattle.cql_value.specs.Element.{Element}
@@ -8,11 +8,9 @@ use Rattle.cql_places.specs.Windows.{wide_window}
 use Rattle.cql_store.specs.Held.{Held, opened, fed, advanced}
 use Rattle.cql_plan.specs.declared.plan.Input.{Input}
 use Rattle.cql_plan.specs.declared.plan.Planned.{Planned}
-use Rattle.cql_plan.specs.Visible.{Visible}
-use Rattle.cql_plan.specs.Sources.{Readable}
 use Rattle.cql_plan.specs.Seen.{alone, seen_alone, widened_by, widened, widened_plan}
 use Rattle.cql_tenants.specs.declared.home.Home.{Home}
-use Rattle.cql_tenants.specs.Named.{Named, same_name, change_named, remove_named, each}
+use Rattle.cql_tenants.specs.Named.{Named, same_name, change_named, each}
 use Rattle.cql_tenants.specs.Readable.{StreamSeen}
 use Rattle.cql_meaning.specs.declared.refusal.Refusal.{Refusal}
 use Rattle.cql_meaning.specs.Source.{Source, source_of, same_source, Found, seen_alone_of, schemas, seen_at, columns_at, BoundInput, BoundPlan, owner_of, bound_input, bound}

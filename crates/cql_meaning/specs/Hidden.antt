@@ -11,7 +11,7 @@ use Rattle.cql_meaning.specs.Source.{source_of}
 use Rattle.cql_meaning.specs.Language.{Language, IsLanguage}
 use Rattle.cql_meaning.specs.Directory.{reply_to_put, directory_after, places_in}
 use Rattle.cql_meaning.specs.Machine.{opening}
-use Rattle.cql_meaning.specs.Headline.{replies_to}
+use Rattle.cql_meaning.specs.Headline.{replies_to, Made, IsLegal, sent, told_to}
 
 -- two puts at one time on one stream that are told the same, and whose rows have the same values at the places that another tenant sees
 pub record HiddenPut (tenant : ℕ) (homes : List Home) (user : ℕ) (c d : Command) : Type 0 where
@@ -37,7 +37,13 @@ AreHiddenIn tenant homes (call ∷ calls) [] = ⊥
 AreHiddenIn tenant homes (call ∷ calls) (other ∷ others) =
     ((call.0 ≡ other.0) × IsHiddenIn tenant homes call.0 call.1 other.1) × AreHiddenIn tenant (directory_after homes call.0 call.1) calls others
 
--- the tenant is told the same
+-- two runs that the tenant can't tell apart give it the same replies, and two histories the same of what they were told
+pub record HiddenLaw (language : Language) : Type 0 where
+  pub runs : (table : List Tenant) (tenant : ℕ) (calls others : List (ℕ × Command))
+      → AreHiddenIn tenant (nothing_made table) calls others → replies_to language tenant (opening table) calls ≡ replies_to language tenant (opening table) others
+  pub histories : (table : List Tenant) (tenant : ℕ) (history other : List Made) → IsLegal language (opening table) history → IsLegal language (opening table) other
+      → AreHiddenIn tenant (nothing_made table) (sent history) (sent other) → told_to tenant history ≡ told_to tenant other
+
+-- so it is for each language
 abbrev pub IsHiddenLaw : Type 0
-IsHiddenLaw = (language : Language) → IsLanguage language → (table : List Tenant) (tenant : ℕ) (calls others : List (ℕ × Command))
-    → AreHiddenIn tenant (nothing_made table) calls others → replies_to language tenant (opening table) calls ≡ replies_to language tenant (opening table) others
+IsHiddenLaw = (language : Language) → IsLanguage language → HiddenLaw language

@@ -54,8 +54,8 @@ pub fn binding_law()
     ensures { IsBindingLaw }
 {}
 
-/// For each language: two runs that differ in nothing but values at places which no grant to a
-/// tenant shows tell that tenant the same.
+/// For each language: two runs, or two histories with replies, that differ in nothing but values at
+/// places which no grant to a tenant shows tell that tenant the same.
 pub fn hidden_law()
     ensures { IsHiddenLaw }
 {}

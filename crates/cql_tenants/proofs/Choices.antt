@@ -1,14 +1,12 @@
 -- The columns that a grant shows.
-use Rattle.std.proofs.Common.{◌≡◌, ℕ, zero, suc, ◌+◌, ◌<◌, ◌≤◌, Bool, true, false, ◌&&◌, ◌||◌, not, List, [], ◌∷◌, ◌++◌, map, length, get_or, take, refl, ap, subst, ◌∙◌, sym, arith, append_assoc}
-use Rattle.std.specs.Prelude.{Option, None, Some, IfSome, option_map, unwrap_or, slice_get, is_some, nat_le, if◌then◌else◌}
-use Rattle.std.specs.List.{AllByRecursion, list_all, list_any, position, filter_map, cons_option, range_with_len}
+use Rattle.std.proofs.Common.{◌≡◌, ℕ, suc, ◌<◌, Bool, true, false, ◌&&◌, ◌||◌, not, List, [], ◌∷◌, map, length, refl, ap, subst, ◌∙◌, sym, arith}
+use Rattle.std.specs.Prelude.{Option, None, Some, option_map, unwrap_or, slice_get, is_some, nat_le}
+use Rattle.std.specs.List.{AllByRecursion, list_all, list_any, cons_option}
 use Rattle.std.specs.Str.{bytes_eq}
-use Rattle.std.proofs.lemmas.Bool.Decides.{nat_tests}
-use Rattle.std.proofs.lemmas.List.Elements.{filter_map-append}
 use Rattle.std.proofs.lemmas.Slice.Eq.{bytes_eq-Decides}
 use Rattle.cql_value.specs.declared.schema.Column.{Column}
 use Rattle.cql_value.specs.Schema.{are_distinct, is_schema}
-use Rattle.cql_places.specs.Places.{at_places, all_places}
+use Rattle.cql_places.specs.Places.{at_places}
 use Rattle.cql_tenants.specs.Chosen.{column_place, are_unlike, is_choice, is_shown, shown_places}
 use Rattle.cql_places.proofs.Picks.{at_all, all_within}
 use Rattle.cql_places.proofs.Sizes.{both}

@@ -1,6 +1,6 @@
 -- Each grant is of a stream that is there.
 use Rattle.std.proofs.Common.{◌≡◌, ◌<◌, ℕ, zero, suc, Bool, true, false, ◌&&◌, not, eqb, List, [], ◌∷◌, length, set, refl, ap, subst, ◌∙◌, sym, arith}
-use Rattle.std.specs.Prelude.{Option, Some, None, option_map, is_some, is_none, Result, Ok, Err, IfOk, OnOk, OnErr, unwrap_or, if◌then◌else◌}
+use Rattle.std.specs.Prelude.{Option, Some, None, option_map, is_some, is_none, Result, Ok, Err, OnOk, OnErr, unwrap_or, if◌then◌else◌}
 use Rattle.std.specs.Option.{option_or}
 use Rattle.std.specs.List.{AllByRecursion, find, filter}
 use Rattle.std.proofs.lemmas.Bool.Decides.{nat_tests}
@@ -8,7 +8,7 @@ use Rattle.std.proofs.lemmas.List.Folds.{find-append}
 use Rattle.cql_value.specs.declared.schema.Column.{Column}
 use Rattle.cql_tenants.specs.declared.tenants.Tenant.{Tenant}
 use Rattle.cql_tenants.specs.declared.refusal.StreamRefusal.{StreamRefusal}
-use Rattle.cql_tenants.specs.declared.refusal.StreamRefusal.TheVariants.{UnknownStream, UnknownTenant, SelfGrant, AlreadyGranted, BadGrantColumns}
+use Rattle.cql_tenants.specs.declared.refusal.StreamRefusal.TheVariants.{UnknownTenant, SelfGrant, AlreadyGranted, BadGrantColumns}
 use Rattle.cql_tenants.specs.Named.{Named, same_name, find_named, change_named}
 use Rattle.cql_places.specs.Places.{at_places}
 use Rattle.cql_tenants.specs.Chosen.{is_shown}

@@ -4,7 +4,7 @@ ghost use Rattle.std.specs.Result.{result_err};
 ghost use Rattle.cql_order.specs.Clock.{time_fault};
 ghost use Rattle.cql_tenants.specs.Named.{place_of};
 ghost use Rattle.cql_tenants.specs.Home.{nothing_made, is_place, home_at, change_home, tenant_named, stream_at, grant_of};
-ghost use Rattle.cql_places.specs.Places.{at_places};
+ghost use Rattle.cql_places.specs.Places.{at_places, AreWithin};
 ghost use Rattle.cql_tenants.specs.Chosen.{is_shown};
 ghost use Rattle.cql_tenants.specs.Checks.{grantee_refused, taken_refused};
 ghost use Rattle.cql_tenants.specs.Directory.{Make, Share, Revoke, Put, Beat, with_time, refused, directory_after};
@@ -365,6 +365,7 @@ impl Directory {
         ensures seen { option_map seen_of result ≡ own_found self.now tenant stream.now }
         ensures place { IfSome result (λ f. place_of (home_at self.now f.owner).streams stream.now ≡ Some f.place) }
         ensures schema { IfSome result (λ f. option_map (λ s. at_places s.schema f.places.now) (stream_at self.now f.owner stream.now) ≡ Some f.schema.now) }
+        ensures within { IfSome result (λ f. IfSome (stream_at self.now f.owner stream.now) (λ s. AreWithin f.places.now (length s.schema))) }
         ensures places { IfSome result (λ f. f.places.now ≡ places_seen self.now tenant f.owner stream.now) }
     {
         let streams = &home_at(&self.homes, tenant.place()).streams;
@@ -385,6 +386,7 @@ impl Directory {
         ensures seen { option_map seen_of result ≡ granted_found self.now tenant owner stream.now }
         ensures place { IfSome result (λ f. place_of (home_at self.now f.owner).streams stream.now ≡ Some f.place) }
         ensures schema { IfSome result (λ f. option_map (λ s. at_places s.schema f.places.now) (stream_at self.now f.owner stream.now) ≡ Some f.schema.now) }
+        ensures within { IfSome result (λ f. IfSome (stream_at self.now f.owner stream.now) (λ s. AreWithin f.places.now (length s.schema))) }
         ensures places { IfSome result (λ f. f.places.now ≡ granted_places (grant_of (home_at self.now tenant) owner stream.now)) }
         ensures owner { IfSome result (λ f. f.owner ≡ owner) }
     {
@@ -408,6 +410,7 @@ impl Directory {
         ensures seen { option_map seen_of result ≡ found self.now tenant (option_copied owner.entry) stream.now }
         ensures place { IfSome result (λ f. place_of (home_at self.now f.owner).streams stream.now ≡ Some f.place) }
         ensures schema { IfSome result (λ f. option_map (λ s. at_places s.schema f.places.now) (stream_at self.now f.owner stream.now) ≡ Some f.schema.now) }
+        ensures within { IfSome result (λ f. IfSome (stream_at self.now f.owner stream.now) (λ s. AreWithin f.places.now (length s.schema))) }
         ensures places { IfSome result (λ f. f.places.now ≡ places_seen self.now tenant f.owner stream.now) }
     {
         if !self.has(tenant) {

@@ -1,6 +1,6 @@
-use Rattle.std.proofs.Common.{◌≡◌, ℕ, ap, sym, ◌∙◌}
-use Rattle.std.specs.Prelude.{None, Some, option_map}
-use Rattle.cql_places.specs.Places.{at_places}
+use Rattle.std.proofs.Common.{◌≡◌, ℕ, length, ap, sym, subst, ◌∙◌}
+use Rattle.std.specs.Prelude.{None, Some, IfSome, option_map}
+use Rattle.cql_places.specs.Places.{at_places, AreWithin}
 use Rattle.cql_tenants.specs.Home.{home_at, stream_at, opened_at, grant_of}
 use Rattle.cql_tenants.specs.Readable.{StreamSeen}
 use Rattle.cql_tenants.proofs.Places.{no_place, clock_at}
@@ -44,3 +44,11 @@ returns-clause-owner c =
     let home : home_at homes c.args.tenant ≡ c.home_at-home.result.now = cc in
     let there : Given homes c.args.owner name g = given_at _ homes c.self.invariant c.self.view_is c.args.tenant c.args.owner name c.home_at-home.result.now g home c.in_ok-grant.ensures in
     there.owner_is
+
+pub returns-clause-within : goal.returns-clause-within
+returns-clause-within c =
+    let homes = c.args.self.now in
+    let name = c.args.stream.now in
+    let g = c.in_ok-grant.grant.now in
+    let there : Given homes c.args.owner name g = given_at _ homes c.self.invariant c.self.view_is c.args.tenant c.args.owner name c.home_at-home.result.now g (cc) c.in_ok-grant.ensures in
+    subst (λ o. IfSome o (λ s. AreWithin c.as_slice.result.now (length s.schema))) (sym there.found) (subst (λ l. AreWithin l (length there.stream.schema)) (sym c.as_slice.ensures) there.shows.within)

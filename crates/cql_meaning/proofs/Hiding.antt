@@ -13,8 +13,11 @@ use Rattle.cql_meaning.specs.Source.{source_of}
 use Rattle.cql_meaning.specs.Told.{told_of, is_accepted}
 use Rattle.cql_meaning.specs.Directory.{reply_to_put, directory_after}
 use Rattle.cql_meaning.specs.View.{Own, Comes, is_granted, seen_of_other, seen, view}
+use Rattle.cql_meaning.specs.Solo.{nothing_known, solo}
+use Rattle.cql_meaning.specs.Headline.{sent}
 use Rattle.cql_meaning.specs.Hidden.{HiddenPut, IsHiddenIn, AreHiddenIn, IsHiddenLaw}
 use Rattle.cql_meaning.proofs.Replies.{isolation_law}
+use Rattle.cql_meaning.proofs.Histories.{history_law}
 
 accepted_none : (o : Option StreamRefusal) → is_accepted (told_of o) ≡ is_none o
 accepted_none None = refl
@@ -55,4 +58,8 @@ hidden_view t d (call ∷ calls) (other ∷ others) h =
     ∙ (λ i. seen t d (h.0.0 i) other.1 ++ view t (directory_after d (h.0.0 i) other.1) others)
 
 pub hidden_law : IsHiddenLaw
-hidden_law language is table t calls others h = isolation_law language is table t calls others (hidden_view t (nothing_made table) calls others h)
+hidden_law language is = record {
+  runs = λ table t calls others h. isolation_law language is table t calls others (hidden_view t (nothing_made table) calls others h);
+  histories = λ table t history other legal fits h.
+      history_law language is table history legal t ∙ ap (solo language t (nothing_known table t)) (hidden_view t (nothing_made table) (sent history) (sent other) h) ∙ sym (history_law language is table other fits t);
+}

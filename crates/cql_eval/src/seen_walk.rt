@@ -1,5 +1,5 @@
 // Walks over windows of whole rows, seen through places.
-ghost use Rattle.std.specs.Prelude.{◌≡◌, ◌≤◌, IfOk};
+ghost use Rattle.std.specs.Prelude.{◌≡◌, ◌≤◌, IfOk, IsTrue};
 ghost use Rattle.std.specs.List.Sorted.{IsPermutation};
 ghost use Rattle.cql_places.specs.Windows.{narrowed_all};
 ghost use Rattle.cql_window.specs.Walk.{IsExchange, IsSegment};
@@ -32,19 +32,38 @@ impl<'a> Model for SeenWalk<'a> {
     ghost view = { λ w. record { pin = record { window = w.walk.pin; places = w.places.now }; cursor = w.walk.cursor; held = narrowed_all w.places.now w.walk.held } };
 }
 
+// Whether the places are all of each row.
+fn are_whole(places: &[usize], rows: &[Timed]) -> bool
+    ensures { IsTrue result → narrowed_all places.now rows.now ≡ rows.now }
+{
+    for row in rows {
+        if !are_all(places, row.row().len()) {
+            return false;
+        }
+    }
+    true
+}
+
+// The rows with the values at the places.
+fn narrowed(alloc: Global, places: &[usize], rows: &[Timed]) -> Result<Vec<Timed>, AllocError>
+    ensures { IfOk result (λ r. r.items ≡ narrowed_all places.now rows.now) }
+{
+    let mut seen = Vec::with_capacity(alloc, rows.len())?;
+    for row in rows {
+        seen.push(timed_at(alloc, row, places)?)?;
+    }
+    Ok(seen)
+}
+
 // The rows with the values at the places. Where these are all of each row, they are the rows
 // themselves, and nothing is copied.
 fn through(alloc: Global, places: &[usize], rows: Vec<Timed>) -> Result<Vec<Timed>, AllocError>
     ensures { IfOk result (λ r. r.items ≡ narrowed_all places.now rows.items) }
 {
-    if rows.iter().all(|row| are_all(places, row.row().len())) {
+    if are_whole(places, &rows) {
         return Ok(rows);
     }
-    let mut seen = Vec::with_capacity(alloc, rows.len())?;
-    for row in &rows {
-        seen.push(timed_at(alloc, row, places)?)?;
-    }
-    Ok(seen)
+    narrowed(alloc, places, &rows)
 }
 
 impl<'a> SeenWalk<'a> {

@@ -28,8 +28,10 @@ use std::alloc::{AllocError, Global};
 fn new_walks<'a>(alloc: Global, pin: &'a Pin) -> Result<Vec<SeenWalk<'a>>, AllocError>
     ensures { IfOk result (λ v. v.items ≡ map fresh (windows_seen pin.now)) }
 {
+    let inputs = pin.plan().inputs();
+    let windows = pin.windows();
     let mut walks = Vec::new(alloc);
-    for (input, window) in pin.plan().inputs().iter().zip(pin.windows()) {
+    for (input, window) in inputs.iter().zip(windows) {
         walks.push(SeenWalk::new(alloc, window, input.places.as_slice()))?;
     }
     Ok(walks)

@@ -50,6 +50,10 @@ each_changed {A} {B} check other f same (x ∷ xs) =
 
 -- ---- inputs
 
+-- an input of a block, over what is seen of its stream
+abbrev made_of : WrittenInput → Visible → Input → Source
+made_of input seen kept = record { input = kept; alias = alias_of input; fields = fields_of (alias_of input) seen.schema }
+
 module _ (readable : Readable) where
   -- an input of a block, with its window over the whole rows
   abbrev source_widened : Source → Source
@@ -63,16 +67,13 @@ module _ (readable : Readable) where
   one_input input None same = refl
   one_input input (Some seen) same = by (window_of (fields_of (alias_of input) seen.schema) input.window) refl
     where
-      abbrev made : Input → Source
-      made i = record { input = i; alias = alias_of input; fields = fields_of (alias_of input) seen.schema }
-
       by : (o : Outcome Window) → window_of (fields_of (alias_of input) seen.schema) input.window ≡ o
-          → (o >>= (λ w. Ok (made (input_of input seen.places w)))) ≡ changed source_widened (o >>= (λ w. Ok (made (input_of input (all_places (length seen.schema)) w))))
+          → (o >>= (λ w. Ok (made_of input seen (input_of input seen.places w)))) ≡ changed source_widened (o >>= (λ w. Ok (made_of input seen (input_of input (all_places (length seen.schema)) w))))
       by (Err e) is = refl
       by (Ok w) is =
           let once : wide_window (all_places (length seen.schema)) w ≡ w = wide_law w (length seen.schema) (parts_within (alias_of input) seen.schema input.window w is) in
-          (λ i. Ok (made (input_of input seen.places (sym once i))))
-          ∙ (λ i. Ok (made (widened_by (sym same i) (input_of input (all_places (length seen.schema)) w))))
+          (λ i. Ok (made_of input seen (input_of input seen.places (sym once i))))
+          ∙ (λ i. Ok (made_of input seen (widened_by (sym same i) (input_of input (all_places (length seen.schema)) w))))
 
   one_source : (input : WrittenInput) → source_of readable input ≡ changed source_widened (source_of (seen_alone readable) input)
   unfolding source_of

@@ -1,10 +1,10 @@
 // The queries that lose a stream.
-ghost use Rattle.std.specs.Prelude.{◌≡◌, ◌≤◌, ◌<◌, length};
+ghost use Rattle.std.specs.Prelude.{◌≡◌, ◌≤◌, ◌<◌, length, set};
 ghost use Rattle.std.specs.List.{list_any};
 ghost use Rattle.cql_tenants.specs.Named.{each, change_placed};
 ghost use Rattle.cql_streams.specs.Stores.{held_at};
 ghost use Rattle.cql_streams.specs.declared.spot.Spot.{Spot as spot};
-ghost use Rattle.cql_core.specs.Sound.{uses_of, lives};
+ghost use Rattle.cql_core.specs.Sound.{uses_of, lives, shelf_at};
 ghost use Rattle.cql_core.specs.Revoked.{is_at_stream, revoked_at, AreAllStreams, Freed};
 
 use crate::query_state::QueryState;
@@ -43,9 +43,8 @@ fn revoke_at(
     }
 }
 
-/// Each of these queries of which a stub stands on the stream is revoked: all its stubs are taken
-/// away. Takes no memory.
-pub fn revoke_on(
+// Each of these queries of which a stub stands on the stream is revoked.
+fn revoke_shelf(
     stores: &mut Stores,
     queries: &mut Shelf<QueryState>,
     owner: TenantId,
@@ -59,4 +58,22 @@ pub fn revoke_on(
     for place in 0..queries.len() {
         revoke_at(stores, queries, place, owner, stream);
     }
+}
+
+/// Each query of the tenant at a place of which a stub stands on the stream is revoked: all its
+/// stubs are taken away. Takes no memory.
+pub fn revoke_on(
+    stores: &mut Stores,
+    queries: &mut Vec<Shelf<QueryState>>,
+    reader: usize,
+    owner: TenantId,
+    stream: usize,
+)
+    requires there { reader < length queries.old.items }
+    requires streams { AreAllStreams stores.old (shelf_at queries.old.items reader) }
+    requires held { (p : spot) → uses_of p (shelf_at queries.old.items reader) ≤ lives (held_at stores.old p) }
+    ensures revoked { queries.new.items ≡ set queries.old.items reader (each (revoked_at owner stream) (shelf_at queries.old.items reader)) }
+    ensures freed { Freed stores.old stores.new (shelf_at queries.old.items reader) (each (revoked_at owner stream) (shelf_at queries.old.items reader)) }
+{
+    revoke_shelf(stores, &mut queries[reader], owner, stream);
 }

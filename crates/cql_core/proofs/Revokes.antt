@@ -1,6 +1,6 @@
 -- A grant is taken back: the queries on the stream of the tenant that loses it are closed, and all else is seen as it was.
 use Rattle.std.proofs.Common.{◌≡◌, ℕ, ◌+◌, ◌≤◌, ◌<◌, Bool, true, false, ◌&&◌, ◌||◌, eqb, List, [], ◌∷◌, length, set, refl, ap, subst, sym, ◌∙◌, arith, length-set}
-use Rattle.std.specs.Prelude.{Option, Some, None, is_none, if◌then◌else◌}
+use Rattle.std.specs.Prelude.{Option, Some, None, is_some, if◌then◌else◌}
 use Rattle.std.specs.List.{list_any}
 use Rattle.cql_value.specs.declared.schema.ColumnType.{ColumnType}
 use Rattle.cql_store.specs.Held.{Held}
@@ -9,8 +9,8 @@ use Rattle.cql_plan.specs.Ports.{ports}
 use Rattle.cql_tenants.specs.declared.home.Home.{Home}
 use Rattle.cql_tenants.specs.declared.refusal.StreamRefusal.{StreamRefusal}
 use Rattle.cql_tenants.specs.Named.{Named, same_name, place_of, each}
-use Rattle.cql_tenants.specs.Home.{is_place, home_at, tenant_named}
-use Rattle.cql_tenants.specs.Directory.{Revoke as revoke, done, refused_at, refused, directory_after}
+use Rattle.cql_tenants.specs.Home.{is_place, home_at, tenant_named, stream_at}
+use Rattle.cql_tenants.specs.Directory.{Revoke as revoke, refused_at, refused, directory_after}
 use Rattle.cql_streams.specs.declared.spot.Spot.{Spot}
 use Rattle.cql_streams.specs.Stores.{AllStores, store_at, held_at, spot_of}
 use Rattle.cql_meaning.specs.declared.command.Command.TheVariants.{Revoke}
@@ -31,6 +31,7 @@ use Rattle.cql_core.proofs.Detached.{lives_one}
 use Rattle.cql_core.proofs.Stocks.{stocked_less}
 use Rattle.cql_core.proofs.Puts.{key_by}
 use Rattle.cql_core.proofs.Grants.{revoke_keeps}
+use Rattle.cql_tenants.proofs.Places.{place_found}
 
 -- ---- what a revoke may look at
 
@@ -45,6 +46,22 @@ module _ (homes : List Home) (stores : AllStores) (queries : List (List (Named Q
 
   pub shelf_held : (p : Spot) → uses_of p (shelf_at queries reader) ≤ lives (held_at stores p)
   shelf_held p = let a = uses_there p queries reader in let b = sound.counted p in omega (arith, a, b)
+
+-- a revoke that isn't refused is of a stream that is there
+either : (b : Bool) (o : Option StreamRefusal) (r : StreamRefusal) → b ≡ true → (if b then o else Some r) ≡ None → o ≡ None
+either true o r e h = h
+either false o r e h = absurd cc
+
+none_left : (b : Bool) (o : Option StreamRefusal) (r : StreamRefusal) → b ≡ false → (if b then o else Some r) ≡ None → ⊥
+none_left true o r e h = absurd cc
+none_left false o r e h = absurd cc
+
+module _ (homes : List Home) (owner : ℕ) (stream to : List ℕ) (here : is_place homes owner ≡ true) (told : refused homes owner (revoke stream to) ≡ None) where
+  accepted : refused_at homes owner (revoke stream to) ≡ None
+  accepted = either (is_place homes owner) (refused_at homes owner (revoke stream to)) _ here told
+
+  pub is_there : place_of (home_at homes owner).streams stream ≡ None → ⊥
+  is_there lost = none_left (is_some (stream_at homes owner stream)) _ _ (place_found (home_at homes owner).streams stream ∙ ap is_some lost) accepted
 
 -- ---- what is seen of a query that loses a stream
 
@@ -170,11 +187,7 @@ module _ (homes : List Home) (stores : AllStores) (queries : List (List (Named Q
     revoke_sound = subst (IsSound homes' stores') (sym queries_is) (revoke_keeps homes stores' left closed_sound owner stream to homes' after)
 
     free : refused_at homes owner (revoke stream to) ≡ None
-    free = by (is_place homes owner) here told
-      where
-        by : (b : Bool) {r : StreamRefusal} → b ≡ true → (if b then refused_at homes owner (revoke stream to) else Some r) ≡ None → refused_at homes owner (revoke stream to) ≡ None
-        by true e h = h
-        by false e h = absurd cc
+    free = accepted homes owner stream to here told
 
     pub revoke_state : (s : State) → record { homes = homes; queries = seen_all (held_at stores) queries } ≡ s
         → (Says Done ≡ step_at cql s owner (Revoke stream to)) × (record { homes = homes'; queries = seen_all (held_at stores') queries' } ≡ state_after cql s owner (Revoke stream to))

@@ -8,7 +8,7 @@ use Rattle.cql_tenants.specs.Named.{find_named}
 use Rattle.cql_tenants.specs.Home.{is_place, home_at}
 use Rattle.cql_value.specs.Name.{is_name}
 use Rattle.cql_meaning.specs.declared.command.Command.{Command}
-use Rattle.cql_meaning.specs.declared.command.Command.TheVariants.{Stream, Grant, Put, Beat, Query, Fetch, Ack, Drop, List as Lists}
+use Rattle.cql_meaning.specs.declared.command.Command.TheVariants.{Stream, Grant, Revoke, Put, Beat, Query, Fetch, Ack, Drop, List as Lists}
 use Rattle.cql_meaning.specs.declared.listing.Listing.{Listing}
 use Rattle.cql_meaning.specs.declared.refusal.Refusal.{Refusal}
 use Rattle.cql_meaning.specs.declared.refusal.Refusal.TheVariants.{UnknownTenant}
@@ -99,7 +99,8 @@ same false s = refl
 -- a command that is told a list changes nothing
 pub told_listed : (language : Language) (s : State) (tenant : ℕ) (command : Command) (listing : Listing) → reply_to language s tenant command ≡ Listed listing → state_after language s tenant command ≡ s
 told_listed language s tenant (Stream name columns) listing e = other language s _ _ listing (placed language (is_place s.homes tenant) _ (stream_told _)) e
-told_listed language s tenant (Grant stream to) listing e = other language s _ _ listing (placed language (is_place s.homes tenant) _ (stream_told _)) e
+told_listed language s tenant (Grant stream to columns) listing e = other language s _ _ listing (placed language (is_place s.homes tenant) _ (stream_told _)) e
+told_listed language s tenant (Revoke stream to) listing e = other language s _ _ listing (placed language (is_place s.homes tenant) _ (stream_told _)) e
 told_listed language s tenant (Put stream at row) listing e = other language s _ _ listing (placed language (is_place s.homes tenant) _ (stream_told _)) e
 told_listed language s tenant (Beat stream at) listing e = other language s _ _ listing (placed language (is_place s.homes tenant) _ (stream_told _)) e
 told_listed language s tenant (Query name text) listing e = other language s _ _ listing (placed language (is_place s.homes tenant) _ (reply_to_query_told language s tenant name text)) e

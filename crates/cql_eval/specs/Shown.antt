@@ -5,8 +5,7 @@ use Rattle.cql_value.specs.declared.schema.ColumnType.{ColumnType}
 use Rattle.cql_value.specs.declared.value.Value.{Value}
 use Rattle.cql_value.specs.Element.{Element}
 use Rattle.cql_window.specs.Pin.{Pinned}
-use Rattle.cql_window.specs.Walk.{Walked}
-use Rattle.cql_window.specs.Window.{content, HasSameContent}
+use Rattle.cql_window.specs.Window.{HasSameContent}
 use Rattle.cql_bag.specs.Bag.{Counts, IsBag, bag_of, less_one}
 use Rattle.cql_bag.specs.Changes.{changed_by, CanChangeBy, change_of}
 use Rattle.cql_bag.specs.declared.change.Change.{Change}
@@ -22,6 +21,7 @@ use Rattle.cql_out.specs.declared.relation.Relation.TheVariants.{Bag, Fault}
 use Rattle.cql_out.specs.declared.told.Output.{Output}
 use Rattle.cql_out.specs.ByKind.{output_of}
 use Rattle.cql_eval.specs.Pin.{PinSeen, AreOf}
+use Rattle.cql_eval.specs.Seen.{SeenWindow, SeenWalked, rows_seen, content_seen, windows_seen}
 use Rattle.cql_algebra.specs.Ports.{port_of}
 use Rattle.cql_eval.specs.declared.tally.Tally.{Tally}
 use Rattle.cql_eval.specs.Relation.{relation_at}
@@ -54,38 +54,34 @@ changes_of plus xs = map (λ x. change_of plus x.row) xs
 
 -- ---- walks over the windows of a pin
 
--- a walk over a window, no further than the cursor; all rows have these columns
-pub record IsWalk (c : ℕ) (columns : List ColumnType) (w : Pinned) (k : Walked) : Type 0 where
-  pub pin : k.pin ≡ w
+-- a walk over a window, no further than the cursor; all rows that are seen have these columns
+pub record IsWalk (c : ℕ) (columns : List ColumnType) (v : SeenWindow) (k : SeenWalked) : Type 0 where
+  pub pin : k.pin ≡ v
   pub cursor : k.cursor ≤ c
-  pub rows : AreOf columns (w.content ++ w.unseen)
+  pub rows : AreOf columns (rows_seen v)
   pub held : AreOf columns k.held
 
 -- a walk for each window
-abbrev pub AreWalks : ℕ → List (List ColumnType) → List Pinned → List Walked → Type 0
+abbrev pub AreWalks : ℕ → List (List ColumnType) → List SeenWindow → List SeenWalked → Type 0
 AreWalks c [] [] [] = Unit {0}
 AreWalks c [] [] (k ∷ ks) = ⊥
-AreWalks c [] (w ∷ ws) ks = ⊥
+AreWalks c [] (v ∷ vs) ks = ⊥
 AreWalks c (t ∷ ts) [] ks = ⊥
-AreWalks c (t ∷ ts) (w ∷ ws) [] = ⊥
-AreWalks c (t ∷ ts) (w ∷ ws) (k ∷ ks) = IsWalk c t w k × AreWalks c ts ws ks
+AreWalks c (t ∷ ts) (v ∷ vs) [] = ⊥
+AreWalks c (t ∷ ts) (v ∷ vs) (k ∷ ks) = IsWalk c t v k × AreWalks c ts vs ks
 
 -- what it holds is the window's content at the cursor
-abbrev pub HasReached : ℕ → Walked → Type 0
-HasReached c k = k.held ≡ content k.pin.window c k.pin.content k.pin.unseen
-
--- before the first row
-abbrev pub fresh : Pinned → Walked
-fresh w = record { pin = w; cursor = 0; held = [] }
+abbrev pub HasReached : ℕ → SeenWalked → Type 0
+HasReached c k = k.held ≡ content_seen c k.pin
 
 -- the bags of what walks hold
-abbrev pub bags_held : List Walked → List Counts
+abbrev pub bags_held : List SeenWalked → List Counts
 bags_held ks = map (λ k. bag_of (rows_of k.held)) ks
 
 -- the bench runs the plan over what the walks hold
-pub record IsReady (p : PinSeen) (c : ℕ) (ks : List Walked) (o : BenchSeen) : Type 0 where
+pub record IsReady (p : PinSeen) (c : ℕ) (ks : List SeenWalked) (o : BenchSeen) : Type 0 where
   pub runs : RunsPlan p.plan p.limit o
-  pub walks : AreWalks c (ports p.plan) p.windows ks
+  pub walks : AreWalks c (ports p.plan) (windows_seen p) ks
   pub contents : contents_of p.plan o ≡ bags_held ks
 
 -- the rows of its first input are counted, where any are
@@ -122,7 +118,7 @@ Tells kind None before now = now ≡ before
 Tells kind (Some told) before now = told ≡ output_of kind before now
 
 -- the bench runs over what the walks hold, and has told the relation at the cursor, which is kept
-pub record IsShown (p : PinSeen) (c : ℕ) (ks : List Walked) (kept : Relation) (o : BenchSeen) : Type 0 where
+pub record IsShown (p : PinSeen) (c : ℕ) (ks : List SeenWalked) (kept : Relation) (o : BenchSeen) : Type 0 where
   pub ready : IsReady p c ks o
   pub stands : StandsFor p.plan.output kept (relation_at p c)
   pub told : told_of p.plan o ≡ told_before (relation_at p c)

@@ -1,8 +1,8 @@
 -- The inputs of a plan beside the ports of its joins.
-use Rattle.std.proofs.Common.{◌≡◌, ℕ, zero, suc, ◌<◌, List, [], ◌∷◌, ◌++◌, map, length, refl, sym, ap, ◌∙◌, subst, length-map}
+use Rattle.std.proofs.Common.{◌≡◌, ℕ, zero, suc, ◌<◌, List, [], ◌∷◌, ◌++◌, length, refl, sym, ap, ◌∙◌, subst}
 use Rattle.std.specs.Prelude.{Option, Some, None, Ok, slice_get}
 use Rattle.std.specs.List.{AllByRecursion, AllZip, Contains, cons_option}
-use Rattle.std.proofs.lemmas.List.{append-nil}
+use Rattle.std.proofs.lemmas.List.{append-nil, length-map}
 use Rattle.std.proofs.lemmas.Option.{slice_get_within}
 use Rattle.cql_value.specs.declared.schema.Column.{Column}
 use Rattle.cql_value.specs.declared.schema.ColumnType.{ColumnType}
@@ -85,11 +85,11 @@ got (y ∷ xs) (suc i) x h = there y x xs (got xs i x h)
 
 all_got : (places columns : List ℕ) → AllByRecursion (Contains places) (at_places places columns)
 all_got places [] = tt
-all_got places (c ∷ columns) = by (slice_get places c) refl
+all_got places (c ∷ columns) = by (all_got places columns) (slice_get places c) refl
   where
-    by : (o : Option ℕ) → slice_get places c ≡ o → AllByRecursion (Contains places) (cons_option o (at_places places columns))
-    by None is = all_got places columns
-    by (Some p) is = (got places c p is, all_got places columns)
+    by : AllByRecursion (Contains places) (at_places places columns) → (o : Option ℕ) → slice_get places c ≡ o → AllByRecursion (Contains places) (cons_option o (at_places places columns))
+    by rest None is = rest
+    by rest (Some p) is = (got places c p is, rest)
 
 parts_among : (places : List ℕ) (w : Window) → PartsAmong places (wide_window places w)
 parts_among places (Range len slide) = tt

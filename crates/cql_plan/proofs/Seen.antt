@@ -12,7 +12,7 @@ use Rattle.cql_syntax.specs.declared.syntax.Query.{Query}
 use Rattle.cql_window.specs.declared.window.Window.{Window}
 use Rattle.cql_places.specs.Places.{all_places}
 use Rattle.cql_places.specs.Windows.{wide_window}
-use Rattle.cql_places.specs.Law.{IsWideLaw}
+use Rattle.cql_places.proofs.Laws.{wide_law}
 use Rattle.cql_plan.specs.declared.condition.Condition.{Condition}
 use Rattle.cql_plan.specs.declared.error.PlanFault.TheVariants.{AmbiguousColumn, TypeMismatch}
 use Rattle.cql_plan.specs.declared.plan.Input.{Input}
@@ -50,7 +50,11 @@ each_changed {A} {B} check other f same (x ∷ xs) =
 
 -- ---- inputs
 
-module _ (wide : IsWideLaw) (readable : Readable) where
+-- an input of a block, over what is seen of its stream
+abbrev made_of : WrittenInput → Visible → Input → Source
+made_of input seen kept = record { input = kept; alias = alias_of input; fields = fields_of (alias_of input) seen.schema }
+
+module _ (readable : Readable) where
   -- an input of a block, with its window over the whole rows
   abbrev source_widened : Source → Source
   source_widened s = record s { input = widened readable s.input }
@@ -63,16 +67,13 @@ module _ (wide : IsWideLaw) (readable : Readable) where
   one_input input None same = refl
   one_input input (Some seen) same = by (window_of (fields_of (alias_of input) seen.schema) input.window) refl
     where
-      abbrev made : Input → Source
-      made i = record { input = i; alias = alias_of input; fields = fields_of (alias_of input) seen.schema }
-
       by : (o : Outcome Window) → window_of (fields_of (alias_of input) seen.schema) input.window ≡ o
-          → (o >>= (λ w. Ok (made (input_of input seen.places w)))) ≡ changed source_widened (o >>= (λ w. Ok (made (input_of input (all_places (length seen.schema)) w))))
+          → (o >>= (λ w. Ok (made_of input seen (input_of input seen.places w)))) ≡ changed source_widened (o >>= (λ w. Ok (made_of input seen (input_of input (all_places (length seen.schema)) w))))
       by (Err e) is = refl
       by (Ok w) is =
-          let once : wide_window (all_places (length seen.schema)) w ≡ w = wide w (length seen.schema) (parts_within (alias_of input) seen.schema input.window w is) in
-          (λ i. Ok (made (input_of input seen.places (sym once i))))
-          ∙ (λ i. Ok (made (widened_by (sym same i) (input_of input (all_places (length seen.schema)) w))))
+          let once : wide_window (all_places (length seen.schema)) w ≡ w = wide_law w (length seen.schema) (parts_within (alias_of input) seen.schema input.window w is) in
+          (λ i. Ok (made_of input seen (input_of input seen.places (sym once i))))
+          ∙ (λ i. Ok (made_of input seen (widened_by (sym same i) (input_of input (all_places (length seen.schema)) w))))
 
   one_source : (input : WrittenInput) → source_of readable input ≡ changed source_widened (source_of (seen_alone readable) input)
   unfolding source_of
@@ -179,5 +180,5 @@ module _ (wide : IsWideLaw) (readable : Readable) where
       in_first (Ok first) = one_second (output_of query.output) first query.second
       in_first (Err e) = refl
 
-pub seen_law : IsWideLaw → IsSeenLaw
-seen_law wide readable query = one_query wide readable query
+pub seen_law : IsSeenLaw
+seen_law readable query = one_query readable query

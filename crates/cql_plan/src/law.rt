@@ -1,4 +1,4 @@
-// The laws of the typing: functions that do nothing, whose contracts are the laws.
+// The laws of the typing: functions with empty bodies, whose contracts are the laws.
 ghost use Rattle.cql_plan.specs.Law.{
   IsColumnLaw,
   IsFirstFaultLaw,
@@ -7,8 +7,6 @@ ghost use Rattle.cql_plan.specs.Law.{
 ghost use Rattle.cql_plan.specs.Plan.{IsFormLaw};
 ghost use Rattle.cql_plan.specs.Ports.{IsPortsLaw, IsPlainLaw};
 ghost use Rattle.cql_plan.specs.Seen.{IsSeenLaw};
-
-use cql_places::law::wide_law;
 
 /// A written column means the one column of the joined row that it may mean; it is unknown where
 /// there is none, and ambiguous where there are two.
@@ -51,6 +49,4 @@ pub fn plain_law()
 /// window and places widened to the whole rows.
 pub fn seen_law()
     ensures { IsSeenLaw }
-{
-    wide_law();
-}
+{}

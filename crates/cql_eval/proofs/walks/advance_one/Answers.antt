@@ -7,6 +7,7 @@ use Rattle.cql_ops.specs.Bench.{BenchSeen, bench_seen}
 use Rattle.cql_ops.specs.Seen.{columns_at}
 use Rattle.cql_ops.specs.Running.{contents_of}
 use Rattle.cql_eval.specs.Pin.{AreOf}
+use Rattle.cql_eval.specs.Seen.{rows_seen}
 use Rattle.cql_eval.specs.Shown.{rows_of, changes_of}
 use Rattle.cql_eval.specs.Tally.{IsTally}
 use Rattle.cql_eval.proofs.Exchange.{Exchanged, bag_counts, can_come, window_moved}
@@ -17,7 +18,7 @@ use Rattle.cql_eval.proofs.walks.advance_one.Goals as goal
 pub push_rows-requires-clause-columns : goal.push_rows-requires-clause-columns
 push_rows-requires-clause-columns g c =
     subst (AreOf (columns_at (ports c.args.pin.now.plan) c.args.input)) (sym c.deref.ensures.value)
-    (came_columns (columns_at (ports c.args.pin.now.plan) c.args.input) (c.args.walk.pin.content ++ c.args.walk.pin.unseen) c.in_ok-walk.moved.came.items c.requires.walk.rows c.in_ok-walk.ensures.came)
+    (came_columns (columns_at (ports c.args.pin.now.plan) c.args.input) (rows_seen c.args.walk.pin) c.in_ok-walk.moved.came.items c.requires.walk.rows c.in_ok-walk.ensures.came)
 
 pub push_rows-requires-clause-there : goal.push_rows-requires-clause-there
 push_rows-requires-clause-there g c = can_come c.deref.result.now (port_of (contents_of c.args.pin.now.plan (bench_seen g.O.Operator.seen_in c.args.bench.now)) c.args.input)
@@ -25,7 +26,7 @@ push_rows-requires-clause-there g c = can_come c.deref.result.now (port_of (cont
 pub push_rows-requires-2-clause-columns : goal.push_rows-requires-2-clause-columns
 push_rows-requires-2-clause-columns g c =
     let columns = columns_at (ports c.args.pin.now.plan) c.args.input in
-    let came = came_columns columns (c.args.walk.pin.content ++ c.args.walk.pin.unseen) c.in_ok-walk.moved.came.items c.requires.walk.rows c.in_ok-walk.ensures.came in
+    let came = came_columns columns (rows_seen c.args.walk.pin) c.in_ok-walk.moved.came.items c.requires.walk.rows c.in_ok-walk.ensures.came in
     subst (AreOf columns) (sym c.deref-2.ensures.value)
     (left_columns columns c.in_ok-walk.moved.left.items c.in_ok-walk.walk.held
     (exchange_columns columns c.args.walk.held c.in_ok-walk.moved.came.items c.in_ok-walk.moved.left.items c.in_ok-walk.walk.held c.requires.walk.held came c.in_ok-walk.ensures.moved))
@@ -47,7 +48,7 @@ push_rows-requires-2-clause-there g c =
 pub returns-clause-walk : goal.returns-clause-walk
 returns-clause-walk g c =
     let columns = columns_at (ports c.args.pin.now.plan) c.args.input in
-    let came = came_columns columns (c.args.walk.pin.content ++ c.args.walk.pin.unseen) c.in_ok-walk.moved.came.items c.requires.walk.rows c.in_ok-walk.ensures.came in
+    let came = came_columns columns (rows_seen c.args.walk.pin) c.in_ok-walk.moved.came.items c.requires.walk.rows c.in_ok-walk.ensures.came in
     record {
       pin = c.in_ok-walk.ensures.pin;
       cursor = omega (arith, c.in_ok-walk.ensures.cursor);

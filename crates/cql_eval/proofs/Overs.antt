@@ -1,9 +1,9 @@
 -- Inputs and their windows, side by side.
-use Rattle.std.proofs.Common.{◌≡◌, ℕ, zero, suc, ◌+◌, ◌<◌, ◌≤◌, List, [], ◌∷◌, ◌++◌, map, length, drop, get_or, drop-cons, min, refl, sym, ap, ◌∙◌, arith, append_assoc}
+use Rattle.std.proofs.Common.{◌≡◌, ℕ, zero, suc, ◌+◌, ◌<◌, List, [], ◌∷◌, ◌++◌, map, length, drop, get_or, drop-cons, min, refl, sym, ap, ◌∙◌, arith, append_assoc}
 use Rattle.std.proofs.lemmas.List.{drop_all, append-nil}
 use Rattle.cql_window.specs.Pin.{Pinned}
 use Rattle.cql_plan.specs.declared.plan.Input.{Input}
-use Rattle.cql_eval.specs.Seen.{SeenWindow, SeenWalked, windows_over, fresh}
+use Rattle.cql_eval.specs.Seen.{SeenWalked, windows_over, fresh}
 
 rest_is : {A : Type 0} (xs : List A) (n : ℕ) (x : A) → n < length xs → x ≡ get_or xs n x → drop n xs ≡ x ∷ drop (n + 1) xs
 rest_is xs n x lt is = let e : suc n ≡ n + 1 = omega arith in drop-cons xs n x lt ∙ (λ j. sym is j ∷ drop (e j) xs)

@@ -1,4 +1,4 @@
-use Rattle.std.proofs.Common.{◌≡◌, length, ap, sym, ◌∙◌}
+use Rattle.std.proofs.Common.{◌≡◌, length, ap, ◌∙◌}
 use Rattle.cql_places.specs.Places.{all_places}
 use Rattle.cql_eval.proofs.Through.{whole_more}
 use Rattle.cql_eval.proofs.seen_walk.are_whole.Goals as goal

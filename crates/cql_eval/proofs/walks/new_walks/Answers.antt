@@ -1,4 +1,4 @@
-use Rattle.std.proofs.Common.{◌≡◌, ◌+◌, [], ◌∷◌, ◌++◌, length, length-append, sym, ap, ◌∙◌, rules}
+use Rattle.std.proofs.Common.{◌≡◌, [], ◌∷◌, length, length-append, sym, ap, ◌∙◌, rules}
 use Rattle.std.specs.Iterator.Adapters.{zip_first, zip_second}
 use Rattle.std.specs.Slice.Iter.{iter_rest}
 use Rattle.std.proofs.lemmas.Slice.Zip.{zip_turn, zip_end}
@@ -17,7 +17,7 @@ loop-input-preserved c =
     let turn = zip_turn p.plan.inputs p.windows c.loop-input.yielded s c.loop-input.input-iterator c.next.new.self c.next.result first second c.loop-input.yielded_by (c.in-Some.input, c.in-Some.window) c.in-Some.is c.next.ensures.steps in
     ap (λ n. before_rest c.push.new.self.items n p.plan.inputs p.windows) (length-append c.loop-input.yielded ((c.in-Some.input, c.in-Some.window) ∷ []))
     ∙ over_more c.loop-input.walks.items c.push.new.self.items c.new.result (length c.loop-input.yielded) p.plan.inputs p.windows i w turn.0 turn.1 (turn.2 i) (turn.3 w)
-        (c.new.ensures ∙ ap (λ l. fresh (record { window = w; places = l })) c.as_slice.ensures) c.in_ok-push.ensures.items
+    (c.new.ensures ∙ ap (λ l. fresh (record { window = w; places = l })) c.as_slice.ensures) c.in_ok-push.ensures.items
     ∙ c.loop-input.invariant
 
 pub returns : goal.returns

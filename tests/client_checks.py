@@ -569,6 +569,16 @@ def lines_of(stream, count):
     return found
 
 
+@contextlib.contextmanager
+def ending(child):
+    """A child that is killed where a check breaks off before its end."""
+    with child:
+        try:
+            yield
+        finally:
+            child.kill()
+
+
 def terminal_follows(program):
     """Blocks come as they are final, and are acknowledged behind that."""
     with Server(program, TENANTS) as server, Caller(server, "a") as caller:
@@ -579,8 +589,10 @@ def terminal_follows(program):
             env=environment(),
             stdout=subprocess.PIPE,
             stderr=subprocess.PIPE,
+            # an interrupt may be ignored by whoever runs this, and a child would take that over
+            preexec_fn=lambda: signal.signal(signal.SIGINT, signal.SIG_DFL),
         )
-        with child:
+        with ending(child):
             first = lines_of(child.stdout, 1)
             yield "a first block", difference(first, line_of(**block(5, 5, 1)))
             caller.send(put(9, 2), put(10, 3), beat(10))

@@ -1,7 +1,7 @@
 -- What is kept of the groups of a bag, as rows come and go and as they are told.
 use Rattle.std.proofs.Common.{◌≡◌, ℕ, ◌+◌, ◌-◌, ◌<◌, ◌≤◌, List, [], ◌∷◌, ◌++◌, map, append_assoc, Bool, true, false, ◌||◌, cond, if◌then◌else◌, Option, Some, None, refl, sym, ap, ◌∙◌, subst, arith, Less, Equal, Greater}
 use Rattle.std.specs.Prelude.{IfSome, Result, Ok, Err, OnOk}
-use Rattle.std.specs.Map.{remove_entry}
+use Rattle.std.specs.Map.{remove_entry, set_value}
 use Rattle.std.specs.BTreeMap.{insert_entry}
 use Rattle.std.specs.Ordering.{is_eq, match_ordering}
 use Rattle.std.proofs.lemmas.List.Folds.{list_any-append}
@@ -21,7 +21,7 @@ use Rattle.cql_algebra.specs.PlanLaws.{IsGroupTypesLaw}
 use Rattle.cql_algebra.specs.Shape.{key_of, group_of, items_over}
 use Rattle.cql_groups.specs.Cells.{cell_of}
 use Rattle.cql_ops.specs.Clauses.{AreChangesOf}
-use Rattle.cql_groups.specs.Grouped.{IsGroupOf, IsChangedGroup, IsDue, IsHeldOf, IsHeldAt, at_key, IsTaken, told_rows, IsGrouping, AreTold, TellsGroups}
+use Rattle.cql_groups.specs.Grouped.{IsGroupOf, IsChangedGroup, IsDue, IsHeldOf, IsHeldAt, at_key, IsTaken, told_rows, IsNew, CanChangeAt, IsChangedAt, IsGrouping, AreTold, TellsGroups}
 use Rattle.cql_groups.specs.GroupLaws.{Laws}
 use Rattle.cql_ops.specs.Linear.{with_entry, with_change}
 use Rattle.cql_ops.specs.Settle.{is_among}
@@ -311,16 +311,24 @@ taken_waits : (shape : Shape) (left : List Row) (key row : Row) (rows : Counts) 
 taken_waits shape left key row rows None g none new p = absurd (let f = new.pushed in cc)
 taken_waits shape left key row rows (Some h) g held same p = held.waits (ap (λ (x : Group). x.pushed) (sym same) ∙ p)
 
--- the rows told are as they were, once the group is out and in again
-taken_told : (q key row : Row) (items : List Item) (es : Groups) (o : Option Group) (g new : Group) → at_key key es ≡ o → IsTaken items row o g → new.told ≡ g.told → at_key key (remove_entry (λ k. is_eq (row_cmp key k)) es) ≡ None
-    → count q (told_rows (insert_entry row_cmp (remove_entry (λ k. is_eq (row_cmp key k)) es) key new)) ≡ count q (told_rows es)
-taken_told q key row items es None g new at taken same none =
-    told_with q key (remove_entry (λ k. is_eq (row_cmp key k)) es) new none ∙ ap (λ n. count q (told_rows (remove_entry (λ k. is_eq (row_cmp key k)) es)) + n) (ap (times_of q) (same ∙ taken.told)) ∙ zero_more (count q (told_rows (remove_entry (λ k. is_eq (row_cmp key k)) es))) ∙ ap (λ l. count q (told_rows l)) (none_out key es at)
+-- the rows told are as they were, where one of the groups was changed
+pub told_set : (key : Row) (es : Groups) (g new : Group) → at_key key es ≡ Some g → new.told ≡ g.told → told_rows (set_value (λ k. is_eq (row_cmp key k)) es new) ≡ told_rows es
+told_set key [] g new at same = refl
+told_set key (e ∷ es) g new at same =
+    elim (is_eq (row_cmp key e.0)) as (λ b. cond b (Some e.1) (at_key key es) ≡ Some g → told_rows (cond b ((e.0, new) ∷ es) (e ∷ set_value (λ k. is_eq (row_cmp key k)) es new)) ≡ with_entry e.1.told 1 (told_rows es)) [
+      | true ↦ λ f. ap (λ o. with_entry o 1 (told_rows es)) (same ∙ sym (ap (λ (x : Group). x.told) (one_group e.1 g f)))
+      | false ↦ λ f. ap (with_entry e.1.told 1) (told_set key es g new f same)
+    ] at
+  where
+    one_group : (x y : Group) → Some x ≡ Some y → x ≡ y
+    one_group x y h = cc
+
+-- or where one was put in of which none was told
+pub told_put : (q key : Row) (es : Groups) (new : Group) → at_key key es ≡ None → new.told ≡ None → count q (told_rows (insert_entry row_cmp es key new)) ≡ count q (told_rows es)
+told_put q key es new at none = told_with q key es new at ∙ ap (λ o. count q (told_rows es) + times_of q o) none ∙ zero_more (count q (told_rows es))
   where
     zero_more : (n : ℕ) → n + 0 ≡ n
     zero_more n = omega arith
-taken_told q key row items es (Some h) g new at taken same none =
-    told_with q key (remove_entry (λ k. is_eq (row_cmp key k)) es) new none ∙ ap (λ n. count q (told_rows (remove_entry (λ k. is_eq (row_cmp key k)) es)) + n) (ap (times_of q) (same ∙ ap (λ (x : Group). x.told) taken)) ∙ sym (told_without q key es h at)
 
 -- the keys that wait, with one more
 abbrev pub waiting : Bool → List Row → Row → List Row
@@ -340,7 +348,7 @@ now_waits true left key h = h refl
 now_waits false left key h = list_any-append (λ x. is_eq (row_cmp x key)) left (key ∷ []) ∙ or_last (is_among left key) (is_eq (row_cmp key key)) (ties_itself key)
 
 -- the rows of a row's key, where it goes
-pub some_rows : (laws : Laws) (shape : Shape) (port told : Counts) (es : Groups) (left : List Row) (c : Change) (key : Row) (g : Group) → key_of shape.groups c.row ≡ key → IsGrouping shape port told es left → HasTypes shape.columns c.row → CanChange c port
+some_rows : (laws : Laws) (shape : Shape) (port told : Counts) (es : Groups) (left : List Row) (c : Change) (key : Row) (g : Group) → key_of shape.groups c.row ≡ key → IsGrouping shape port told es left → HasTypes shape.columns c.row → CanChange c port
     → IsTaken shape.items c.row (at_key key es) g → IsGroupOf shape key (group_of shape.groups port key) g × (c.plus ≡ false → 1 ≤ g.size)
 some_rows laws shape port told es left c key g is_key was types can taken =
     let of = taken_is shape left key c.row (group_of shape.groups port key) (at_key key es) g (was.held key) is_key types taken in
@@ -350,17 +358,52 @@ some_rows laws shape port told es left c key g is_key was types can taken =
     enough : (a b n : ℕ) → a + 1 ≡ b → n ≡ b → 1 ≤ n
     enough a b n h i = omega (arith, h, i)
 
+-- a group changed where it stands
+pub changed_some : (items : List Item) (c : Change) (key : Row) (es now : Groups) (left more : List Row) (g new : Group) → Some g ≡ at_key key es → IsChangedGroup c (record g { pushed = true }) new
+    → now ≡ set_value (λ k. is_eq (row_cmp key k)) es new → ((q : Row) → at_key q now ≡ cond (is_eq (row_cmp key q)) (Some new) (at_key q es)) → more ≡ waiting g.pushed left key → IsChangedAt items c key es now left more
+changed_some items c key es now left more g new there turned is looks waits = record {
+  was = g;
+  now = new;
+  taken = subst (λ o. IsTaken items c.row o g) there refl;
+  turned = turned;
+  looks = looks;
+  told = λ q. ap (λ l. count q (told_rows l)) is ∙ ap (count q) (told_set key es g new (sym there) turned.told);
+  waits = waits;
+}
+
+-- and one that is put in
+pub changed_none : (items : List Item) (c : Change) (key : Row) (es now : Groups) (left more : List Row) (g new : Group) → None ≡ at_key key es → IsNew items c.row g → IsChangedGroup c (record g { pushed = true }) new
+    → now ≡ insert_entry row_cmp es key new → ((q : Row) → at_key q now ≡ cond (is_eq (row_cmp key q)) (Some new) (at_key q es)) → more ≡ waiting g.pushed left key → IsChangedAt items c key es now left more
+changed_none items c key es now left more g new none is_new turned is looks waits = record {
+  was = g;
+  now = new;
+  taken = subst (λ o. IsTaken items c.row o g) none is_new;
+  turned = turned;
+  looks = looks;
+  told = λ q. ap (λ l. count q (told_rows l)) is ∙ told_put q key es new (sym none) (turned.told ∙ is_new.told);
+  waits = waits;
+}
+
+pub on_ok_both : {X E : Type 0} (r : Result X E) (P Q T : Type 0) → (P → Q → T) → OnOk r P → OnOk r Q → OnOk r T
+on_ok_both (Ok x) P Q T f p q = f p q
+on_ok_both (Err e) P Q T f p q = tt
+
+pub can_change_at : (laws : Laws) (shape : Shape) (port told : Counts) (es : Groups) (left : List Row) (c : Change) (key : Row) → key_of shape.groups c.row ≡ key → IsGrouping shape port told es left → HasTypes shape.columns c.row → CanChange c port
+    → CanChangeAt shape.items c (at_key key es)
+can_change_at laws shape port told es left c key is_key was types can g taken =
+    let of = some_rows laws shape port told es left c key g is_key was types can taken in
+    (of.0.few, of.1)
+
 pub looks_both : {A : Type 0} (b : Bool) (w x : Option A) → cond b w (cond b None x) ≡ cond b w x
 looks_both true w x = refl
 looks_both false w x = refl
 
-pub row_pushed : (laws : Laws) (shape : Shape) (port told : Counts) (es now : Groups) (left : List Row) (c : Change) (key : Row) (g new : Group) → key_of shape.groups c.row ≡ key → IsGrouping shape port told es left → HasTypes shape.columns c.row → CanChange c port
+row_waits : (laws : Laws) (shape : Shape) (port told : Counts) (es now : Groups) (left : List Row) (c : Change) (key : Row) (g new : Group) → key_of shape.groups c.row ≡ key → IsGrouping shape port told es left → HasTypes shape.columns c.row → CanChange c port
     → IsTaken shape.items c.row (at_key key es) g → IsChangedGroup c (record g { pushed = true }) new
     → ((q : Row) → at_key q now ≡ cond (is_eq (row_cmp key q)) (Some new) (at_key q es))
-    → now ≡ insert_entry row_cmp (remove_entry (λ k. is_eq (row_cmp key k)) es) key new
-    → at_key key (remove_entry (λ k. is_eq (row_cmp key k)) es) ≡ None
+    → ((q : Row) → count q (told_rows now) ≡ count q (told_rows es))
     → IsGrouping shape (changed c port) told now (waiting g.pushed left key)
-row_pushed laws shape port told es now left c key g new is_key was types can taken turned looks is none =
+row_waits laws shape port told es now left c key g new is_key was types can taken turned looks same_told =
     let more = waiting g.pushed left key in
     let of = (some_rows laws shape port told es left c key g is_key was types can taken).0 in
     let its = group_of shape.groups port key in
@@ -384,8 +427,13 @@ row_pushed laws shape port told es now left c key g new is_key was types can tak
       told_bag = was.told_bag;
       held = held_by (λ k o. IsHeldAt shape more k (group_of shape.groups (changed c port) k) o) key (Some new) es now looks held_new
           (λ q t. more_waits shape left more q (group_of shape.groups port q) (group_of shape.groups (changed c port) q) (at_key q es) (group_stays laws c port was.port_bag can shape.groups q (ap (λ k. is_eq (row_cmp k q)) is_key ∙ t)) (λ _ h. still g.pushed left key q h) (was.held q));
-      rows = λ q. was.rows q ∙ sym (ap (λ l. count q (told_rows l)) is ∙ taken_told q key c.row shape.items es (at_key key es) g new refl taken turned.told none);
+      rows = λ q. was.rows q ∙ sym (same_told q);
     }
+
+pub row_pushed : (laws : Laws) (shape : Shape) (port told : Counts) (es now : Groups) (left more : List Row) (c : Change) (key : Row) → key_of shape.groups c.row ≡ key → IsGrouping shape port told es left → HasTypes shape.columns c.row → CanChange c port
+    → IsChangedAt shape.items c key es now left more → IsGrouping shape (changed c port) told now more
+row_pushed laws shape port told es now left more c key is_key was types can changed_at =
+    subst (IsGrouping shape (changed c port) told now) (sym changed_at.waits) (row_waits laws shape port told es now left c key changed_at.was changed_at.now is_key was types can changed_at.taken changed_at.turned changed_at.looks changed_at.told)
 
 pub on_ok_from : {X E : Type 0} (r : Result X E) (P Q : Type 0) → (P → Q) → OnOk r P → OnOk r Q
 on_ok_from (Ok x) P Q f p = f p

@@ -77,6 +77,20 @@ abbrev pub told_rows : List (List Value × Group) → Counts
 told_rows [] = []
 told_rows (e ∷ es) = with_entry e.1.told 1 (told_rows es)
 
+-- a row may come or go where such a group is, or where there is none
+abbrev pub CanChangeAt : List Item → Change → Option Group → Type 0
+CanChangeAt items c at = (g : Group) → IsTaken items c.row at g → (g.size < 2 ^ 63) × (c.plus ≡ false → 1 ≤ g.size)
+
+-- a row came or went in the group of its key, which waits: the groups of other keys, and what was told of each, are as they were
+pub record IsChangedAt (items : List Item) (c : Change) (key : List Value) (old new : List (List Value × Group)) (left more : List (List Value)) : Type 0 where
+  pub was : Group
+  pub now : Group
+  pub taken : IsTaken items c.row (at_key key old) was
+  pub turned : IsChangedGroup c (record was { pushed = true }) now
+  pub looks : (q : List Value) → at_key q new ≡ (if is_eq (row_cmp key q) then Some now else at_key q old)
+  pub told : (q : List Value) → count q (told_rows new) ≡ count q (told_rows old)
+  pub waits : more ≡ (if was.pushed then left else left ++ key ∷ [])
+
 -- the groups of the port's bag, and the bag that was told of them
 pub record IsGrouping (shape : Shape) (port told : Counts) (groups : List (List Value × Group)) (left : List (List Value)) : Type 0 where
   pub keyed : IsKeyed shape

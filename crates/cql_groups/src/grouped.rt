@@ -2,13 +2,11 @@
 ghost use Rattle.std.specs.Prelude.{◌≡◌, ◌<◌, ◌≤◌, ◌^◌, ◌⊎◌, ◌++◌, [], ◌∷◌, None, Some, map, true, false, if◌then◌else◌, IfOk, IfErr, OnOk, OnErr};
 ghost use Rattle.cql_bag.specs.Changes.{changed, changed_by, change_of, CanChange, Grows};
 ghost use Rattle.std.specs.BTreeMap.{insert_entry, Updates};
-ghost use Rattle.std.specs.Map.{remove_entry};
-ghost use Rattle.std.specs.Ordering.{is_eq};
 ghost use Rattle.cql_value.specs.Order.{row_cmp};
 ghost use Rattle.cql_value.specs.Schema.{HasTypes};
 ghost use Rattle.cql_algebra.specs.Shape.{shape_value};
 ghost use Rattle.cql_groups.specs.Cells.{IsKeyed, cell_of};
-ghost use Rattle.cql_groups.specs.Grouped.{IsNew, IsTaken, at_key, IsChangedGroup, IsDue, IsLacking, IsGrouping, TellsGroups};
+ghost use Rattle.cql_groups.specs.Grouped.{IsNew, at_key, IsChangedGroup, CanChangeAt, IsChangedAt, IsDue, IsLacking, IsGrouping, TellsGroups};
 ghost use Rattle.cql_groups.specs.GroupLaws.{Laws};
 ghost use Rattle.cql_ops.specs.Linear.{with_change};
 ghost use Rattle.cql_ops.specs.Shaped.{TellsShape, FailsToShape};
@@ -170,24 +168,6 @@ fn put_group(
     Ok(())
 }
 
-// Takes the group of a key out, or makes one of the row.
-fn take_group(
-    alloc: Global,
-    items: &[Item],
-    row: &Row,
-    key: &Row,
-    groups: &mut BTreeMap<Row, Group>,
-) -> Result<Group, AllocError>
-    ensures taken { IfOk result (IsTaken items.now row.now (at_key key.now groups.old.entries)) }
-    ensures entries { groups.new.entries ≡ remove_entry (λ k. is_eq (row_cmp key.now k)) groups.old.entries }
-    ensures updates { Updates row_cmp groups.old groups.new key.now None }
-{
-    match groups.remove(key) {
-        Some(group) => Ok(group),
-        None => Group::new(alloc, items, row),
-    }
-}
-
 // Notes that the group was pushed.
 fn mark(
     alloc: Global,
@@ -203,6 +183,45 @@ fn mark(
         group.pushed = true;
     }
     Ok(())
+}
+
+// A row comes or goes, and the group's key is noted.
+fn change_group(
+    alloc: Global,
+    key: &Row,
+    change: &Change,
+    group: &mut Group,
+    touched: &mut Vec<Row>,
+) -> Result<(), AllocError>
+    requires few { group.old.size < 2 ^ 63 }
+    requires some { change.now.plus ≡ false → 1 ≤ group.old.size }
+    ensures group { OnOk result (IsChangedGroup change.now (record group.old { pushed = true }) group.new) }
+    ensures touched { OnOk result (touched.new.items ≡ (if group.old.pushed then touched.old.items else touched.old.items ++ key.now ∷ [])) }
+{
+    mark(alloc, key, group, touched)?;
+    group.change(alloc, change)
+}
+
+// The group of the row's key is changed where it stands; where there is none, one is put in.
+fn change_at(
+    alloc: Global,
+    items: &[Item],
+    key: &Row,
+    change: &Change,
+    groups: &mut BTreeMap<Row, Group>,
+    touched: &mut Vec<Row>,
+) -> Result<(), AllocError>
+    requires { CanChangeAt items.now change.now (at_key key.now groups.old.entries) }
+    ensures { OnOk result (IsChangedAt items.now change.now key.now groups.old.entries groups.new.entries touched.old.items touched.new.items) }
+{
+    match groups.get_mut(key) {
+        Some(group) => change_group(alloc, key, change, group, touched),
+        None => {
+            let mut group = Group::new(alloc, items, &change.row)?;
+            change_group(alloc, key, change, &mut group, touched)?;
+            put_group(alloc, key, group, groups)
+        }
+    }
 }
 
 /// A row of the port comes or goes.
@@ -223,10 +242,7 @@ pub(crate) fn push_row(
 {
     group_laws();
     let key = key(alloc, shape.groups.as_slice(), change.row.values())?;
-    let mut group = take_group(alloc, shape.items.as_slice(), &change.row, &key, groups)?;
-    mark(alloc, &key, &mut group, touched)?;
-    group.change(alloc, change)?;
-    put_group(alloc, &key, group, groups)?;
+    change_at(alloc, shape.items.as_slice(), &key, change, groups, touched)?;
     port.change(alloc, change)
 }
 

@@ -72,22 +72,46 @@ fn last_and_first(one: &Caller, other: &Caller) -> Option<(u64, u64)> {
     Some((last, first))
 }
 
+// The calls of two callers of a tenant, of which one makes the query of the other's held fetch
+// anew: whether both were told what they are to be told.
+fn make_anew<R: Threads + Wait + Sync, C: Clock + Sync>(
+    rt: &R,
+    alloc: Global,
+    hall: &Hall<Kept>,
+    one: &mut Caller,
+    two: &mut Caller,
+    gate: &Holding<C>,
+) -> Result<bool, Unmade> {
+    one.say(rt, alloc, hall, &OpenGate, MADE)?;
+    fetch_beside(rt, alloc, hall, one, two, gate, MADE_ANEW)?;
+    Ok(
+        !gate.is_expired()
+            && one.replies(alloc)?.as_slice() == OF_THE_HELD
+            && two.replies(alloc)?.as_slice() == OF_THE_OTHER
+            && last_and_first(one, two) == Some((4, 5)),
+    )
+}
+
+// What is left of their hall, whose they are, and whether they were told so.
+fn made_anew<R: Threads + Wait + Clock + Copy + Sync>(
+    rt: R,
+    alloc: Global,
+) -> Result<(Ran, TenantId, bool), Unmade> {
+    let (hall, tenant) = hall(alloc)?;
+    let gate = Holding::new(rt, 3);
+    let mut one = Caller::new(alloc, hall.seat(tenant));
+    let mut two = Caller::new(alloc, hall.seat(tenant));
+    let are_told = make_anew(&rt, alloc, &hall, &mut one, &mut two, &gate)?;
+    Ok((close(alloc, hall, one, two)?, tenant, are_told))
+}
+
 // A fetch tells what was there when it was pinned, though its query is dropped and made anew
 // before it is answered; and its place is before the drop's.
 #[test]
 fn a_query_is_made_anew_beside_its_fetch(rt: HostRuntime) -> Result<(), Fail> {
     let alloc = rt.alloc();
-    let (hall, tenant) = hall(alloc)?;
-    let gate = Holding::new(rt, 3);
-    let mut one = Caller::new(alloc, hall.seat(tenant));
-    let mut two = Caller::new(alloc, hall.seat(tenant));
-    one.say(&rt, alloc, &hall, &OpenGate, MADE)?;
-    fetch_beside(&rt, alloc, &hall, &mut one, &mut two, &gate, MADE_ANEW)?;
-    assert!(rt; !gate.is_expired());
-    assert!(rt; one.replies(alloc)?.as_slice() == OF_THE_HELD);
-    assert!(rt; two.replies(alloc)?.as_slice() == OF_THE_OTHER);
-    assert_eq!(rt; last_and_first(&one, &two), Some((4, 5)));
-    let ran = close(alloc, hall, one, two)?;
+    let (ran, tenant, are_told) = made_anew(rt, alloc)?;
+    assert!(rt; are_told);
     assert_eq!(rt; failing_here(alloc, &ran)?, None);
     assert_eq!(rt; failing_alone(alloc, &ran, tenant)?, None);
     Ok(())
@@ -118,7 +142,7 @@ const BEAT: &[&str] = &[r#"{"at":2,"do":"beat","stream":"s"}"#];
 const OF_THE_READER: &[u8] = b"{\"base\":0}\n{\"blocks\":[],\"next\":1}\n\
 {\"blocks\":[{\"from\":1,\"rows\":[[4]],\"to\":1},{\"from\":2,\"rows\":[[5]],\"to\":2}],\"next\":3}\n";
 
-// The reader's last fetch has place 11.
+// The reader's last fetch has place 11. Whether it was told what it is to be told.
 fn call_all<R: Threads + Wait + Sync, C: Clock + Sync>(
     rt: &R,
     alloc: Global,
@@ -126,13 +150,41 @@ fn call_all<R: Threads + Wait + Sync, C: Clock + Sync>(
     owner: &mut Caller,
     reader: &mut Caller,
     gate: &Holding<C>,
-) -> Result<(), Unmade> {
+) -> Result<bool, Unmade> {
     owner.say(rt, alloc, hall, &OpenGate, OWNERS)?;
     reader.say(rt, alloc, hall, &OpenGate, READERS)?;
     owner.say(rt, alloc, hall, &OpenGate, PUT)?;
     fetch_beside(rt, alloc, hall, reader, owner, gate, BESIDE)?;
     owner.say(rt, alloc, hall, &OpenGate, BEAT)?;
-    reader.say(rt, alloc, hall, &OpenGate, FETCH)
+    reader.say(rt, alloc, hall, &OpenGate, FETCH)?;
+    Ok(!gate.is_expired() && reader.replies(alloc)?.as_slice() == OF_THE_READER)
+}
+
+// What is left of the hall of an owner and a reader, and whether the reader was told so.
+fn called_all<R: Threads + Wait + Clock + Copy + Sync>(
+    rt: R,
+    alloc: Global,
+    hall: Hall<Kept>,
+    a: TenantId,
+    b: TenantId,
+) -> Result<(Ran, bool), Unmade> {
+    let gate = Holding::new(rt, 4);
+    let mut owner = Caller::new(alloc, hall.seat(a));
+    let mut reader = Caller::new(alloc, hall.seat(b));
+    let is_told = call_all(&rt, alloc, &hall, &mut owner, &mut reader, &gate)?;
+    Ok((close(alloc, hall, owner, reader)?, is_told))
+}
+
+// Where an audit of all fails, and where one of each of two tenants does.
+fn failing_places(
+    alloc: Global,
+    ran: &Ran,
+    a: TenantId,
+    b: TenantId,
+) -> Result<(Option<u64>, Option<u64>, Option<u64>), Unmade> {
+    let all = failing_here(alloc, ran)?;
+    let first = failing_alone(alloc, ran, a)?;
+    Ok((all, first, failing_alone(alloc, ran, b)?))
 }
 
 // The reader's last reply is another.
@@ -150,20 +202,11 @@ fn two_tenants_each_alone(rt: HostRuntime) -> Result<(), Fail> {
     let alloc = rt.alloc();
     let (hall, a) = hall(alloc)?;
     let b = table(alloc)?.find("b").ok_or(Unmade::Wrong)?;
-    let gate = Holding::new(rt, 4);
-    let mut owner = Caller::new(alloc, hall.seat(a));
-    let mut reader = Caller::new(alloc, hall.seat(b));
-    call_all(&rt, alloc, &hall, &mut owner, &mut reader, &gate)?;
-    assert!(rt; !gate.is_expired());
-    assert!(rt; reader.replies(alloc)?.as_slice() == OF_THE_READER);
-    let mut ran = close(alloc, hall, owner, reader)?;
-    assert_eq!(rt; failing_here(alloc, &ran)?, None);
-    assert_eq!(rt; failing_alone(alloc, &ran, a)?, None);
-    assert_eq!(rt; failing_alone(alloc, &ran, b)?, None);
+    let (mut ran, is_told) = called_all(rt, alloc, hall, a, b)?;
+    assert!(rt; is_told);
+    assert!(rt; failing_places(alloc, &ran, a, b)? == (None, None, None));
     replace_last(&mut ran)?;
-    assert_eq!(rt; failing_here(alloc, &ran)?, Some(11));
-    assert_eq!(rt; failing_alone(alloc, &ran, a)?, None);
-    assert_eq!(rt; failing_alone(alloc, &ran, b)?, Some(11));
+    assert!(rt; failing_places(alloc, &ran, a, b)? == (Some(11), None, Some(11)));
     Ok(())
 }
 

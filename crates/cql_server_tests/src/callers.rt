@@ -7,10 +7,18 @@ use std::alloc::Global;
 use std::sync::Wait;
 
 /// A seat, and what it was told.
-#[derive(Drop)]
 pub(crate) struct Caller {
     pub(crate) seat: Seat,
     pub(crate) receipts: Vec<Receipt>,
+}
+
+impl Drop for Caller {
+    fn drop(self) {
+        let Caller {
+            seat: _,
+            receipts: _,
+        } = self;
+    }
 }
 
 impl Caller {
@@ -38,6 +46,12 @@ impl Caller {
         Ok(())
     }
 
+    /// The seat, and what it was told.
+    fn into_parts(self) -> (Seat, Vec<Receipt>) {
+        let Caller { seat, receipts } = self;
+        (seat, receipts)
+    }
+
     /// What it was told, a line each.
     pub(crate) fn replies(&self, alloc: Global) -> Result<Vec<u8>, Unmade> {
         let mut writer = Watched::new(Vec::new(alloc));
@@ -51,10 +65,15 @@ impl Caller {
 }
 
 /// What is left of a hall, and the receipts of its callers.
-#[derive(Drop)]
 pub(crate) struct Ran {
     pub(crate) ended: Ended,
     pub(crate) lists: Vec<Vec<Receipt>>,
+}
+
+impl Drop for Ran {
+    fn drop(self) {
+        let Ran { ended: _, lists: _ } = self;
+    }
 }
 
 /// Closes the hall of two callers.
@@ -64,8 +83,9 @@ pub(crate) fn close(
     one: Caller,
     two: Caller,
 ) -> Result<Ran, Unmade> {
-    let seats = [one.seat, two.seat];
-    let ended = hall.close(&seats).map_err(|_| Unmade::Wrong)?;
-    let lists = Vec::from_array(alloc, [one.receipts, two.receipts])?;
+    let (first, first_told) = one.into_parts();
+    let (second, second_told) = two.into_parts();
+    let lists = Vec::from_array(alloc, [first_told, second_told])?;
+    let ended = hall.close(&[first, second]).map_err(|_| Unmade::Wrong)?;
     Ok(Ran { ended, lists })
 }

@@ -128,6 +128,27 @@ def session_methods(program):
         yield "calls by methods", difference(server.end(), Ended(0, b"", audit(17)))
 
 
+def session_grants(program):
+    """A grant of chosen columns, and what is left of a query once it is taken back."""
+    with Server(program, TENANTS, sessions=2, workers=2, audit=True) as server:
+        with session(server) as owner, session(server, "b") as reader:
+            owner.stream("p", {"k": "text", "v": "int"})
+            owner.grant("p", "b", ["v"])
+            reader.query("q", "Select Istream(*) From a.p [Range 2]")
+            owner.put("p", 1, ["x", 1])
+            owner.beat("p", 1)
+            wanted = (romburik.Rows(1, 1, ((1,),)),)
+            yield "chosen columns", difference(reader.fetch("q").blocks, wanted)
+            wanted = (romburik.Stream("a.p", 2, ("v",)),)
+            yield "the columns that are read", difference(reader.list().readable, wanted)
+            owner.revoke("p", "b")
+            wanted = romburik.Revoked, "Revoked", 63
+            yield "a revoked query", difference(refusal_of(reader.fetch, "q"), wanted)
+            yield "what is left to read", difference(reader.list().readable, ())
+            reader.drop("q")
+        yield "grants by methods", difference(server.end(), Ended(0, b"", audit(11)))
+
+
 def session_refusals(program):
     """They are exceptions with a name and a number; what can't be sent isn't."""
     with Server(program, TENANTS) as server, session(server) as it:
@@ -137,6 +158,8 @@ def session_refusals(program):
             (romburik.BadColumns, 22, it.stream, "t", {}),
             (romburik.UnknownStream, 30, it.put, "t", 1, [1]),
             (romburik.UnknownTenant, 31, it.grant, "s", "c"),
+            (romburik.BadGrantColumns, 34, it.grant, "s", "b", ["w"]),
+            (romburik.NotGranted, 35, it.revoke, "s", "b"),
             (romburik.WrongRow, 40, it.put, "s", 1, ["x"]),
             (romburik.AtTooLarge, 42, it.beat, "s", 1 << 62),
             (romburik.UnknownQuery, 57, it.ack, "q", 1),
@@ -447,7 +470,7 @@ def terminal_lines(program):
         ended = terminal(server.port, given=b"lists\nput s\nlist\n")
         wanted = (
             b"> lists\n  there is no command lists, but "
-            b"stream, grant, put, beat, query, fetch, ack, drop, list\n"
+            b"stream, grant, revoke, put, beat, query, fetch, ack, drop, list\n"
             b"> put s\n  the form is: put STREAM AT ROW\n> list\n< " + LIST_OF_ONE
         )
         yield "the terminal with no commands", difference(ended, Ended(1, b"", wanted))
@@ -848,6 +871,7 @@ def feeder_is_started_anew(program):
 
 CHECKS = (
     session_methods,
+    session_grants,
     session_refusals,
     session_logins,
     many_lines,

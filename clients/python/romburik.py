@@ -169,6 +169,14 @@ class SelfGrant(Refused):
     number, meaning = 33, "the stream is the tenant's own"
 
 
+class BadGrantColumns(Refused):
+    number, meaning = 34, "no column, a name that is none of the stream's, or one twice"
+
+
+class NotGranted(Refused):
+    number, meaning = 35, "the stream isn't granted to that tenant"
+
+
 class WrongRow(Refused):
     number, meaning = 40, "other values than the stream's columns ask for"
 
@@ -228,6 +236,11 @@ class Ahead(Refused):
 
 class Behind(Refused):
     number, meaning = 62, "it is below what was acknowledged"
+
+
+class Revoked(Refused):
+    number = 63
+    meaning = "the grant of one of its streams was taken back; the query can only be dropped"
 
 
 class NoMemory(Refused):
@@ -325,11 +338,12 @@ class Query:
 class Stream:
     """A stream in a listing, as `owner.name` where it is another's.
 
-    `open` is the least time that it still takes.
+    `open` is the least time that it still takes. `columns` has the columns that the grant names.
     """
 
     name: str
     open: int
+    columns: Optional[Tuple[str, ...]] = None
 
 
 @dataclass(frozen=True)
@@ -428,10 +442,15 @@ def _answer(reply: Reply) -> Answer:
     return Answer(tuple(Block.of(block) for block in reply["blocks"]), int(reply["next"]))
 
 
+def _readable(told: Mapping[str, Any]) -> Stream:
+    columns = told.get("columns")
+    return Stream(told["stream"], told["open"], None if columns is None else tuple(columns))
+
+
 def _listing(reply: Reply) -> Listing:
     return Listing(
         tuple(Query(it["name"], it["text"], it["base"], it["next"]) for it in reply["queries"]),
-        tuple(Stream(it["stream"], it["open"]) for it in reply["readable"]),
+        tuple(_readable(it) for it in reply["readable"]),
         tuple(Stream(it["name"], it["open"]) for it in reply["streams"]),
     )
 
@@ -690,9 +709,14 @@ class Session:
         """Makes a stream; `columns` has the type of each, `int` or `text`, in order."""
         self.call({"do": "stream", "name": name, "columns": [[*it] for it in columns.items()]})
 
-    def grant(self, stream: str, to: str) -> None:
-        """Lets a tenant read a stream of this one."""
-        self.call({"do": "grant", "stream": stream, "to": to})
+    def grant(self, stream: str, to: str, columns: Optional[Iterable[str]] = None) -> None:
+        """Lets a tenant read a stream of this one: the named columns in their order, or all."""
+        chosen = {} if columns is None else {"columns": [*columns]}
+        self.call({"do": "grant", "stream": stream, "to": to, **chosen})
+
+    def revoke(self, stream: str, to: str) -> None:
+        """Takes the grant back; the tenant's queries on the stream are revoked with it."""
+        self.call({"do": "revoke", "stream": stream, "to": to})
 
     def put(self, stream: str, at: int, row: Iterable[Value]) -> None:
         """Puts a row at an instant."""
@@ -895,7 +919,10 @@ class _Form:
 
 _FORMS = {
     "stream": _Form("NAME COLUMN TYPE [COLUMN TYPE ..]", {"name": str, "columns": _pairs}, 2),
-    "grant": _Form("STREAM TENANT", {"stream": str, "to": str}, 2),
+    "grant": _Form(
+        "STREAM TENANT [COLUMN ..]", {"stream": str, "to": str, "columns": str.split}, 2
+    ),
+    "revoke": _Form("STREAM TENANT", {"stream": str, "to": str}, 2),
     "put": _Form("STREAM AT ROW", {"stream": str, "at": int, "row": json.loads}, 3),
     "beat": _Form("STREAM AT", {"stream": str, "at": int}, 2),
     "query": _Form("NAME TEXT", {"name": str, "text": str}, 2),
@@ -1081,7 +1108,7 @@ class _Completer:
             return (*CQL_WORDS, *streams, *(it.name for it in listing.readable))
         if len(before) > 1:
             return ()
-        if before[0] in ("grant", "put", "beat"):
+        if before[0] in ("grant", "revoke", "put", "beat"):
             return streams
         return [it.name for it in listing.queries] if before[0] in ("fetch", "ack", "drop") else ()
 

@@ -67,13 +67,6 @@ impl Answer {
         self.pin.next()
     }
 
-    /// What was asked for.
-    pub fn pin(&self) -> &Pin
-        ensures { result.now ≡ self.now.pin }
-    {
-        &self.pin
-    }
-
     /// At how many instants the relation was computed.
     pub fn turns(&self) -> u64
         ensures value { result ≡ self.now.turns }

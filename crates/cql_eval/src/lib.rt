@@ -6,6 +6,7 @@ mod answered;
 mod bags;
 mod evaluate;
 mod pin;
+mod seen_walk;
 mod shown;
 mod tally;
 mod walks;

@@ -14,6 +14,7 @@ ghost use Rattle.cql_eval.specs.Shown.{told_before, StandsFor, LeadsTo, Tells, I
 
 use crate::bags::{add_rows, parted, take_rows};
 use crate::pin::Pin;
+use crate::seen_walk::SeenWalk;
 use crate::tally::Tally;
 use crate::walks::{advance, restart, start};
 use cql_bag::law::{minus_counts, put_all_counts, same_counts, take_counts};
@@ -22,14 +23,13 @@ use cql_ops::{BenchOf, Operator, Outcome};
 use cql_out::{Output, Relation, output};
 use cql_plan::OutputKind;
 use cql_value::Row;
-use cql_window::Walk;
 use std::alloc::{AllocError, Global};
 
 /// Walks over the windows, the rows that were counted, and what is kept of the relation: its fault, and for Rstream, which
 /// tells the whole relation, its bag. The other kinds tell only what came and left, and keep an
 /// empty bag.
 pub(crate) struct Shown<'a> {
-    pub(crate) walks: Vec<Walk<'a>>,
+    pub(crate) walks: Vec<SeenWalk<'a>>,
     pub(crate) tally: Tally,
     pub(crate) relation: Relation,
 }
@@ -45,7 +45,7 @@ impl<'a> Drop for Shown<'a> {
 }
 
 impl<'a> Shown<'a> {
-    fn into_parts(self) -> (Vec<Walk<'a>>, Tally, Relation)
+    fn into_parts(self) -> (Vec<SeenWalk<'a>>, Tally, Relation)
         ensures walks { result.0.items ≡ self.entry.walks.items }
         ensures tally { result.1 ≡ self.entry.tally }
         ensures relation { result.2 ≡ self.entry.relation }

@@ -10,25 +10,29 @@ ghost use Rattle.cql_ops.specs.Running.{RunsPlan, contents_of, told_of};
 ghost use Rattle.cql_window.specs.Walk.{IsExchange, IsSegment};
 ghost use Rattle.cql_eval.specs.Pin.{AreOf};
 ghost use Rattle.cql_eval.specs.Relation.{bags_at};
-ghost use Rattle.cql_eval.specs.Shown.{rows_of, changes_of, IsWalk, AreWalks, HasReached, fresh, bags_held, IsReady, IsTallied, HasPushed};
+ghost use Rattle.cql_eval.specs.Seen.{fresh, windows_seen};
+ghost use Rattle.cql_eval.specs.Shown.{rows_of, changes_of, IsWalk, AreWalks, HasReached, bags_held, IsReady, IsTallied, HasPushed};
 ghost use Rattle.cql_eval.specs.Tally.{IsTally};
 
 use crate::pin::Pin;
+use crate::seen_walk::SeenWalk;
 use crate::tally::Tally;
 use cql_bag::Change;
 use cql_bag::law::{put_all_counts, same_counts, take_counts};
 use cql_ops::{BenchOf, Operator};
 use cql_value::Timed;
-use cql_window::{Moved, Walk};
+use cql_window::Moved;
 use std::alloc::{AllocError, Global};
 
 // A walk over each window, before the first row.
-fn new_walks<'a>(alloc: Global, pin: &'a Pin) -> Result<Vec<Walk<'a>>, AllocError>
-    ensures { IfOk result (λ v. v.items ≡ map fresh pin.now.windows) }
+fn new_walks<'a>(alloc: Global, pin: &'a Pin) -> Result<Vec<SeenWalk<'a>>, AllocError>
+    ensures { IfOk result (λ v. v.items ≡ map fresh (windows_seen pin.now)) }
 {
+    let inputs = pin.plan().inputs();
+    let windows = pin.windows();
     let mut walks = Vec::new(alloc);
-    for window in pin.windows() {
-        walks.push(Walk::new(alloc, window))?;
+    for (input, window) in inputs.iter().zip(windows) {
+        walks.push(SeenWalk::new(alloc, window, input.places.as_slice()))?;
     }
     Ok(walks)
 }
@@ -38,7 +42,7 @@ pub(crate) fn start<'a, O: Operator>(
     alloc: Global,
     bench: &mut BenchOf<O>,
     pin: &'a Pin,
-) -> Result<Vec<Walk<'a>>, AllocError>
+) -> Result<Vec<SeenWalk<'a>>, AllocError>
     requires { IsBench O.seen_in bench.old }
     ensures bench { IsBench O.seen_in bench.new }
     ensures ready { IfOk result (λ v. IsReady pin.now 0 v.items (bench_seen O.seen_in bench.new)) }
@@ -103,9 +107,9 @@ fn advance_one<'a, O: Operator>(
     tally: &mut Tally,
     pin: &Pin,
     input: usize,
-    walk: Walk<'a>,
+    walk: SeenWalk<'a>,
     cursor: u64,
-) -> Result<Walk<'a>, AllocError>
+) -> Result<SeenWalk<'a>, AllocError>
     requires bench { IsBench O.seen_in bench.old }
     requires runs { RunsPlan pin.now.plan pin.now.limit (bench_seen O.seen_in bench.old) }
     requires input { input < length (ports pin.now.plan) }
@@ -136,16 +140,16 @@ pub(crate) fn advance<'a, O: Operator>(
     bench: &mut BenchOf<O>,
     tally: &mut Tally,
     pin: &Pin,
-    walks: Vec<Walk<'a>>,
+    walks: Vec<SeenWalk<'a>>,
     cursor: u64,
-) -> Result<Vec<Walk<'a>>, AllocError>
+) -> Result<Vec<SeenWalk<'a>>, AllocError>
     requires bench { IsBench O.seen_in bench.old }
     requires ready { IsReady pin.now cursor walks.items (bench_seen O.seen_in bench.old) }
     requires tally { IsTallied pin.now (bench_seen O.seen_in bench.old) tally.old }
     ensures bench { IsBench O.seen_in bench.new }
     ensures ready { IfOk result (λ v. IsReady pin.now cursor v.items (bench_seen O.seen_in bench.new)) }
     ensures tally { OnOk result (IsTallied pin.now (bench_seen O.seen_in bench.new) tally.new) }
-    ensures bags { IfOk result (λ v. bags_held v.items ≡ bags_at cursor pin.now.windows) }
+    ensures bags { IfOk result (λ v. bags_held v.items ≡ bags_at cursor (windows_seen pin.now)) }
     ensures told { OnOk result (told_of pin.now.plan (bench_seen O.seen_in bench.new) ≡ told_of pin.now.plan (bench_seen O.seen_in bench.old)) }
 {
     // The first one goes behind the others, which takes no memory, until each has had its turn.
@@ -165,7 +169,7 @@ fn push_held<'a, O: Operator>(
     tally: &mut Tally,
     pin: &Pin,
     input: usize,
-    walk: &Walk<'a>,
+    walk: &SeenWalk<'a>,
 ) -> Result<(), AllocError>
     requires bench { IsBench O.seen_in bench.old }
     requires runs { RunsPlan pin.now.plan pin.now.limit (bench_seen O.seen_in bench.old) }
@@ -194,12 +198,12 @@ pub(crate) fn restart<'a, O: Operator>(
     alloc: Global,
     bench: &mut BenchOf<O>,
     pin: &Pin,
-    walks: &[Walk<'a>],
+    walks: &[SeenWalk<'a>],
 ) -> Result<Tally, AllocError>
     requires bench { IsBench O.seen_in bench.old }
-    requires walks { (c : ℕ) × AreWalks c (ports pin.now.plan) pin.now.windows walks.now }
+    requires walks { (c : ℕ) × AreWalks c (ports pin.now.plan) (windows_seen pin.now) walks.now }
     ensures bench { IsBench O.seen_in bench.new }
-    ensures ready { OnOk result ((c : ℕ) → AreWalks c (ports pin.now.plan) pin.now.windows walks.now → IsReady pin.now c walks.now (bench_seen O.seen_in bench.new)) }
+    ensures ready { OnOk result ((c : ℕ) → AreWalks c (ports pin.now.plan) (windows_seen pin.now) walks.now → IsReady pin.now c walks.now (bench_seen O.seen_in bench.new)) }
     ensures tally { IfOk result (IsTallied pin.now (bench_seen O.seen_in bench.new)) }
     ensures told { OnOk result (told_of pin.now.plan (bench_seen O.seen_in bench.new) ≡ []) }
 {

@@ -1,27 +1,28 @@
 -- The other laws of the machine and of the meaning.
 use Rattle.std.specs.Prelude.{◌≡◌, ◌≤◌, ◌⊎◌, ℕ, Bool, true, false, ◌==◌, ◌&&◌, ◌||◌, List, [], ◌∷◌, ◌++◌, Option, Some, None, Ok, unwrap_or, if◌then◌else◌}
-use Rattle.std.specs.List.{AllByRecursion}
+use Rattle.std.specs.List.{AllByRecursion, list_any}
 use Rattle.cql_out.specs.declared.told.Block.{Block}
 use Rattle.cql_tenants.specs.declared.tenants.Tenant.{Tenant}
-use Rattle.cql_tenants.specs.Named.{same_name, find_named, each}
+use Rattle.cql_tenants.specs.Named.{same_name, find_named}
 use Rattle.cql_tenants.specs.Home.{nothing_made}
 use Rattle.cql_meaning.specs.declared.command.Command.{Command}
-use Rattle.cql_meaning.specs.declared.command.Command.TheVariants.{Stream, Grant, Put, Beat, Query, Fetch, Ack, Drop, List as Lists}
+use Rattle.cql_meaning.specs.declared.command.Command.TheVariants.{Stream, Grant, Revoke, Put, Beat, Query, Fetch, Ack, Drop, List as Lists}
 use Rattle.cql_meaning.specs.declared.refusal.Refusal.{Refusal}
-use Rattle.cql_meaning.specs.Source.{Source, source_of, BoundInput, BoundPlan}
+use Rattle.cql_meaning.specs.Source.{Source, source_of, same_source, BoundInput, BoundPlan}
 use Rattle.cql_meaning.specs.Told.{Blocks, Refused, is_accepted}
 use Rattle.cql_meaning.specs.Language.{Language, IsLanguage}
 use Rattle.cql_meaning.specs.Checks.{limit_over}
 use Rattle.cql_meaning.specs.Machine.{State, opening, queries_at, reply_to, state_after}
-use Rattle.cql_meaning.specs.View.{Seen, Own, Appears, Comes, Beats, view}
+use Rattle.cql_meaning.specs.View.{Seen, Own, Appears, Gone, Comes, Beats, view}
 use Rattle.cql_meaning.specs.Solo.{Came, Known, nothing_known, base_to, plan_in, meaning, known_after, known_from}
-use Rattle.cql_meaning.specs.Trimmed.{trimmed}
+use Rattle.cql_meaning.specs.Trimmed.{AreKept}
 use Rattle.cql_meaning.specs.Headline.{replies_to}
 
 -- the command is on a stream, and on no query
 abbrev pub is_on_stream : Command → Bool
 is_on_stream (Stream name columns) = true
-is_on_stream (Grant stream to) = true
+is_on_stream (Grant stream to columns) = true
+is_on_stream (Revoke stream to) = true
 is_on_stream (Put stream at row) = true
 is_on_stream (Beat stream at) = true
 is_on_stream (Query name text) = false
@@ -51,11 +52,11 @@ IsReplyLaw language = (table : List Tenant) (calls : List (ℕ × Command)) (ten
     → reply_to language (state_from language (opening table) calls) tenant command
     ≡ meaning language tenant (known_from language tenant (nothing_known table tenant) (view tenant (nothing_made table) calls)) command
 
--- after any commands, what is kept of a tenant's queries is what their windows need of all rows in the tenant's view
+-- after any commands, what is kept of a tenant's queries, by the columns that it sees, is what their windows need of all rows in the tenant's view
 abbrev pub IsStubLaw : Language → Type 0
 IsStubLaw language = (table : List Tenant) (calls : List (ℕ × Command)) (tenant : ℕ)
-    → queries_at (state_from language (opening table) calls).queries tenant
-    ≡ each (trimmed (nothing_known table tenant).quotas.hold) (known_from language tenant (nothing_known table tenant) (view tenant (nothing_made table) calls)).queries
+    → AreKept (nothing_known table tenant).quotas.hold (queries_at (state_from language (opening table) calls).queries tenant)
+    (known_from language tenant (nothing_known table tenant) (view tenant (nothing_made table) calls)).queries
 
 -- a command that is refused changes nothing
 abbrev pub IsRefusalLaw : Language → Type 0
@@ -70,7 +71,8 @@ abbrev pub brought : Language → ℕ → Known → Seen → List Came
 brought language tenant k (Own (Put stream at row)) =
     if is_accepted (meaning language tenant k (Put stream at row)) then record { source = source_of tenant stream; element = record { at = at; row = row } } ∷ [] else []
 brought language tenant k (Own (Stream name columns)) = []
-brought language tenant k (Own (Grant stream to)) = []
+brought language tenant k (Own (Grant stream to columns)) = []
+brought language tenant k (Own (Revoke stream to)) = []
 brought language tenant k (Own (Beat stream at)) = []
 brought language tenant k (Own (Query name text)) = []
 brought language tenant k (Own (Fetch name until)) = []
@@ -78,6 +80,7 @@ brought language tenant k (Own (Ack name to)) = []
 brought language tenant k (Own (Drop name)) = []
 brought language tenant k (Own Lists) = []
 brought language tenant k (Appears name s) = []
+brought language tenant k (Gone source) = []
 brought language tenant k (Comes source x) = record { source = source; element = x } ∷ []
 brought language tenant k (Beats source at) = []
 
@@ -90,7 +93,8 @@ elements_in language tenant k (e ∷ es) = brought language tenant k e ++ elemen
 abbrev pub drops : Language → ℕ → Known → List ℕ → Seen → Bool
 drops language tenant k name (Own (Drop other)) = same_name name other && is_accepted (meaning language tenant k (Drop other))
 drops language tenant k name (Own (Stream other columns)) = false
-drops language tenant k name (Own (Grant stream to)) = false
+drops language tenant k name (Own (Grant stream to columns)) = false
+drops language tenant k name (Own (Revoke stream to)) = false
 drops language tenant k name (Own (Put stream at row)) = false
 drops language tenant k name (Own (Beat stream at)) = false
 drops language tenant k name (Own (Query other text)) = false
@@ -98,6 +102,7 @@ drops language tenant k name (Own (Fetch other until)) = false
 drops language tenant k name (Own (Ack other to)) = false
 drops language tenant k name (Own Lists) = false
 drops language tenant k name (Appears other s) = false
+drops language tenant k name (Gone source) = false
 drops language tenant k name (Comes source x) = false
 drops language tenant k name (Beats source at) = false
 
@@ -109,7 +114,8 @@ is_dropped language tenant k name (e ∷ es) = drops language tenant k name e ||
 abbrev pub ack_of : Language → ℕ → Known → List ℕ → Seen → Option ℕ
 ack_of language tenant k name (Own (Ack other to)) = if same_name name other && is_accepted (meaning language tenant k (Ack other to)) then Some to else None
 ack_of language tenant k name (Own (Stream other columns)) = None
-ack_of language tenant k name (Own (Grant stream to)) = None
+ack_of language tenant k name (Own (Grant stream to columns)) = None
+ack_of language tenant k name (Own (Revoke stream to)) = None
 ack_of language tenant k name (Own (Put stream at row)) = None
 ack_of language tenant k name (Own (Beat stream at)) = None
 ack_of language tenant k name (Own (Query other text)) = None
@@ -117,6 +123,7 @@ ack_of language tenant k name (Own (Fetch other until)) = None
 ack_of language tenant k name (Own (Drop other)) = None
 ack_of language tenant k name (Own Lists) = None
 ack_of language tenant k name (Appears other s) = None
+ack_of language tenant k name (Gone source) = None
 ack_of language tenant k name (Comes source x) = None
 ack_of language tenant k name (Beats source at) = None
 
@@ -125,7 +132,19 @@ abbrev pub last_ack : Language → ℕ → Known → List ℕ → ℕ → List S
 last_ack language tenant k name before [] = before
 last_ack language tenant k name before (e ∷ es) = last_ack language tenant (known_after language tenant k e) name (unwrap_or (ack_of language tenant k name e) before) es
 
--- Where an accepted registration has no accepted drop of its name after it, the query is there: its base is the least time that its inputs took at the registration, its rows are the elements accepted on each of them after it, and its cursor is the `to` of the last accepted ack since, else the base.
+-- the grant of a stream of one of the plan's inputs is taken back
+abbrev pub loses : BoundPlan → Seen → Bool
+loses plan (Gone source) = list_any (λ i. same_source i.source source) plan.inputs
+loses plan (Own command) = false
+loses plan (Appears name s) = false
+loses plan (Comes source x) = false
+loses plan (Beats source at) = false
+
+abbrev pub is_lost : BoundPlan → List Seen → Bool
+is_lost plan [] = false
+is_lost plan (e ∷ es) = loses plan e || is_lost plan es
+
+-- Where an accepted registration has no accepted drop of its name after it, the query is there: its base is the least time that its inputs took at the registration, its rows are the elements accepted on each of them after it, its cursor is the `to` of the last accepted ack since, else the base, and it is gone where the grant of one of its streams was taken back since.
 abbrev pub IsQueryLaw : Language → Type 0
 IsQueryLaw language = (table : List Tenant) (tenant : ℕ) (before after : List Seen) (name text : List ℕ) (plan : BoundPlan)
     → plan_in language tenant (known_from language tenant (nothing_known table tenant) before) text ≡ Ok plan
@@ -138,6 +157,7 @@ IsQueryLaw language = (table : List Tenant) (tenant : ℕ) (before after : List 
       base = base_to tenant (known_from language tenant (nothing_known table tenant) before) plan;
       cursor = last_ack language tenant (known_from language tenant (nothing_known table tenant) (before ++ Own (Query name text) ∷ [])) name (base_to tenant (known_from language tenant (nothing_known table tenant) before) plan) after;
       came = elements_in language tenant (known_from language tenant (nothing_known table tenant) (before ++ Own (Query name text) ∷ [])) after;
+      gone = is_lost plan after;
     })
 
 -- an input's stream takes just this

@@ -14,3 +14,4 @@ pub mod Law
 pub mod Rows
 pub mod Order
 pub mod Binding
+pub mod Hidden

@@ -1,38 +1,38 @@
--- The machine: for each live query it keeps a stub on each of its inputs, trimmed behind the query's cursor.
-use Rattle.std.specs.Prelude.{ℕ, Bool, List, [], ◌∷◌, ◌++◌, map, length, get_or, set, Option, Some, None, Result, Ok, Err, is_some, nat_lt, if◌then◌else◌}
+-- The machine: for each live query it keeps a stub on each of its inputs, trimmed behind the query's cursor. A stub holds whole rows.
+use Rattle.std.specs.Prelude.{ℕ, Bool, List, [], ◌∷◌, ◌++◌, map, length, get_or, set, Option, Some, None, option_map, unwrap_or, Result, Ok, Err, is_some, is_none, nat_lt, if◌then◌else◌}
 use Rattle.std.specs.List.{list_any}
 use Rattle.cql_value.specs.Element.{Element}
 use Rattle.cql_value.specs.Name.{is_name}
 use Rattle.cql_store.specs.Held.{Held, opened, fed, advanced, pinned}
+use Rattle.cql_eval.specs.Pin.{PinSeen}
 use Rattle.cql_tenants.specs.declared.home.Home.{Home}
 use Rattle.cql_tenants.specs.declared.tenants.Tenant.{Tenant}
 use Rattle.cql_tenants.specs.Named.{Named, find_named, change_named, remove_named, each}
-use Rattle.cql_tenants.specs.Home.{nothing_made, is_place, home_at}
+use Rattle.cql_tenants.specs.Home.{nothing_made, is_place, home_at, tenant_named}
 use Rattle.cql_tenants.specs.Readable.{own_stream, read_stream}
-use Rattle.cql_eval.specs.Pin.{PinSeen}
 use Rattle.cql_meaning.specs.declared.command.Command.{Command}
-use Rattle.cql_meaning.specs.declared.command.Command.TheVariants.{Stream, Grant, Put, Beat, Query, Fetch, Ack, Drop, List as Lists}
+use Rattle.cql_meaning.specs.declared.command.Command.TheVariants.{Stream, Grant, Revoke, Put, Beat, Query, Fetch, Ack, Drop, List as Lists}
 use Rattle.cql_meaning.specs.declared.listing.OwnQuery.{OwnQuery}
 use Rattle.cql_meaning.specs.declared.refusal.Refusal.{Refusal}
 use Rattle.cql_meaning.specs.declared.refusal.Refusal.TheVariants.{UnknownTenant, UnknownQuery}
 use Rattle.cql_meaning.specs.Source.{Source, source_of, same_source, BoundInput, BoundPlan}
 use Rattle.cql_meaning.specs.Told.{Told, Listed, Refused, is_accepted, Stepped, Says, Pinned}
-use Rattle.cql_meaning.specs.Language.{Language, plan_over, told_of_pin}
+use Rattle.cql_meaning.specs.Language.{Language, plan_at, told_of_pin}
 use Rattle.cql_meaning.specs.Checks.{check_query, check_fetch, check_ack, check_drop, limit_over, next_of, is_behind}
-use Rattle.cql_meaning.specs.Directory.{reply_to_stream, reply_to_grant, reply_to_put, reply_to_beat, directory_after, found_by, opened_in}
+use Rattle.cql_meaning.specs.Directory.{reply_to_stream, reply_to_grant, reply_to_revoke, reply_to_put, reply_to_beat, directory_after, found_by, opened_in, places_in}
 
--- a query's place on one of its inputs: the input's stream, and what is held there
+-- a query's place on one of its inputs: the input's stream, and what is held there of whole rows
 pub record Stub : Type 0 where
   pub source : Source
   pub held : Held
 
--- a live query, with a stub for each input
+-- a live query, its plan over whole rows, with a stub for each input; one that was revoked has none
 pub record Live : Type 0 where
   pub plan : BoundPlan
   pub text : List ℕ
   pub base : ℕ
   pub cursor : ℕ
-  pub stubs : List Stub
+  pub stubs : Option (List Stub)
 
 -- the directory, and beside each home the tenant's live queries in order of registration
 pub record State : Type 0 where
@@ -55,11 +55,11 @@ abbrev pub new_stub : ℕ → ℕ → BoundInput → Stub
 new_stub hold base i = record { source = i.source; held = opened i.window base hold }
 
 abbrev pub new_live : ℕ → ℕ → List ℕ → BoundPlan → Live
-new_live hold base text plan = record { plan = plan; text = text; base = base; cursor = base; stubs = map (new_stub hold base) plan.inputs }
+new_live hold base text plan = record { plan = plan; text = text; base = base; cursor = base; stubs = Some (map (new_stub hold base) plan.inputs) }
 
--- the plan of a text over the streams that the tenant reads
+-- the plan of a text over the streams that the tenant reads: it is typed over the columns that the tenant sees, at their places in the whole rows
 abbrev pub plan_for : Language → List Home → ℕ → List ℕ → Result BoundPlan Refusal
-plan_for language homes user text = plan_over language (found_by homes user) text
+plan_for language homes user text = plan_at language (places_in homes user) (found_by homes user) text
 
 -- the base of a plan: the least time that its inputs still take
 abbrev pub base_in : List Home → BoundPlan → ℕ
@@ -80,7 +80,7 @@ abbrev pub put_on : Source → Element → Stub → Stub
 put_on source x stub = if same_source stub.source source then record stub { held = fed x stub.held } else stub
 
 abbrev pub put_live : Source → Element → Live → Live
-put_live source x q = record q { stubs = map (put_on source x) q.stubs }
+put_live source x q = record q { stubs = option_map (map (put_on source x)) q.stubs }
 
 -- AN ACK
 -- a stub at a later cursor
@@ -88,10 +88,16 @@ abbrev pub ack_stub : ℕ → Stub → Stub
 ack_stub to stub = record stub { held = advanced to stub.held }
 
 abbrev pub ack_live : ℕ → Live → Live
-ack_live to q = record q { cursor = to; stubs = map (ack_stub to) q.stubs }
+ack_live to q = record q { cursor = to; stubs = option_map (map (ack_stub to)) q.stubs }
+
+abbrev pub stubs_left : Live → List Stub
+stubs_left q = unwrap_or q.stubs []
+
+abbrev pub is_revoked : Live → Bool
+is_revoked q = is_none q.stubs
 
 abbrev pub is_overrun : Live → Bool
-is_overrun q = list_any (λ stub. stub.held.overrun) q.stubs
+is_overrun q = list_any (λ stub. stub.held.overrun) (stubs_left q)
 
 -- how far a query may look: the least time that its inputs still take
 abbrev pub limit_in : List Home → Live → ℕ
@@ -99,12 +105,25 @@ limit_in homes q = limit_over (opened_in homes) q.plan.inputs
 
 abbrev pub reply_to_ack : List Home → Option Live → ℕ → Told
 reply_to_ack homes None to = Refused UnknownQuery
-reply_to_ack homes (Some q) to = check_ack (is_overrun q) (nat_lt (limit_in homes q) to) (nat_lt to q.cursor)
+reply_to_ack homes (Some q) to = check_ack (is_revoked q) (is_overrun q) (nat_lt (limit_in homes q) to) (nat_lt to q.cursor)
+
+-- A REVOKE
+-- a query with an input on the stream loses all its stubs, also those on other streams
+abbrev pub is_over : Source → BoundPlan → Bool
+is_over source plan = list_any (λ i. same_source i.source source) plan.inputs
+
+abbrev pub revoke_live : Source → Live → Live
+revoke_live source q = if is_over source q.plan then record q { stubs = None } else q
+
+-- those of the tenant that loses the grant
+abbrev pub queries_revoked : Source → Option ℕ → List (List (Named Live)) → List (List (Named Live))
+queries_revoked source None queries = queries
+queries_revoked source (Some place) queries = set queries place (each (revoke_live source) (queries_at queries place))
 
 -- A FETCH
 -- what a fetch takes out: of each stub its content, and its unseen rows before the end
 abbrev pub pin_of : ℕ → Live → ℕ → PinSeen
-pin_of result q next = record { plan = q.plan.plan; base = q.base; from = q.cursor; next = next; limit = result; windows = map (λ stub. pinned next stub.held) q.stubs }
+pin_of result q next = record { plan = q.plan.plan; base = q.base; from = q.cursor; next = next; limit = result; windows = map (λ stub. pinned next stub.held) (stubs_left q) }
 
 abbrev pub reads : Language → Stepped → Told
 reads language (Says told) = told
@@ -117,7 +136,7 @@ pin_unless (Some refusal) p = Says (Refused refusal)
 abbrev pub step_of_fetch : List Home → ℕ → Option Live → Option ℕ → Stepped
 step_of_fetch homes result None until = Says (Refused UnknownQuery)
 step_of_fetch homes result (Some q) until =
-    pin_unless (check_fetch (is_overrun q) (is_behind q.cursor until)) (pin_of result q (next_of (limit_in homes q) until))
+    pin_unless (check_fetch (is_revoked q) (is_overrun q) (is_behind q.cursor until)) (pin_of result q (next_of (limit_in homes q) until))
 
 -- A LIST
 abbrev pub own_query : Named Live → OwnQuery
@@ -135,7 +154,8 @@ reply_to_list s user =
 -- the step of a tenant that is in the table
 abbrev pub step_at : Language → State → ℕ → Command → Stepped
 step_at language s user (Stream name columns) = Says (reply_to_stream s.homes user name columns)
-step_at language s user (Grant stream to) = Says (reply_to_grant s.homes user stream to)
+step_at language s user (Grant stream to columns) = Says (reply_to_grant s.homes user stream to columns)
+step_at language s user (Revoke stream to) = Says (reply_to_revoke s.homes user stream to)
 step_at language s user (Put stream at row) = Says (reply_to_put s.homes user stream at row)
 step_at language s user (Beat stream at) = Says (reply_to_beat s.homes user stream at)
 step_at language s user (Query name text) = Says (reply_to_query language s user name text)
@@ -155,7 +175,11 @@ reply_to language s user command = reads language (step_of language s user comma
 -- the queries after a command of a tenant that is in the table; one that is refused changes nothing, and a fetch never does
 abbrev pub queries_after : Language → State → ℕ → Command → List (List (Named Live))
 queries_after language s user (Stream name columns) = s.queries
-queries_after language s user (Grant stream to) = s.queries
+queries_after language s user (Grant stream to columns) = s.queries
+queries_after language s user (Revoke stream to) =
+    if is_accepted (reply_to_revoke s.homes user stream to)
+    then queries_revoked (source_of user stream) (tenant_named s.homes user to) s.queries
+    else s.queries
 queries_after language s user (Put stream at row) =
     if is_accepted (reply_to_put s.homes user stream at row)
     then map (each (put_live (source_of user stream) (record { at = at; row = row }))) s.queries

@@ -1,20 +1,22 @@
 -- The order of checks: of each command, the refusal that is told is that of the first check in the order whose fault is there.
-use Rattle.std.specs.Prelude.{◌≡◌, ◌≤◌, ◌<◌, ℕ, ◌-◌, ◌^◌, Bool, true, false, ◌==◌, not, List, [], ◌∷◌, map, length, min, Option, Some, None, Ok, Err, is_some, is_none, unwrap_or, nat_lt}
+use Rattle.std.specs.Prelude.{◌≡◌, ◌≤◌, ◌<◌, ℕ, ◌-◌, ◌^◌, Bool, true, false, ◌==◌, not, List, [], ◌∷◌, map, length, min, Option, Some, None, option_map, Ok, Err, is_some, is_none, unwrap_or, nat_lt}
 use Rattle.cql_value.specs.declared.value.Value.{Value}
 use Rattle.cql_value.specs.Name.{is_name}
 use Rattle.cql_value.specs.Schema.{is_row_of}
 use Rattle.cql_window.specs.Window.{content}
 use Rattle.cql_eval.specs.Pin.{PinSeen}
 use Rattle.cql_tenants.specs.declared.stream.Stream.{Stream as Clocked}
+use Rattle.cql_value.specs.declared.schema.Column.{Column}
 use Rattle.cql_tenants.specs.Named.{find_named}
+use Rattle.cql_tenants.specs.Chosen.{is_shown}
 use Rattle.cql_meaning.specs.declared.command.ColumnText.{ColumnText}
-use Rattle.cql_meaning.specs.declared.command.Command.TheVariants.{Stream, Grant, Put, Beat, Query, Fetch, Ack, Drop, List as Lists}
+use Rattle.cql_meaning.specs.declared.command.Command.TheVariants.{Stream, Grant, Revoke, Put, Beat, Query, Fetch, Ack, Drop, List as Lists}
 use Rattle.cql_meaning.specs.declared.refusal.Refusal.{Refusal}
-use Rattle.cql_meaning.specs.declared.refusal.Refusal.TheVariants.{StreamExists, BadName, BadColumns, TooManyStreams, UnknownStream, UnknownTenant, AlreadyGranted, SelfGrant, WrongRow, Late, AtTooLarge, BadQuery, TooManyQueries, QueryExists, UnknownQuery, Overrun, Ahead, Behind}
+use Rattle.cql_meaning.specs.declared.refusal.Refusal.TheVariants.{StreamExists, BadName, BadColumns, TooManyStreams, UnknownStream, UnknownTenant, AlreadyGranted, SelfGrant, BadGrantColumns, NotGranted, WrongRow, Late, AtTooLarge, BadQuery, TooManyQueries, QueryExists, UnknownQuery, Overrun, Ahead, Behind, Revoked}
 use Rattle.cql_meaning.specs.Columns.{schema_of}
 use Rattle.cql_meaning.specs.Source.{BoundPlan}
 use Rattle.cql_meaning.specs.Told.{Told, Done, Based, Blocks, Refused}
-use Rattle.cql_meaning.specs.Language.{Language, contents_at, IsLanguage}
+use Rattle.cql_meaning.specs.Language.{Language, bare, through_places, contents_at, IsLanguage}
 use Rattle.cql_meaning.specs.Solo.{Asked, Known, tenant_in, is_given, plan_in, base_to, limit_to, passes, rows_on, meaning_of_list, meaning}
 
 -- a check: whether its fault is there, and the refusal for it
@@ -49,10 +51,20 @@ abbrev pub is_given_to : Known → List ℕ → Option ℕ → Bool
 is_given_to k stream None = false
 is_given_to k stream (Some place) = is_given k place stream
 
+-- the columns of a stream of the tenant's own
+abbrev pub schema_in : Known → List ℕ → List Column
+schema_in k stream = unwrap_or (option_map (λ s. s.schema) (find_named k.streams stream)) []
+
 -- over the place of the tenant of the name
-abbrev pub grant_checks : ℕ → Known → List ℕ → Option ℕ → List Check
-grant_checks tenant k stream place =
-    check (is_none (find_named k.streams stream)) UnknownStream ∷ check (is_none place) UnknownTenant ∷ check (is_itself tenant place) SelfGrant ∷ check (is_given_to k stream place) AlreadyGranted ∷ []
+abbrev pub grant_checks : ℕ → Known → List ℕ → Option (List (List ℕ)) → Option ℕ → List Check
+grant_checks tenant k stream columns place =
+    check (is_none (find_named k.streams stream)) UnknownStream ∷ check (is_none place) UnknownTenant ∷ check (is_itself tenant place) SelfGrant
+    ∷ check (not (is_shown (schema_in k stream) columns)) BadGrantColumns ∷ check (is_given_to k stream place) AlreadyGranted ∷ []
+
+-- a revoke, over the place of the tenant of the name
+abbrev pub revoke_checks : ℕ → Known → List ℕ → Option ℕ → List Check
+revoke_checks tenant k stream place =
+    check (is_none (find_named k.streams stream)) UnknownStream ∷ check (is_none place) UnknownTenant ∷ check (is_itself tenant place) NotGranted ∷ check (not (is_given_to k stream place)) NotGranted ∷ []
 
 abbrev pub no_stream : List Check
 no_stream = check true UnknownStream ∷ []
@@ -73,25 +85,29 @@ query_checks language k name text =
 abbrev pub no_query : List Check
 no_query = check true UnknownQuery ∷ []
 
+abbrev pub gone_check : Asked → Check
+gone_check q = check q.gone Revoked
+
 abbrev pub overrun_check : Known → Asked → Check
 overrun_check k q = check (passes k.quotas.hold q) Overrun
 
 abbrev pub behind_check : Asked → ℕ → Check
 behind_check q at = check (nat_lt at q.cursor) Behind
 
--- A pin of a query on the instants from its cursor to before another: nothing is held up to the base, and after it what the windows hold of all rows that came since the registration.
+-- A pin of a query on the instants from its cursor to before another: nothing is held up to the base, and after it what the windows hold of all rows that came since the registration, each through its input's places.
 pub record ShowsWhole (q : Asked) (result end : ℕ) (p : PinSeen) : Type 0 where
-  pub plan : p.plan ≡ q.plan.plan
+  pub plan : bare p.plan ≡ bare q.plan.plan
   pub limit : p.limit ≡ result
   pub from : p.from ≡ q.cursor
   pub next : p.next ≡ end
   pub before : (c : ℕ) → c ≤ q.base → contents_at p c ≡ None
-  pub since : (c : ℕ) → q.base < c → contents_at p c ≡ Some (map (λ i. content i.window c [] (rows_on i.source q.came)) q.plan.inputs)
+  pub since : (c : ℕ) → q.base < c → contents_at p c ≡ Some (through_places q.plan.plan.inputs (map (λ i. content i.window c [] (rows_on i.source q.came)) q.plan.inputs))
 
 -- Of each command its checks in their order, and what it is told where no fault is there. Of a fetch that is the blocks of any pin that shows the query whole up to the limit, or up to `until` where that is less; there is such a pin.
 pub record OrderLaw (language : Language) (tenant : ℕ) (k : Known) : Type 0 where
   pub make : (name : List ℕ) (columns : List ColumnText) → Tells tenant k (stream_checks k name columns) Done (meaning language tenant k (Stream name columns))
-  pub grant : (stream to : List ℕ) → Tells tenant k (grant_checks tenant k stream (tenant_in tenant k to)) Done (meaning language tenant k (Grant stream to))
+  pub grant : (stream to : List ℕ) (columns : Option (List (List ℕ))) → Tells tenant k (grant_checks tenant k stream columns (tenant_in tenant k to)) Done (meaning language tenant k (Grant stream to columns))
+  pub revoke : (stream to : List ℕ) → Tells tenant k (revoke_checks tenant k stream (tenant_in tenant k to)) Done (meaning language tenant k (Revoke stream to))
   pub put_nowhere : (name : List ℕ) (at : ℕ) (row : List Value) → find_named k.streams name ≡ None → Tells tenant k no_stream Done (meaning language tenant k (Put name at row))
   pub put : (name : List ℕ) (at : ℕ) (row : List Value) (s : Clocked) → find_named k.streams name ≡ Some s → Tells tenant k (row_checks s at row) Done (meaning language tenant k (Put name at row))
   pub beat_nowhere : (name : List ℕ) (at : ℕ) → find_named k.streams name ≡ None → Tells tenant k no_stream Done (meaning language tenant k (Beat name at))
@@ -100,12 +116,12 @@ pub record OrderLaw (language : Language) (tenant : ℕ) (k : Known) : Type 0 wh
   pub query : (name text : List ℕ) (plan : BoundPlan) → plan_in language tenant k text ≡ Ok plan → Tells tenant k (query_checks language k name text) (Based (base_to tenant k plan)) (meaning language tenant k (Query name text))
   pub fetch_nothing : (name : List ℕ) (until : Option ℕ) → find_named k.queries name ≡ None → Tells tenant k no_query Done (meaning language tenant k (Fetch name until))
   pub fetch : (name : List ℕ) (q : Asked) (p : PinSeen) → find_named k.queries name ≡ Some q → ShowsWhole q k.quotas.result (limit_to tenant k q) p
-      → Tells tenant k (overrun_check k q ∷ []) (Blocks (language.blocks_of p) (limit_to tenant k q)) (meaning language tenant k (Fetch name None))
+      → Tells tenant k (gone_check q ∷ overrun_check k q ∷ []) (Blocks (language.blocks_of p) (limit_to tenant k q)) (meaning language tenant k (Fetch name None))
   pub fetch_until : (name : List ℕ) (until : ℕ) (q : Asked) (p : PinSeen) → find_named k.queries name ≡ Some q → ShowsWhole q k.quotas.result (min (limit_to tenant k q) until) p
-      → Tells tenant k (overrun_check k q ∷ behind_check q until ∷ []) (Blocks (language.blocks_of p) (min (limit_to tenant k q) until)) (meaning language tenant k (Fetch name (Some until)))
+      → Tells tenant k (gone_check q ∷ overrun_check k q ∷ behind_check q until ∷ []) (Blocks (language.blocks_of p) (min (limit_to tenant k q) until)) (meaning language tenant k (Fetch name (Some until)))
   pub ack_nothing : (name : List ℕ) (to : ℕ) → find_named k.queries name ≡ None → Tells tenant k no_query Done (meaning language tenant k (Ack name to))
   pub ack : (name : List ℕ) (to : ℕ) (q : Asked) → find_named k.queries name ≡ Some q
-      → Tells tenant k (overrun_check k q ∷ check (nat_lt (limit_to tenant k q) to) Ahead ∷ behind_check q to ∷ []) Done (meaning language tenant k (Ack name to))
+      → Tells tenant k (gone_check q ∷ overrun_check k q ∷ check (nat_lt (limit_to tenant k q) to) Ahead ∷ behind_check q to ∷ []) Done (meaning language tenant k (Ack name to))
   pub drop : (name : List ℕ) → Tells tenant k (check (is_none (find_named k.queries name)) UnknownQuery ∷ []) Done (meaning language tenant k (Drop name))
   pub pin : (q : Asked) (result end : ℕ) → (p : PinSeen) × ShowsWhole q result end p
   pub list : Tells tenant k [] (meaning_of_list k) (meaning language tenant k Lists)

@@ -1,6 +1,6 @@
 -- What a view means by itself: one tenant, and of each of its queries all rows that came since its registration. Nothing is trimmed.
-use Rattle.std.specs.Prelude.{ℕ, ◌+◌, Bool, ◌==◌, List, [], ◌∷◌, ◌++◌, map, length, get_or, Option, Some, None, option_map, option_and_then, unwrap_or, Result, Ok, Err, is_some, nat_lt, if◌then◌else◌}
-use Rattle.std.specs.List.{list_any, position}
+use Rattle.std.specs.Prelude.{ℕ, ◌+◌, Bool, false, not, ◌||◌, ◌==◌, List, [], ◌∷◌, ◌++◌, map, length, get_or, Option, Some, None, option_map, option_and_then, unwrap_or, Result, Ok, Err, is_some, nat_lt, if◌then◌else◌}
+use Rattle.std.specs.List.{list_any, filter, position}
 use Rattle.cql_value.specs.declared.value.Value.{Value}
 use Rattle.cql_value.specs.declared.schema.Column.{Column}
 use Rattle.cql_value.specs.Element.{Element}
@@ -14,13 +14,14 @@ use Rattle.cql_tenants.specs.declared.stream.Stream.{Stream as stream}
 use Rattle.cql_tenants.specs.declared.tenants.Quotas.{Quotas}
 use Rattle.cql_tenants.specs.declared.tenants.Tenant.{Tenant}
 use Rattle.cql_tenants.specs.Named.{Named, same_name, find_named, change_named, remove_named, each}
+use Rattle.cql_tenants.specs.Chosen.{is_shown}
 use Rattle.cql_tenants.specs.Home.{no_home}
 use Rattle.cql_tenants.specs.Checks.{put_refused, beat_refused}
 use Rattle.cql_tenants.specs.Directory.{opens}
-use Rattle.cql_tenants.specs.Readable.{StreamSeen, own_stream}
+use Rattle.cql_tenants.specs.Readable.{StreamSeen, own_stream, named_columns}
 use Rattle.cql_meaning.specs.declared.command.ColumnText.{ColumnText}
 use Rattle.cql_meaning.specs.declared.command.Command.{Command}
-use Rattle.cql_meaning.specs.declared.command.Command.TheVariants.{Stream, Grant, Put, Beat, Query, Fetch, Ack, Drop, List as Lists}
+use Rattle.cql_meaning.specs.declared.command.Command.TheVariants.{Stream, Grant, Revoke, Put, Beat, Query, Fetch, Ack, Drop, List as Lists}
 use Rattle.cql_meaning.specs.declared.listing.OwnQuery.{OwnQuery}
 use Rattle.cql_meaning.specs.declared.refusal.Refusal.{Refusal}
 use Rattle.cql_meaning.specs.declared.refusal.Refusal.TheVariants.{UnknownTenant, UnknownQuery}
@@ -29,20 +30,21 @@ use Rattle.cql_meaning.specs.Source.{Source, source_of, same_source, Found, Boun
 use Rattle.cql_meaning.specs.Told.{Told, told_of, Listed, Refused, is_accepted}
 use Rattle.cql_meaning.specs.Language.{Language, plan_over, told_of_pin}
 use Rattle.cql_meaning.specs.Checks.{check_query, check_fetch, check_ack, check_drop, limit_over, next_of, is_behind}
-use Rattle.cql_meaning.specs.View.{Seen, Own, Appears, Comes, Beats}
+use Rattle.cql_meaning.specs.View.{Seen, Own, Appears, Gone, Comes, Beats}
 
 -- an element, and the stream that it came on
 pub record Came : Type 0 where
   pub source : Source
   pub element : Element
 
--- a live query, with all elements that came since its registration
+-- a live query, its plan over the columns that are seen, with all elements that came since its registration, and whether the grant of one of its streams was taken back since then
 pub record Asked : Type 0 where
   pub plan : BoundPlan
   pub text : List ℕ
   pub base : ℕ
   pub cursor : ℕ
   pub came : List Came
+  pub gone : Bool
 
 -- what a tenant knows: the names of all tenants, its quotas, its streams in order of making, its own grants (the place of the reader and the name of the stream), the streams that were granted to it in order of the grants, and its live queries in order of registration
 pub record Known : Type 0 where
@@ -69,7 +71,7 @@ granted_in (g ∷ gs) source = if same_source source (source_of g.item.owner g.n
 abbrev pub stream_in : ℕ → Known → Source → Option StreamSeen
 stream_in tenant k source =
     if source.owner == tenant
-    then option_map (λ s. record { owner = tenant; schema = s.schema; opened = s.clock }) (find_named k.streams source.name)
+    then option_map (λ s. record { owner = tenant; schema = s.schema; named = false; opened = s.clock }) (find_named k.streams source.name)
     else granted_in k.readable source
 
 -- with nothing before the dot a stream is the tenant's own
@@ -130,13 +132,27 @@ meaning_of_stream k name columns = told_of (stream_refused k name (schema_of col
 abbrev pub is_given : Known → ℕ → List ℕ → Bool
 is_given k to stream = list_any (λ g. same_source (source_of to stream) g) k.given
 
--- a tenant of that name, not the owner itself, to which it wasn't granted before
-abbrev pub reader_refused : ℕ → Known → List ℕ → Option ℕ → Option StreamRefusal
-reader_refused tenant k stream None = Some refused.UnknownTenant
-reader_refused tenant k stream (Some to) = if to == tenant then Some refused.SelfGrant else (if is_given k to stream then Some refused.AlreadyGranted else None)
+-- a tenant of that name, not the owner itself, columns that a grant may show, and no grant to that tenant that still stands
+abbrev pub reader_refused : ℕ → Known → List ℕ → List Column → Option (List (List ℕ)) → Option ℕ → Option StreamRefusal
+reader_refused tenant k stream schema columns None = Some refused.UnknownTenant
+reader_refused tenant k stream schema columns (Some to) =
+    if to == tenant then Some refused.SelfGrant else
+    if is_shown schema columns then (if is_given k to stream then Some refused.AlreadyGranted else None) else Some refused.BadGrantColumns
 
-abbrev pub meaning_of_grant : ℕ → Known → List ℕ → List ℕ → Told
-meaning_of_grant tenant k stream to = told_of (if is_some (find_named k.streams stream) then reader_refused tenant k stream (tenant_in tenant k to) else Some refused.UnknownStream)
+abbrev pub given_refused : ℕ → Known → List ℕ → Option stream → Option (List (List ℕ)) → Option ℕ → Option StreamRefusal
+given_refused tenant k stream None columns to = Some refused.UnknownStream
+given_refused tenant k stream (Some s) columns to = reader_refused tenant k stream s.schema columns to
+
+abbrev pub meaning_of_grant : ℕ → Known → List ℕ → List ℕ → Option (List (List ℕ)) → Told
+meaning_of_grant tenant k stream to columns = told_of (given_refused tenant k stream (find_named k.streams stream) columns (tenant_in tenant k to))
+
+-- a tenant of that name, to which the stream is granted
+abbrev pub loser_refused : ℕ → Known → List ℕ → Option ℕ → Option StreamRefusal
+loser_refused tenant k stream None = Some refused.UnknownTenant
+loser_refused tenant k stream (Some to) = if to == tenant then Some refused.NotGranted else (if is_given k to stream then None else Some refused.NotGranted)
+
+abbrev pub meaning_of_revoke : ℕ → Known → List ℕ → List ℕ → Told
+meaning_of_revoke tenant k stream to = told_of (if is_some (find_named k.streams stream) then loser_refused tenant k stream (tenant_in tenant k to) else Some refused.UnknownStream)
 
 abbrev pub meaning_of_put : Known → List ℕ → ℕ → List Value → Told
 meaning_of_put k stream at row = told_of (put_refused (find_named k.streams stream) at row)
@@ -158,17 +174,17 @@ meaning_of_query language tenant k name text =
 abbrev pub meaning_of_fetch : Language → ℕ → Known → Option Asked → Option ℕ → Told
 meaning_of_fetch language tenant k None until = Refused UnknownQuery
 meaning_of_fetch language tenant k (Some q) until =
-    told_unless (check_fetch (passes k.quotas.hold q) (is_behind q.cursor until)) (blocks_over language k.quotas.result q (next_of (limit_to tenant k q) until))
+    told_unless (check_fetch q.gone (passes k.quotas.hold q) (is_behind q.cursor until)) (blocks_over language k.quotas.result q (next_of (limit_to tenant k q) until))
 
 abbrev pub meaning_of_ack : ℕ → Known → Option Asked → ℕ → Told
 meaning_of_ack tenant k None to = Refused UnknownQuery
-meaning_of_ack tenant k (Some q) to = check_ack (passes k.quotas.hold q) (nat_lt (limit_to tenant k q) to) (nat_lt to q.cursor)
+meaning_of_ack tenant k (Some q) to = check_ack q.gone (passes k.quotas.hold q) (nat_lt (limit_to tenant k q) to) (nat_lt to q.cursor)
 
 abbrev pub meaning_of_drop : Known → List ℕ → Told
 meaning_of_drop k name = check_drop (is_some (find_named k.queries name))
 
 abbrev pub shown_stream : Known → Named StreamSeen → ReadStream
-shown_stream k g = record { owner = get_or k.names g.item.owner []; stream = g.name; opened = g.item.opened }
+shown_stream k g = record { owner = get_or k.names g.item.owner []; stream = g.name; columns = named_columns g.item.named g.item.schema; opened = g.item.opened }
 
 abbrev pub shown_query : Named Asked → OwnQuery
 shown_query q = record { name = q.name; text = q.item.text; base = q.item.base; next = q.item.cursor }
@@ -179,7 +195,8 @@ meaning_of_list k = Listed (record { streams = map own_stream k.streams; readabl
 -- the meaning of a command of the tenant's own, where it is in the table
 abbrev pub own_meaning : Language → ℕ → Known → Command → Told
 own_meaning language tenant k (Stream name columns) = meaning_of_stream k name columns
-own_meaning language tenant k (Grant stream to) = meaning_of_grant tenant k stream to
+own_meaning language tenant k (Grant stream to columns) = meaning_of_grant tenant k stream to columns
+own_meaning language tenant k (Revoke stream to) = meaning_of_revoke tenant k stream to
 own_meaning language tenant k (Put stream at row) = meaning_of_put k stream at row
 own_meaning language tenant k (Beat stream at) = meaning_of_beat k stream at
 own_meaning language tenant k (Query name text) = meaning_of_query language tenant k name text
@@ -203,7 +220,7 @@ abbrev pub open_granted : Source → ℕ → Named StreamSeen → Named StreamSe
 open_granted source at g = if same_source source (source_of g.item.owner g.name) then record g { item = record g.item { opened = at } } else g
 
 abbrev pub new_asked : (BoundPlan → ℕ) → List ℕ → BoundPlan → Asked
-new_asked base_of text plan = record { plan = plan; text = text; base = base_of plan; cursor = base_of plan; came = [] }
+new_asked base_of text plan = record { plan = plan; text = text; base = base_of plan; cursor = base_of plan; came = []; gone = false }
 
 abbrev pub with_asked : (BoundPlan → ℕ) → List ℕ → List ℕ → Result BoundPlan Refusal → List (Named Asked) → List (Named Asked)
 with_asked base_of name text (Err refusal) queries = queries
@@ -217,10 +234,22 @@ abbrev pub with_given : List ℕ → Option ℕ → List Source → List Source
 with_given stream None given = given
 with_given stream (Some to) given = given ++ source_of to stream ∷ []
 
+abbrev pub without_given : List ℕ → Option ℕ → List Source → List Source
+without_given stream None given = given
+without_given stream (Some to) given = filter (λ g. not (same_source (source_of to stream) g)) given
+
+-- a query with an input on a stream whose grant is taken back is gone, and stays so
+abbrev pub with_gone : Source → Asked → Asked
+with_gone source q = record q { gone = q.gone || list_any (λ i. same_source i.source source) q.plan.inputs }
+
+abbrev pub without_granted : Source → List (Named StreamSeen) → List (Named StreamSeen)
+without_granted source gs = filter (λ g. not (same_source source (source_of g.item.owner g.name))) gs
+
 -- what is known after a command of the tenant's own that was accepted
 abbrev pub known_done : Language → ℕ → Known → Command → Known
 known_done language tenant k (Stream name columns) = record k { streams = k.streams ++ record { name = name; item = record { schema = unwrap_or (schema_of columns) []; clock = 0 } } ∷ [] }
-known_done language tenant k (Grant stream to) = record k { given = with_given stream (tenant_in tenant k to) k.given }
+known_done language tenant k (Grant stream to columns) = record k { given = with_given stream (tenant_in tenant k to) k.given }
+known_done language tenant k (Revoke stream to) = record k { given = without_given stream (tenant_in tenant k to) k.given }
 known_done language tenant k (Put stream at row) =
     came_known (source_of tenant stream) (record { at = at; row = row }) (record k { streams = change_named (opens at) stream k.streams })
 known_done language tenant k (Beat stream at) = record k { streams = change_named (opens (at + 1)) stream k.streams }
@@ -236,6 +265,7 @@ own_known language tenant k command = if is_accepted (meaning language tenant k 
 abbrev pub known_after : Language → ℕ → Known → Seen → Known
 known_after language tenant k (Own command) = own_known language tenant k command
 known_after language tenant k (Appears name s) = record k { readable = k.readable ++ record { name = name; item = s } ∷ [] }
+known_after language tenant k (Gone source) = record k { readable = without_granted source k.readable; queries = each (with_gone source) k.queries }
 known_after language tenant k (Comes source x) = came_known source x (record k { readable = map (open_granted source x.at) k.readable })
 known_after language tenant k (Beats source at) = record k { readable = map (open_granted source (at + 1)) k.readable }
 
@@ -247,6 +277,7 @@ known_from language tenant k (e ∷ es) = known_from language tenant (known_afte
 abbrev pub told_of_seen : Language → ℕ → Known → Seen → List Told
 told_of_seen language tenant k (Own command) = meaning language tenant k command ∷ []
 told_of_seen language tenant k (Appears name s) = []
+told_of_seen language tenant k (Gone source) = []
 told_of_seen language tenant k (Comes source x) = []
 told_of_seen language tenant k (Beats source at) = []
 

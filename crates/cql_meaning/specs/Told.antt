@@ -2,10 +2,10 @@
 use Rattle.std.specs.Prelude.{ℕ, Bool, true, false, ◌==◌, List, Option, Some, None}
 use Rattle.cql_tenants.specs.declared.refusal.StreamRefusal.{StreamRefusal}
 use Rattle.cql_out.specs.declared.told.Block.{Block}
-use Rattle.cql_eval.specs.Pin.{PinSeen}
 use Rattle.cql_meaning.specs.declared.listing.Listing.{Listing}
 use Rattle.cql_meaning.specs.declared.refusal.Refusal.{Refusal}
 use Rattle.cql_meaning.specs.declared.refusal.Refusal.TheVariants.{NoMemory}
+use Rattle.cql_eval.specs.Pin.{PinSeen}
 use Rattle.cql_meaning.specs.Refusal.{number_of, refusal_of}
 
 pub data Told : Type 0 where
@@ -39,7 +39,7 @@ is_no_memory (Refused refusal) = number_of refusal == 70
 abbrev pub no_memory : Told
 no_memory = Refused NoMemory
 
--- a step tells at once, or pins what a fetch needs
+-- a step tells at once, or pins what a fetch needs, in whole rows
 pub data Stepped : Type 0 where
   Says : Told → Stepped
   Pinned : PinSeen → Stepped

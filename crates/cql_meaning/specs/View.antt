@@ -1,44 +1,50 @@
--- What a tenant sees of all commands: its own, the grants to it, and what is accepted on streams that it was granted.
+-- What a tenant sees of all commands: its own, the grants to it and their ends, and what is accepted on streams while they are granted to it, by the columns that the grants show.
 use Rattle.std.specs.Prelude.{ℕ, Bool, false, ◌&&◌, ◌==◌, List, [], ◌∷◌, ◌++◌, Option, Some, None, is_some, if◌then◌else◌}
 use Rattle.cql_value.specs.Element.{Element}
 use Rattle.cql_tenants.specs.declared.home.Home.{Home}
 use Rattle.cql_tenants.specs.declared.stream.Stream.{Stream as stream}
+use Rattle.cql_places.specs.Places.{at_places}
+use Rattle.cql_tenants.specs.Chosen.{shown_places}
 use Rattle.cql_tenants.specs.Home.{is_place, home_at, tenant_named, stream_at, grant_of}
 use Rattle.cql_tenants.specs.Readable.{StreamSeen}
 use Rattle.cql_meaning.specs.declared.command.Command.{Command}
-use Rattle.cql_meaning.specs.declared.command.Command.TheVariants.{Stream, Grant, Put, Beat, Query, Fetch, Ack, Drop, List as Lists}
+use Rattle.cql_meaning.specs.declared.command.Command.TheVariants.{Stream, Grant, Revoke, Put, Beat, Query, Fetch, Ack, Drop, List as Lists}
 use Rattle.cql_meaning.specs.Source.{Source, source_of}
 use Rattle.cql_meaning.specs.Told.{is_accepted}
-use Rattle.cql_meaning.specs.Directory.{reply_to_grant, reply_to_put, reply_to_beat, directory_after}
+use Rattle.cql_meaning.specs.Directory.{reply_to_grant, reply_to_revoke, reply_to_put, reply_to_beat, directory_after, places_in}
 
 pub data Seen : Type 0 where
   -- a command of the tenant's own
   Own : Command → Seen
-  -- a stream of this name is granted to it: its owner, its columns, and the least time that it takes
+  -- a stream of this name is granted to it: its owner, the columns that the grant shows, whether it names them, and the least time that the stream takes
   Appears : (name : List ℕ) → StreamSeen → Seen
-  -- a row, and a heartbeat, on a stream that was granted to it
+  -- the grant of a stream is taken back
+  Gone : Source → Seen
+  -- a row, by the columns that the grant shows, and a heartbeat, on a stream that is granted to it
   Comes : Source → Element → Seen
   Beats : Source → ℕ → Seen
 
-abbrev pub appears : ℕ → List ℕ → Option stream → List Seen
-appears owner name None = []
-appears owner name (Some s) = Appears name (record { owner = owner; schema = s.schema; opened = s.clock }) ∷ []
+abbrev pub appears : ℕ → List ℕ → Option (List (List ℕ)) → Option stream → List Seen
+appears owner name columns None = []
+appears owner name columns (Some s) = Appears name (record { owner = owner; schema = at_places s.schema (shown_places s.schema columns); named = is_some columns; opened = s.clock }) ∷ []
 
 -- it is the tenant at that place
 abbrev pub is_tenant : ℕ → Option ℕ → Bool
 is_tenant tenant None = false
 is_tenant tenant (Some place) = place == tenant
 
--- the stream was granted to the tenant
+-- the stream is granted to the tenant
 abbrev pub is_granted : List Home → ℕ → Source → Bool
 is_granted homes tenant source = is_some (grant_of (home_at homes tenant) source.owner source.name)
 
 -- what a tenant sees of another's command
 abbrev pub seen_of_other : ℕ → List Home → ℕ → Command → List Seen
-seen_of_other tenant homes user (Grant stream to) =
-    if is_accepted (reply_to_grant homes user stream to) && is_tenant tenant (tenant_named homes user to) then appears user stream (stream_at homes user stream) else []
+seen_of_other tenant homes user (Grant stream to columns) =
+    if is_accepted (reply_to_grant homes user stream to columns) && is_tenant tenant (tenant_named homes user to) then appears user stream columns (stream_at homes user stream) else []
+seen_of_other tenant homes user (Revoke stream to) =
+    if is_accepted (reply_to_revoke homes user stream to) && is_tenant tenant (tenant_named homes user to) then Gone (source_of user stream) ∷ [] else []
 seen_of_other tenant homes user (Put stream at row) =
-    if is_accepted (reply_to_put homes user stream at row) && is_granted homes tenant (source_of user stream) then Comes (source_of user stream) (record { at = at; row = row }) ∷ [] else []
+    if is_accepted (reply_to_put homes user stream at row) && is_granted homes tenant (source_of user stream) then Comes (source_of user stream) (record { at = at; row = at_places row (places_in homes tenant (source_of user stream)) }) ∷ [] else []
 seen_of_other tenant homes user (Beat stream at) =
     if is_accepted (reply_to_beat homes user stream at) && is_granted homes tenant (source_of user stream) then Beats (source_of user stream) at ∷ [] else []
 seen_of_other tenant homes user (Stream name columns) = []

@@ -3,6 +3,7 @@
 ghost use Rattle.cql_meaning.specs.Binding.{IsBindingLaw};
 ghost use Rattle.cql_meaning.specs.Headline.{IsHeadlineLaw};
 ghost use Rattle.cql_meaning.specs.Law.{IsMachineLaw, AreRefusalLaws, AreQueryLaws, IsLimitLaw};
+ghost use Rattle.cql_meaning.specs.Hidden.{IsHiddenLaw};
 ghost use Rattle.cql_meaning.specs.Order.{IsOrderLaw};
 ghost use Rattle.cql_meaning.specs.Rows.{IsHeldLaw};
 
@@ -15,18 +16,18 @@ pub fn headline_law()
 
 /// For each language: what a tenant is told is what it would be told on a server on which no other
 /// tenant has a query; the reply to its next command is what its view so far means; and each stub
-/// is what its window needs of all rows in the view.
+/// is, by the columns that the tenant sees, what its window needs of all rows in the view.
 pub fn machine_law()
     ensures { IsMachineLaw }
 {}
 
 /// A command that is refused changes nothing, and neither does one that is told blocks.
-pub fn refusal_law()
+pub fn refusals_law()
     ensures { AreRefusalLaws }
 {}
 
 /// A query's base, rows and cursor, by what was accepted in the view.
-pub fn query_law()
+pub fn queries_law()
     ensures { AreQueryLaws }
 {}
 
@@ -36,7 +37,7 @@ pub fn limit_law()
 {}
 
 /// The rows that a stream holds are as many as some stub needs, or none, and no stub needs more.
-pub fn held_law()
+pub fn rows_held_law()
     ensures { IsHeldLaw }
 {}
 
@@ -51,4 +52,10 @@ pub fn order_law()
 /// names, each input on the stream of its name, or the language's refusal.
 pub fn binding_law()
     ensures { IsBindingLaw }
+{}
+
+/// For each language: two runs, or two histories with replies, that differ in nothing but values at
+/// places which no grant to a tenant shows tell that tenant the same.
+pub fn hidden_law()
+    ensures { IsHiddenLaw }
 {}

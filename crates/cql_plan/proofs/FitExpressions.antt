@@ -28,10 +28,10 @@ use Rattle.cql_plan.proofs.Each.{passes}
 
 -- ---- elements
 
-here : {A : Type 0} (x : A) (xs : List A) → Contains (x ∷ xs) x
+pub here : {A : Type 0} (x : A) (xs : List A) → Contains (x ∷ xs) x
 here x xs = (zero, omega arith, refl)
 
-there : {A : Type 0} (y x : A) (xs : List A) → Contains xs x → Contains (y ∷ xs) x
+pub there : {A : Type 0} (y x : A) (xs : List A) → Contains xs x → Contains (y ∷ xs) x
 there y x xs c = (suc c.0, (let lt : c.0 < length xs = c.1 in omega arith), c.2)
 
 nothing : {A : Type 0} (x : A) → Contains [] x → ⊥

@@ -10,6 +10,7 @@ mod Fits
 mod Joined
 mod Qualified
 mod Ports
+mod Seen
 mod PlainPlans
 pub mod CrossTrees
 pub mod CrossQueries

@@ -1,8 +1,8 @@
 -- The inputs of a plan beside the ports of its joins.
-use Rattle.std.proofs.Common.{◌≡◌, ℕ, ◌<◌, List, [], ◌∷◌, ◌++◌, length, refl, sym, ap, subst}
-use Rattle.std.specs.Prelude.{Option, Some, None, Ok}
-use Rattle.std.specs.List.{AllByRecursion, AllZip}
-use Rattle.std.proofs.lemmas.List.{append-nil}
+use Rattle.std.proofs.Common.{◌≡◌, ℕ, zero, suc, ◌<◌, List, [], ◌∷◌, ◌++◌, length, refl, sym, ap, ◌∙◌, subst}
+use Rattle.std.specs.Prelude.{Option, Some, None, Ok, slice_get}
+use Rattle.std.specs.List.{AllByRecursion, AllZip, Contains, cons_option}
+use Rattle.std.proofs.lemmas.List.{append-nil, length-map}
 use Rattle.std.proofs.lemmas.Option.{slice_get_within}
 use Rattle.cql_value.specs.declared.schema.Column.{Column}
 use Rattle.cql_value.specs.declared.schema.ColumnType.{ColumnType}
@@ -15,6 +15,8 @@ use Rattle.cql_syntax.specs.declared.syntax.Second.{Second}
 use Rattle.cql_syntax.specs.declared.syntax.Query.{Query}
 use Rattle.cql_window.specs.declared.window.Window.{Window}
 use Rattle.cql_window.specs.declared.window.Window.TheVariants.{Range, Rows, All as all, Parts}
+use Rattle.cql_places.specs.Places.{at_places}
+use Rattle.cql_places.specs.Windows.{wide_window, PartsWithin}
 use Rattle.cql_plan.specs.declared.plan.Input.{Input}
 use Rattle.cql_plan.specs.declared.plan.OutputKind.{OutputKind}
 use Rattle.cql_plan.specs.declared.plan.Planned.{Planned}
@@ -22,19 +24,20 @@ use Rattle.cql_plan.specs.declared.row.Field.{Field}
 use Rattle.cql_plan.specs.declared.source.Source.{Source}
 use Rattle.cql_plan.specs.declared.block.Checked.{Checked}
 use Rattle.cql_plan.specs.Outcome.{◌>>◌, unless, each}
+use Rattle.cql_plan.specs.Visible.{Visible}
 use Rattle.cql_plan.specs.Columns.{kinds_of, fields_of, column_named}
-use Rattle.cql_plan.specs.Sources.{Readable, alias_of, part_column, window_of, source_with, source_of, are_apart, joined_row, ports_of, inputs_of}
+use Rattle.cql_plan.specs.Sources.{Readable, alias_of, part_column, window_of, input_of, source_with, source_of, are_apart, joined_row, ports_of, inputs_of}
 use Rattle.cql_plan.specs.Typing.{same_kinds, where_of, group_of, items_of, is_grouped, join_of, checked_of, body_of, block_of, output_of, alone, combined, with_second, typing}
 use Rattle.cql_plan.specs.Ports.{ports_in, ports, PartsAmong, HavePorts, IsReadAs, AreReadAs, IsPortsLaw}
 use Rattle.cql_plan.proofs.Each.{passes}
-use Rattle.cql_plan.proofs.FitExpressions.{passed, ok_is, each_ok, column_found}
+use Rattle.cql_plan.proofs.FitExpressions.{here, there, passed, ok_is, each_ok, column_found}
 
 -- ---- one input
 
--- the input is a stream that can be read as these types, and its window parts by places among them
+-- the input is a stream of which columns of these types are seen, at its places, and its window parts by some of these
 record Stands (readable : Readable) (input : Input) (types : List ColumnType) : Type 0 where
-  read : IsReadAs (readable input.owner input.stream) types
-  parts : PartsAmong input.window types
+  read : IsReadAs (readable input.owner input.stream) input.places types
+  parts : PartsAmong input.places input.window
 
 kinds_are_types : (alias : List ℕ) (columns : List Column) → kinds_of (fields_of alias columns) ≡ types_of columns
 kinds_are_types alias [] = refl
@@ -56,29 +59,55 @@ places_below fields [] (p ∷ places) zip = absurd zip
 places_below fields (n ∷ names) [] zip = absurd zip
 places_below fields (n ∷ names) (p ∷ places) zip = (place_below fields n p zip.0, places_below fields names places zip.1)
 
-abbrev Among : List Field → Window → Type 0
-Among fields window = PartsAmong window (kinds_of fields)
+abbrev Within : List Field → Window → Type 0
+Within fields window = PartsWithin window (length (kinds_of fields))
 
-parts_among : (fields : List Field) (window : WrittenWindow) (w : Window) → window_of fields window ≡ Ok w → Among fields w
+fields_within : (fields : List Field) (window : WrittenWindow) (w : Window) → window_of fields window ≡ Ok w → Within fields w
 unfolding window_of
-parts_among fields (written.Range len slide) w h = subst (Among fields) (ok_is (Range len slide) w h) tt
-parts_among fields (written.Rows count slide) w h = subst (Among fields) (ok_is (Rows count slide) w h) tt
-parts_among fields written.Unbounded w h = subst (Among fields) (ok_is all w h) tt
-parts_among fields (written.Partition names count) w h =
+fields_within fields (written.Range len slide) w h = subst (Within fields) (ok_is (Range len slide) w h) tt
+fields_within fields (written.Rows count slide) w h = subst (Within fields) (ok_is (Rows count slide) w h) tt
+fields_within fields written.Unbounded w h = subst (Within fields) (ok_is all w h) tt
+fields_within fields (written.Partition names count) w h =
     let b = passes (each (part_column fields) names) (λ places. Ok (Parts places count)) w h in
-    subst (Among fields) (ok_is (Parts b.0 count) w b.2) (places_below fields names b.0 (each_ok (part_column fields) names b.0 b.1))
+    subst (Within fields) (ok_is (Parts b.0 count) w b.2) (places_below fields names b.0 (each_ok (part_column fields) names b.0 b.1))
+
+-- a window parts by columns of its stream
+pub parts_within : (alias : List ℕ) (columns : List Column) (window : WrittenWindow) (w : Window) → window_of (fields_of alias columns) window ≡ Ok w → PartsWithin w (length columns)
+parts_within alias columns window w h =
+    let many : length (kinds_of (fields_of alias columns)) ≡ length columns = length-map (fields_of alias columns) _ ∙ length-map columns _ in
+    subst (PartsWithin w) many (fields_within (fields_of alias columns) window w h)
+
+-- what stands at a place is one of the list
+got : (xs : List ℕ) (i x : ℕ) → slice_get xs i ≡ Some x → Contains xs x
+got [] i x h = absurd cc
+got (y ∷ xs) zero x h = let same : y ≡ x = cc in subst (Contains (y ∷ xs)) same (here y xs)
+got (y ∷ xs) (suc i) x h = there y x xs (got xs i x h)
+
+all_got : (places columns : List ℕ) → AllByRecursion (Contains places) (at_places places columns)
+all_got places [] = tt
+all_got places (c ∷ columns) = by (all_got places columns) (slice_get places c) refl
+  where
+    by : AllByRecursion (Contains places) (at_places places columns) → (o : Option ℕ) → slice_get places c ≡ o → AllByRecursion (Contains places) (cons_option o (at_places places columns))
+    by rest None is = rest
+    by rest (Some p) is = (got places c p is, rest)
+
+parts_among : (places : List ℕ) (w : Window) → PartsAmong places (wide_window places w)
+parts_among places (Range len slide) = tt
+parts_among places (Rows count slide) = tt
+parts_among places all = tt
+parts_among places (Parts columns count) = all_got places columns
 
 abbrev StandsSource : Readable → Source → Type 0
 StandsSource readable source = Stands readable source.input (kinds_of source.fields)
 
-source_go : (readable : Readable) (input : WrittenInput) (source : Source) (o : Option (List Column)) → readable input.stream.qualifier input.stream.name ≡ o → source_with input o ≡ Ok source → StandsSource readable source
+source_go : (readable : Readable) (input : WrittenInput) (source : Source) (o : Option Visible) → readable input.stream.qualifier input.stream.name ≡ o → source_with input o ≡ Ok source → StandsSource readable source
 source_go readable input source None same h = absurd cc
-source_go readable input source (Some columns) same h =
-    let fields = fields_of (alias_of input) columns in
+source_go readable input source (Some seen) same h =
+    let fields = fields_of (alias_of input) seen.schema in
     let b = passes (window_of fields input.window) _ source h in
-    subst (StandsSource readable) (ok_is (record { input = record { owner = input.stream.qualifier; stream = input.stream.name; window = b.0 }; alias = alias_of input; fields = fields }) source b.2) (record {
-      read = subst (λ r. IsReadAs r (kinds_of fields)) (sym same) (kinds_are_types (alias_of input) columns);
-      parts = parts_among fields input.window b.0 b.1;
+    subst (StandsSource readable) (ok_is (record { input = input_of input seen.places b.0; alias = alias_of input; fields = fields }) source b.2) (record {
+      read = subst (λ r. IsReadAs r seen.places (kinds_of fields)) (sym same) (kinds_are_types (alias_of input) seen.schema, refl);
+      parts = parts_among seen.places b.0;
     })
 
 source_stands : (readable : Readable) (input : WrittenInput) (source : Source) → source_of readable input ≡ Ok source → StandsSource readable source

@@ -13,6 +13,7 @@ use Rattle.cql_plan.specs.declared.row.Field.{Field}
 use Rattle.cql_plan.specs.declared.row.Found.{Found}
 use Rattle.cql_plan.specs.declared.source.Source.{Source}
 use Rattle.cql_plan.specs.Outcome.{Outcome, ◌>>=◌, each}
+use Rattle.cql_plan.specs.Visible.{Visible}
 use Rattle.cql_plan.specs.Columns.{fields_of, may_mean, meant, the_one, column_named}
 use Rattle.cql_plan.specs.Sources.{Readable, alias_of, window_of, source_with, source_of, are_apart, joined_row}
 use Rattle.cql_plan.specs.Law.{AreSchemas, IsQualifiedLaw}
@@ -113,11 +114,11 @@ AreInputs [] = Unit {0}
 AreInputs (s ∷ ss) = IsInput s × AreInputs ss
 
 source_go : (readable : Readable) (input : Input) (s : Source) → AreSchemas readable
-    → (o : Option (List Column)) → readable input.stream.qualifier input.stream.name ≡ o → source_with input o ≡ Ok s → IsInput s
+    → (o : Option Visible) → readable input.stream.qualifier input.stream.name ≡ o → source_with input o ≡ Ok s → IsInput s
 source_go readable input s schemas None same so = absurd (cc)
-source_go readable input s schemas (Some columns) same so =
-    let one = passes (window_of (fields_of (alias_of input) columns) input.window) _ s so in
-    subst IsInput (ok_same _ s one.2) (columns, refl, schemas input.stream.qualifier input.stream.name columns same)
+source_go readable input s schemas (Some seen) same so =
+    let one = passes (window_of (fields_of (alias_of input) seen.schema) input.window) _ s so in
+    subst IsInput (ok_same _ s one.2) (seen.schema, refl, schemas input.stream.qualifier input.stream.name seen same)
 
 source_is : (readable : Readable) (input : Input) (s : Source) → AreSchemas readable → source_of readable input ≡ Ok s → IsInput s
 unfolding source_of

@@ -1,6 +1,5 @@
 -- What the typing comes to, in words of its own: what a written column means, and that of several checks the first fault is told.
 use Rattle.std.specs.Prelude.{◌≡◌, ◌≢◌, ◌<◌, ℕ, Bool, true, List, length, slice_get, Option, Some, Ok, Err, ◌⊎◌}
-use Rattle.cql_value.specs.declared.schema.Column.{Column}
 use Rattle.cql_value.specs.Schema.{are_distinct}
 use Rattle.cql_syntax.specs.declared.syntax.Input.{Input}
 use Rattle.cql_syntax.specs.declared.syntax.Item.{Item}
@@ -10,6 +9,7 @@ use Rattle.cql_plan.specs.declared.row.Field.{Field}
 use Rattle.cql_plan.specs.declared.row.Found.{Found}
 use Rattle.cql_plan.specs.declared.source.Source.{Source}
 use Rattle.cql_plan.specs.Outcome.{Outcome, each}
+use Rattle.cql_plan.specs.Visible.{Visible}
 use Rattle.cql_plan.specs.Columns.{may_mean, column_named}
 use Rattle.cql_plan.specs.Sources.{Readable, source_of, are_apart, joined_row}
 use Rattle.cql_plan.specs.Typing.{group_of, item_of}
@@ -36,9 +36,9 @@ IsMeaning qualifier name fields (Err error) =
 abbrev pub IsColumnLaw : Type 0
 IsColumnLaw = (qualifier : Option (List ℕ)) (name : List ℕ) (fields : List Field) → IsMeaning qualifier name fields (column_named qualifier name fields)
 
--- The columns of each stream that may be read are distinct, as those of a schema are.
+-- The columns that are seen of each stream are distinct, as those of a schema are.
 abbrev pub AreSchemas : Readable → Type 0
-AreSchemas readable = (owner : Option (List ℕ)) (stream : List ℕ) (columns : List Column) → readable owner stream ≡ Some columns → are_distinct columns ≡ true
+AreSchemas readable = (owner : Option (List ℕ)) (stream : List ℕ) (seen : Visible) → readable owner stream ≡ Some seen → are_distinct seen.schema ≡ true
 
 -- a column with an alias before the dot is never ambiguous
 abbrev pub IsQualifiedLaw : Type 0

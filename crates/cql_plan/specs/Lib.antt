@@ -1,6 +1,7 @@
 pub mod Expr
 pub mod Condition
 pub mod Outcome
+pub mod Visible
 pub mod Columns
 pub mod Sources
 pub mod Typing
@@ -9,3 +10,4 @@ pub mod Node
 pub mod Ports
 pub mod Plan
 pub mod Law
+pub mod Seen

@@ -1,7 +1,6 @@
 -- The inputs of a plan beside the ports of its joins.
-use Rattle.std.specs.Prelude.{◌≡◌, ℕ, suc, ◌<◌, List, [], ◌∷◌, ◌++◌, length, false, Option, Some, None, Ok}
-use Rattle.std.specs.List.{AllByRecursion}
-use Rattle.cql_value.specs.declared.schema.Column.{Column}
+use Rattle.std.specs.Prelude.{◌≡◌, ℕ, suc, List, [], ◌∷◌, ◌++◌, false, Option, Some, None, Ok}
+use Rattle.std.specs.List.{AllByRecursion, Contains}
 use Rattle.cql_value.specs.declared.schema.ColumnType.{ColumnType}
 use Rattle.cql_value.specs.Schema.{types_of}
 use Rattle.cql_syntax.specs.declared.syntax.Input.{Input as WrittenInput}
@@ -19,6 +18,7 @@ use Rattle.cql_plan.specs.declared.plan.Combined.{Combined}
 use Rattle.cql_plan.specs.declared.plan.Input.{Input}
 use Rattle.cql_plan.specs.declared.plan.Planned.{Planned}
 use Rattle.cql_plan.specs.Sources.{Readable}
+use Rattle.cql_plan.specs.Visible.{Visible}
 use Rattle.cql_plan.specs.Typing.{typing}
 
 -- the ports of a join: of each input the types of its columns
@@ -36,31 +36,31 @@ later_ports (Some combined) = ports_in combined.branch.join
 abbrev pub ports : Planned → List (List ColumnType)
 ports p = ports_in p.first.join ++ later_ports p.combined
 
--- a window parts by places among these columns
-abbrev pub PartsAmong : Window → List ColumnType → Type 0
-PartsAmong (Range len slide) columns = Unit {0}
-PartsAmong (Rows count slide) columns = Unit {0}
-PartsAmong all columns = Unit {0}
-PartsAmong (Parts places count) columns = AllByRecursion (λ i. i < length columns) places
+-- a window over whole rows parts by some of these places
+abbrev pub PartsAmong : List ℕ → Window → Type 0
+PartsAmong places (Range len slide) = Unit {0}
+PartsAmong places (Rows count slide) = Unit {0}
+PartsAmong places all = Unit {0}
+PartsAmong places (Parts columns count) = AllByRecursion (Contains places) columns
 
--- each input stands beside a port, and parts by its columns
+-- each input stands beside a port, and parts by places of its own
 abbrev pub HavePorts : List Input → List (List ColumnType) → Type 0
 HavePorts [] [] = Unit {0}
 HavePorts [] (c ∷ cs) = ⊥
 HavePorts (i ∷ is) [] = ⊥
-HavePorts (i ∷ is) (c ∷ cs) = PartsAmong i.window c × HavePorts is cs
+HavePorts (i ∷ is) (c ∷ cs) = PartsAmong i.places i.window × HavePorts is cs
 
--- a stream that can be read has columns of these types
-abbrev pub IsReadAs : Option (List Column) → List ColumnType → Type 0
-IsReadAs None types = ⊥
-IsReadAs (Some columns) types = types ≡ types_of columns
+-- of a stream that can be read columns of these types are seen, at these places
+abbrev pub IsReadAs : Option Visible → List ℕ → List ColumnType → Type 0
+IsReadAs None places types = ⊥
+IsReadAs (Some seen) places types = (types ≡ types_of seen.schema) × (places ≡ seen.places)
 
--- each input is a stream that can be read, and its port has the types of the stream's columns
+-- each input is a stream that can be read, with the places of the columns that are seen, and its port has the types of these
 abbrev pub AreReadAs : Readable → List Input → List (List ColumnType) → Type 0
 AreReadAs readable [] [] = Unit {0}
 AreReadAs readable [] (c ∷ cs) = ⊥
 AreReadAs readable (i ∷ is) [] = ⊥
-AreReadAs readable (i ∷ is) (c ∷ cs) = IsReadAs (readable i.owner i.stream) c × AreReadAs readable is cs
+AreReadAs readable (i ∷ is) (c ∷ cs) = IsReadAs (readable i.owner i.stream) i.places c × AreReadAs readable is cs
 
 -- what is typed reads streams that can be read, each by a port of its own
 abbrev pub IsPortsLaw : Type 0

@@ -2,7 +2,6 @@
 use Rattle.std.specs.Prelude.{ℕ, ◌<◌, ◌^◌, Bool, true, ◌&&◌, not, List, [], ◌∷◌, ◌++◌, map, Option, Some, None, Ok, Err}
 use Rattle.std.specs.List.{All, list_any}
 use Rattle.std.specs.Str.{bytes_eq}
-use Rattle.cql_value.specs.declared.schema.Column.{Column}
 use Rattle.cql_value.specs.declared.schema.ColumnType.{ColumnType}
 use Rattle.cql_syntax.specs.declared.syntax.WrittenWindow.{WrittenWindow}
 use Rattle.cql_syntax.specs.declared.syntax.WrittenWindow.TheVariants as written
@@ -14,12 +13,14 @@ use Rattle.cql_plan.specs.declared.plan.Input.{Input}
 use Rattle.cql_plan.specs.declared.row.Field.{Field}
 use Rattle.cql_plan.specs.declared.source.Source.{Source}
 use Rattle.cql_plan.specs.declared.source.Joined.{Joined}
+use Rattle.cql_places.specs.Windows.{wide_window}
 use Rattle.cql_plan.specs.Outcome.{Outcome, ◌>>=◌, each}
+use Rattle.cql_plan.specs.Visible.{Visible}
 use Rattle.cql_plan.specs.Columns.{fields_of, kinds_of, column_named}
 
--- The columns of a stream of an owner, or with no owner of the caller's own, where the caller may read it.
+-- What is seen of a stream of an owner, or with no owner of the caller's own, where the caller may read it.
 abbrev pub Readable : Type 0
-Readable = Option (List ℕ) → List ℕ → Option (List Column)
+Readable = Option (List ℕ) → List ℕ → Option Visible
 
 abbrev pub name_or : Option (List ℕ) → List ℕ → List ℕ
 name_or None other = other
@@ -29,7 +30,7 @@ name_or (Some name) other = name
 abbrev pub alias_of : WrittenInput → List ℕ
 alias_of input = name_or input.alias input.stream.name
 
--- a column by which an input is parted: a place in the stream's own row
+-- a column by which an input is parted: a place among those that are seen
 abbrev pub part_column : List Field → List ℕ → Outcome ℕ
 part_column fields name = column_named None name fields >>= (λ found. Ok found.place)
 
@@ -43,19 +44,23 @@ HasBounds (written.Partition names count) = (0 < count) × (count < 2 ^ 62)
 abbrev pub AreBounded : List WrittenInput → Type 0
 AreBounded inputs = All (λ input. HasBounds input.window) inputs
 
--- the window, whose columns are those of the stream
+-- the window over the columns that are seen
 unfoldable pub window_of : List Field → WrittenWindow → Outcome Window
 window_of fields (written.Range length slide) = Ok (Range length slide)
 window_of fields (written.Rows count slide) = Ok (Rows count slide)
 window_of fields written.Unbounded = Ok all
 window_of fields (written.Partition names count) = each (part_column fields) names >>= (λ columns. Ok (Parts columns count))
 
--- an input of a stream with these columns, where it can be read
-abbrev pub source_with : WrittenInput → Option (List Column) → Outcome Source
+-- what the plan keeps of an input: the window over the whole rows, and where the columns stand in these
+abbrev pub input_of : WrittenInput → List ℕ → Window → Input
+input_of input places window = record { owner = input.stream.qualifier; stream = input.stream.name; window = wide_window places window; places = places }
+
+-- an input of a stream of which this is seen, where it can be read
+abbrev pub source_with : WrittenInput → Option Visible → Outcome Source
 source_with input None = Err UnknownStream
-source_with input (Some columns) = do
-  window ← window_of (fields_of (alias_of input) columns) input.window
-  Ok (record { input = record { owner = input.stream.qualifier; stream = input.stream.name; window = window }; alias = alias_of input; fields = fields_of (alias_of input) columns })
+source_with input (Some seen) = do
+  window ← window_of (fields_of (alias_of input) seen.schema) input.window
+  Ok (record { input = input_of input seen.places window; alias = alias_of input; fields = fields_of (alias_of input) seen.schema })
 
 -- an input: its stream can be read, and has the columns by which it is parted
 unfoldable pub source_of : Readable → WrittenInput → Outcome Source

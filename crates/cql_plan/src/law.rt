@@ -6,6 +6,7 @@ ghost use Rattle.cql_plan.specs.Law.{
 };
 ghost use Rattle.cql_plan.specs.Plan.{IsFormLaw};
 ghost use Rattle.cql_plan.specs.Ports.{IsPortsLaw, IsPlainLaw};
+ghost use Rattle.cql_plan.specs.Seen.{IsSeenLaw};
 
 /// A written column means the one column of the joined row that it may mean; it is unknown where
 /// there is none, and ambiguous where there are two.
@@ -26,7 +27,7 @@ pub fn qualified_law()
 {}
 
 /// The inputs of a plan are streams that can be read, and each has a port of its own, with the
-/// types of the stream's columns.
+/// types of the columns that are seen, and their places.
 pub fn ports_law()
     ensures { IsPortsLaw }
 {}
@@ -41,4 +42,11 @@ pub fn form_law()
 /// GROUP BY, shows all columns of all its input's rows.
 pub fn plain_law()
     ensures { IsPlainLaw }
+{}
+
+/// What columns of a stream a caller doesn't see decides nothing but where those that it sees stand:
+/// the plan, or the fault, is that over streams which have the seen columns alone, with each input's
+/// window and places widened to the whole rows.
+pub fn seen_law()
+    ensures { IsSeenLaw }
 {}

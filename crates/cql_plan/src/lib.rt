@@ -21,7 +21,7 @@ pub use condition::{Condition, Operand, compares, meets};
 pub use error::{PlanError, PlanFault};
 pub use expr::{Expr, evaluate};
 pub use fault::Fault;
-pub use lookup::Lookup;
+pub use lookup::{Lookup, Readable};
 pub use node::{Item, Join, Node, OperatorKind, SetOp, Shape};
 pub use plan::{Branch, Combined, Input, OutputKind, Plan, Planned};
 pub use resolution::resolve;

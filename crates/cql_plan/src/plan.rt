@@ -8,12 +8,14 @@ use cql_value::{Items, Name, Same};
 use cql_window::Window;
 use std::marker::Model;
 
-/// A stream that a plan reads, of an owner or the caller's own, through a window. The columns by
-/// which a window parts are places in the stream's own row, counted from 0.
+/// A stream that a plan reads, of an owner or the caller's own, through a window over the stream's
+/// whole rows. The columns by which a window parts are places in the whole row, counted from 0.
 pub struct Input {
     pub owner: Option<Name>,
     pub stream: Name,
     pub window: Window,
+    /// Where the columns that the plan is typed over stand in the whole row.
+    pub places: Items<usize>,
 }
 
 /// What is computed of a block: the join of its inputs, its items, and with DISTINCT each row
@@ -80,6 +82,7 @@ impl Drop for Input {
             owner: _,
             stream: _,
             window: _,
+            places: _,
         } = self;
     }
 }
@@ -130,7 +133,7 @@ impl Plan {
     }
 
     /// Its inputs, 1 to 6, in order: those of the first block, then those of the second. Each
-    /// stands beside a port of a join, and parts by columns of it.
+    /// stands beside a port of a join, and parts by places among its own.
     pub fn inputs(&self) -> &[Input]
         ensures value { result.now ≡ self.now.inputs }
         ensures few { spec.IsFew self.now }

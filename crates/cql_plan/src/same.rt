@@ -107,6 +107,7 @@ impl Same for Input {
         self.owner.is_same(&other.owner)
             && self.stream.is_same(&other.stream)
             && self.window.is_same(&other.window)
+            && self.places.as_slice() == other.places.as_slice()
     }
 }
 

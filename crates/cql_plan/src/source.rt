@@ -4,13 +4,15 @@ ghost use Rattle.std.specs.List.{list_any};
 ghost use Rattle.std.specs.Str.{bytes_eq};
 ghost use Rattle.cql_plan.specs.Outcome.{Answers, AnswersList, each};
 ghost use Rattle.cql_plan.specs.Sources as spec;
+ghost use Rattle.cql_plan.specs.Visible.{visible_of};
 
 use crate::error::{PlanError, PlanFault};
-use crate::lookup::Lookup;
+use crate::lookup::{Lookup, Readable};
 use crate::plan::Input;
 use crate::row::{Field, column_named, fields_of, kinds_of};
+use cql_places::wide_window;
 use cql_syntax::syntax;
-use cql_value::{Column, ColumnType, Items, Name};
+use cql_value::{ColumnType, Items, Name};
 use cql_window::{Count, Length, Window};
 use std::alloc::{AllocError, Global};
 
@@ -57,7 +59,7 @@ pub(crate) struct Joined {
     pub(crate) row: Items<Field>,
 }
 
-// A column by which an input is parted: its place in the stream's own row.
+// A column by which an input is parted: its place among those that are seen.
 fn part_column(fields: &[Field], name: &Name) -> Result<usize, PlanFault>
     ensures { result ≡ spec.part_column fields.now name.now }
 {
@@ -138,18 +140,19 @@ fn alias_of(input: &syntax::Input) -> Result<Name, AllocError>
     }
 }
 
-// An input of a stream with these columns.
+// An input of a stream of which this is seen.
 fn source_with(
     alloc: Global,
     input: &syntax::Input,
-    columns: &[Column],
+    readable: Readable<'_>,
 ) -> Result<Source, PlanError>
     requires { spec.HasBounds input.now.window }
-    ensures { Answers (spec.source_with input.now (Some columns.now)) result }
+    ensures { Answers (spec.source_with input.now (Some (visible_of readable.entry))) result }
 {
     let alias = alias_of(input)?;
-    let fields = fields_of(alloc, &alias, columns)?;
+    let fields = fields_of(alloc, &alias, readable.schema.columns())?;
     let window = window_of(alloc, fields.as_slice(), &input.window)?;
+    let window = wide_window(alloc, readable.places, window)?;
     let owner = input
         .stream
         .qualifier
@@ -157,11 +160,13 @@ fn source_with(
         .map(|owner| owner.try_clone())
         .transpose()?;
     let stream = input.stream.name.try_clone()?;
+    let places = Items::from_slice(alloc, readable.places)?;
     Ok(Source {
         input: Input {
             owner,
             stream,
             window,
+            places,
         },
         alias,
         fields,
@@ -190,7 +195,7 @@ fn source_of<L: Lookup>(
 {
     match lookup.schema(owner_of(input), input.stream.name.as_str()) {
         None => Err(PlanError::Refused(PlanFault::UnknownStream)),
-        Some(schema) => source_with(alloc, input, schema.columns()),
+        Some(readable) => source_with(alloc, input, readable),
     }
 }
 

@@ -209,3 +209,56 @@ fn two_tenants_each_alone(rt: HostRuntime) -> Result<(), Fail> {
     assert!(rt; failing_places(alloc, &ran, a, b)? == (Some(11), None, Some(11)));
     Ok(())
 }
+
+const SHARED: &[&str] = &[
+    r#"{"columns":[["v","int"]],"do":"stream","name":"s"}"#,
+    r#"{"do":"grant","stream":"s","to":"b"}"#,
+];
+
+const ALL: &[&str] = &[r#"{"do":"query","name":"q","text":"Select Rstream(*) From a.s"}"#];
+
+const ONE_ROW: &[&str] = &[
+    r#"{"at":1,"do":"put","row":[1],"stream":"s"}"#,
+    r#"{"at":1,"do":"beat","stream":"s"}"#,
+];
+
+const REVOKE: &[&str] = &[r#"{"do":"revoke","stream":"s","to":"b"}"#];
+
+const OF_THE_REVOKED: &[u8] = b"{\"base\":0}\n\
+{\"blocks\":[{\"from\":1,\"rows\":[[1]],\"to\":1}],\"next\":2}\n\
+{\"name\":\"Revoked\",\"refused\":63}\n";
+
+// The reader's first fetch is held until the grant is taken back.
+fn revoke_beside<R: Threads + Wait + Sync, C: Clock + Sync>(
+    rt: &R,
+    alloc: Global,
+    hall: &Hall<Kept>,
+    owner: &mut Caller,
+    reader: &mut Caller,
+    gate: &Holding<C>,
+) -> Result<(), Unmade> {
+    owner.say(rt, alloc, hall, &OpenGate, SHARED)?;
+    reader.say(rt, alloc, hall, &OpenGate, ALL)?;
+    owner.say(rt, alloc, hall, &OpenGate, ONE_ROW)?;
+    fetch_beside(rt, alloc, hall, reader, owner, gate, REVOKE)?;
+    reader.say(rt, alloc, hall, &OpenGate, FETCH)
+}
+
+// A fetch that was pinned before a revoke keeps its answer, and the next one is refused.
+#[test]
+fn a_grant_is_taken_back_beside_a_fetch(rt: HostRuntime) -> Result<(), Fail> {
+    let alloc = rt.alloc();
+    let (hall, a) = hall(alloc)?;
+    let b = table(alloc)?.find("b").ok_or(Unmade::Wrong)?;
+    let gate = Holding::new(rt, 1);
+    let mut owner = Caller::new(alloc, hall.seat(a));
+    let mut reader = Caller::new(alloc, hall.seat(b));
+    revoke_beside(&rt, alloc, &hall, &mut owner, &mut reader, &gate)?;
+    assert!(rt; !gate.is_expired());
+    assert!(rt; reader.replies(alloc)?.as_slice() == OF_THE_REVOKED);
+    let ran = close(alloc, hall, owner, reader)?;
+    assert_eq!(rt; failing_here(alloc, &ran)?, None);
+    assert_eq!(rt; failing_alone(alloc, &ran, a)?, None);
+    assert_eq!(rt; failing_alone(alloc, &ran, b)?, None);
+    Ok(())
+}

@@ -1,25 +1,35 @@
 -- Each grant is of a stream that is there.
-use Rattle.std.proofs.Common.{◌≡◌, ℕ, zero, suc, Bool, true, false, ◌&&◌, eqb, List, [], ◌∷◌, set, refl, ap, subst, ◌∙◌, sym, arith}
-use Rattle.std.specs.Prelude.{Option, Some, None, option_map, is_some, is_none, Result, Ok, Err, OnOk, OnErr, if◌then◌else◌}
+use Rattle.std.proofs.Common.{◌≡◌, ◌<◌, ℕ, zero, suc, Bool, true, false, ◌&&◌, not, eqb, List, [], ◌∷◌, length, set, refl, ap, subst, ◌∙◌, sym, arith}
+use Rattle.std.specs.Prelude.{Option, Some, None, option_map, is_some, is_none, Result, Ok, Err, OnOk, OnErr, unwrap_or, if◌then◌else◌}
 use Rattle.std.specs.Option.{option_or}
-use Rattle.std.specs.List.{find}
+use Rattle.std.specs.List.{AllByRecursion, find, filter}
 use Rattle.std.proofs.lemmas.Bool.Decides.{nat_tests}
 use Rattle.std.proofs.lemmas.List.Folds.{find-append}
 use Rattle.cql_value.specs.declared.schema.Column.{Column}
 use Rattle.cql_tenants.specs.declared.tenants.Tenant.{Tenant}
 use Rattle.cql_tenants.specs.declared.refusal.StreamRefusal.{StreamRefusal}
-use Rattle.cql_tenants.specs.declared.refusal.StreamRefusal.TheVariants.{UnknownStream, UnknownTenant}
+use Rattle.cql_tenants.specs.declared.refusal.StreamRefusal.TheVariants.{UnknownTenant, SelfGrant, AlreadyGranted, BadGrantColumns}
 use Rattle.cql_tenants.specs.Named.{Named, same_name, find_named, change_named}
-use Rattle.cql_tenants.specs.Home.{Home, Stream, Grant, nothing_made, is_place, home_at, tenant_named, stream_at, is_of, grant_of}
-use Rattle.cql_tenants.specs.Checks.{grantee_refused}
-use Rattle.cql_tenants.specs.Directory.{StreamCommand, Make, Share, Put, Beat, opens, with_stream, with_time, with_grant, grant_to, new_grant, refused, done, directory_after}
-use Rattle.cql_tenants.specs.Law.{AreOfStreams, IsGrantLaw, directory_from}
+use Rattle.cql_places.specs.Places.{at_places}
+use Rattle.cql_tenants.specs.Chosen.{is_shown}
+use Rattle.cql_tenants.specs.Home.{Home, Stream, Grant, nothing_made, is_place, home_at, tenant_named, stream_at, is_of, grant_of, without_grant}
+use Rattle.cql_tenants.specs.Checks.{grantee_refused, grant_refused}
+use Rattle.cql_tenants.specs.Directory.{StreamCommand, Make, Share, Revoke, Put, Beat, opens, with_stream, with_time, with_grant, grant_over, grant_to, new_grant, revoke_from, refused, done, directory_after}
+use Rattle.cql_tenants.specs.Law.{IsGrantOf, AreOfStreams, IsGrantLaw, directory_from}
+use Rattle.cql_tenants.proofs.Choices.{shown_within}
 use Rattle.cql_tenants.proofs.Kept.{Has, still, grow_at, streams_stay, timed, made}
-use Rattle.cql_tenants.proofs.Places.{name_eq}
+use Rattle.cql_tenants.proofs.Places.{name_eq, name_same}
 
--- the stream of a grant is there, with the columns of the grant
-abbrev Shown : List Home → ℕ → List ℕ → Grant → Type 0
-Shown homes owner name g = (s : Stream) × (stream_at homes owner name ≡ Some s) × (s.schema ≡ g.schema)
+-- the stream of a grant is there, and the grant shows its columns
+abbrev pub Shown : List Home → ℕ → List ℕ → Grant → Type 0
+Shown homes owner name g = (s : Stream) × (stream_at homes owner name ≡ Some s) × IsGrantOf g s
+
+-- a grant of a stream is one of each with its columns
+of_same : (g : Grant) (s now : Stream) → now.schema ≡ s.schema → IsGrantOf g s → IsGrantOf g now
+of_same g s now same is = record {
+  within = subst (λ l. AllByRecursion (λ place. place < length l) g.places) (sym same) is.within;
+  schema = is.schema ∙ ap (λ l. at_places l g.places) (sym same);
+}
 
 abbrev AreShown : List Home → Home → Type 0
 AreShown homes home = (owner : ℕ) (name : List ℕ) (g : Grant) → grant_of home owner name ≡ Some g → Shown homes owner name g
@@ -35,16 +45,81 @@ and_true : (a b : Bool) → (a && b) ≡ true → (a ≡ true) × (b ≡ true)
 and_true true b e = (refl, e)
 and_true false b e = absurd cc
 
--- an accepted grant is of a stream of the tenant's own
-granted_own : (homes : List Home) (user : ℕ) (stream to : List ℕ) → refused homes user (Share stream to) ≡ None → Shown homes user stream (new_grant homes user stream)
-granted_own homes user stream to h = by (is_place homes user) (stream_at homes user stream) refl h
+-- a grant of what may be shown
+pub granted_new : (homes : List Home) (user : ℕ) (stream : List ℕ) (schema : List Column) (columns : Option (List (List ℕ))) → option_map (λ s. s.schema) (stream_at homes user stream) ≡ Some schema
+    → is_shown schema columns ≡ true → Shown homes user stream (grant_over user stream schema columns)
+granted_new homes user stream schema columns there shown = by (stream_at homes user stream) refl there
   where
-    by : (b : Bool) (o : Option Stream) → stream_at homes user stream ≡ o
-        → (if b then (if is_some o then grantee_refused homes user stream (tenant_named homes user to) else Some UnknownStream) else Some UnknownTenant) ≡ None
-        → Shown homes user stream (new_grant homes user stream)
+    by : (o : Option Stream) → stream_at homes user stream ≡ o → option_map (λ s. s.schema) o ≡ Some schema → Shown homes user stream (grant_over user stream schema columns)
+    by None is h = absurd cc
+    by (Some s) is h =
+        let same : s.schema ≡ schema = cc in
+        (s, is, of_same (grant_over user stream schema columns) (record { schema = schema; clock = 0 }) s same (record { within = shown_within schema columns shown; schema = refl }))
+
+-- an accepted grant is of a stream of the tenant's own
+granted_own : (homes : List Home) (user : ℕ) (stream to : List ℕ) (columns : Option (List (List ℕ))) → refused homes user (Share stream to columns) ≡ None → Shown homes user stream (new_grant homes user stream columns)
+granted_own homes user stream to columns h = by (is_place homes user) (stream_at homes user stream) refl h
+  where
+    shown : (s : Stream) (o : Option ℕ) → grantee_refused homes user stream s.schema columns o ≡ None → is_shown s.schema columns ≡ true
+    shown s None h = absurd cc
+    shown s (Some place) h = test (eqb place user) (is_shown s.schema columns) h
+      where
+        test : (self fine : Bool) → (if self then Some SelfGrant else if fine then (if is_some (grant_of (home_at homes place) user stream) then Some AlreadyGranted else None) else Some BadGrantColumns) ≡ None → fine ≡ true
+        test true fine h = absurd cc
+        test false true h = refl
+        test false false h = absurd cc
+
+    by : (b : Bool) (o : Option Stream) → stream_at homes user stream ≡ o → (if b then grant_refused homes user stream o columns to else Some UnknownTenant) ≡ None → Shown homes user stream (new_grant homes user stream columns)
     by false o is h = absurd cc
     by true None is h = absurd cc
-    by true (Some s) is h = (s, is, rw is refl)
+    by true (Some s) is h =
+        subst (λ (o : Option Stream). Shown homes user stream (grant_over user stream (unwrap_or (option_map (λ s. s.schema) o) []) columns)) (sym is)
+        (granted_new homes user stream s.schema columns (ap (option_map (λ s. s.schema)) is) (shown s (tenant_named homes user to) h))
+
+-- WITHOUT A GRANT
+-- no grant of the stream is left
+none_left : (o : ℕ) (s : List ℕ) (xs : List Grant) → find (is_of o s) (filter (λ g. not (is_of o s g)) xs) ≡ None
+none_left o s [] = refl
+none_left o s (x ∷ xs) = by (none_left o s xs) (is_of o s x) refl
+  where
+    by : find (is_of o s) (filter (λ g. not (is_of o s g)) xs) ≡ None → (r : Bool) → is_of o s x ≡ r → find (is_of o s) (if not r then x ∷ filter (λ g. not (is_of o s g)) xs else filter (λ g. not (is_of o s g)) xs) ≡ None
+    by rest true is = rest
+    by rest false is = (λ i. if is i then Some x else find (is_of o s) (filter (λ g. not (is_of o s g)) xs)) ∙ rest
+
+-- those of other streams stay
+others_left : (o owner : ℕ) (s name : List ℕ) (xs : List Grant) → (eqb owner o && same_name name s) ≡ false → find (is_of owner name) (filter (λ g. not (is_of o s g)) xs) ≡ find (is_of owner name) xs
+others_left o owner s name [] other = refl
+others_left o owner s name (x ∷ xs) other = by (others_left o owner s name xs other) (is_of o s x) (is_of owner name x) refl refl
+  where
+    by : find (is_of owner name) (filter (λ g. not (is_of o s g)) xs) ≡ find (is_of owner name) xs → (r p : Bool) → is_of o s x ≡ r → is_of owner name x ≡ p
+        → find (is_of owner name) (if not r then x ∷ filter (λ g. not (is_of o s g)) xs else filter (λ g. not (is_of o s g)) xs) ≡ (if p then Some x else find (is_of owner name) xs)
+    by rest false p er ep = (λ i. if ep i then Some x else rest i)
+    by rest true false er ep = rest
+    by rest true true er ep =
+        let a = and_true (eqb o x.owner) (same_name s x.stream) er in
+        let b = and_true (eqb owner x.owner) (same_name name x.stream) ep in
+        let place : eqb owner o ≡ true = grind (arith, nat_tests, a.0, b.0) in
+        let same : same_name name s ≡ true = name_same name s (name_eq name x.stream b.1 ∙ sym (name_eq s x.stream a.1)) in
+        absurd (let e : true ≡ false = (λ i. sym place i && sym same i) ∙ other in cc)
+
+-- what is found without the grants of a stream
+pub left : (o owner : ℕ) (s name : List ℕ) (home : Home) → grant_of (without_grant o s home) owner name ≡ (if eqb owner o && same_name name s then None else grant_of home owner name)
+left o owner s name home = by (eqb owner o && same_name name s) refl
+  where
+    by : (b : Bool) → (eqb owner o && same_name name s) ≡ b → grant_of (without_grant o s home) owner name ≡ (if b then None else grant_of home owner name)
+    by true is =
+        let both = and_true (eqb owner o) (same_name name s) is in
+        let place : owner ≡ o = grind (arith, nat_tests, both.0) in
+        let same = name_eq name s both.1 in
+        (λ i. find (is_of (place i) (same i)) (filter (λ g. not (is_of o s g)) home.granted)) ∙ none_left o s home.granted
+    by false is = others_left o owner s name home.granted is
+
+still_granted : (o owner : ℕ) (s name : List ℕ) (home : Home) (g : Grant) → grant_of (without_grant o s home) owner name ≡ Some g → grant_of home owner name ≡ Some g
+still_granted o owner s name home g h = by (eqb owner o && same_name name s) (sym (left o owner s name home) ∙ h)
+  where
+    by : (b : Bool) → (if b then None else grant_of home owner name) ≡ Some g → grant_of home owner name ≡ Some g
+    by true h = absurd cc
+    by false h = h
 
 -- one more grant to a tenant
 one_more : (homes : List Home) (home : Home) (new : Grant) → Shown homes new.owner new.stream new → AreShown homes home → AreShown homes (with_grant new home)
@@ -57,26 +132,33 @@ one_more homes home new there all owner name g h = by (find (is_of owner name) h
         let both = and_true (eqb owner new.owner) (same_name name new.stream) one.0 in
         let place : owner ≡ new.owner = grind (arith, nat_tests, both.0) in
         let same = name_eq name new.stream both.1 in
-        (there.0, ap (λ o. stream_at homes o name) place ∙ ap (stream_at homes new.owner) same ∙ there.1, there.2 ∙ ap (λ x. x.schema) one.1)
+        (there.0, ap (λ o. stream_at homes o name) place ∙ ap (stream_at homes new.owner) same ∙ there.1, subst (λ x. IsGrantOf x there.0) one.1 there.2)
 
 -- the grants after an accepted command are of streams that were there before it
 grants_of_old : (homes : List Home) (user : ℕ) (command : StreamCommand) → refused homes user command ≡ None → ((j : ℕ) → AreShown homes (home_at homes j)) → (j : ℕ) → AreShown homes (home_at (done homes user command) j)
 grants_of_old homes user (Make name schema) accepted all j = grow_at (AreShown homes) (AreShown homes) homes user (with_stream name _ (home_at homes user)) (λ h. h) (λ home h. h) j (all j)
 grants_of_old homes user (Put stream at row) accepted all j = grow_at (AreShown homes) (AreShown homes) homes user (with_time stream at (home_at homes user)) (λ h. h) (λ home h. h) j (all j)
 grants_of_old homes user (Beat stream at) accepted all j = grow_at (AreShown homes) (AreShown homes) homes user (with_time stream _ (home_at homes user)) (λ h. h) (λ home h. h) j (all j)
-grants_of_old homes user (Share stream to) accepted all j = by (tenant_named homes user to)
+grants_of_old homes user (Share stream to columns) accepted all j = by (tenant_named homes user to)
   where
     new : Grant
-    new = new_grant homes user stream
+    new = new_grant homes user stream columns
 
     by : (o : Option ℕ) → AreShown homes (home_at (grant_to homes new o) j)
     by None = all j
     by (Some place) =
         grow_at (AreShown homes) (AreShown homes) homes place (with_grant new (home_at homes place))
-        (one_more homes (home_at homes place) new (granted_own homes user stream to accepted)) (λ home h. h) j (all j)
+        (one_more homes (home_at homes place) new (granted_own homes user stream to columns accepted)) (λ home h. h) j (all j)
+grants_of_old homes user (Revoke stream to) accepted all j = by (tenant_named homes user to)
+  where
+    by : (o : Option ℕ) → AreShown homes (home_at (revoke_from homes user stream o) j)
+    by None = all j
+    by (Some place) =
+        grow_at (AreShown homes) (AreShown homes) homes place (without_grant user stream (home_at homes place))
+        (λ h owner name g k. h owner name g (still_granted user owner stream name (home_at homes place) g k)) (λ home h. h) j (all j)
 
 -- the first that passes a test passes it
-find_passes : {A : Type 0} (p : A → Bool) (xs : List A) (g : A) → find p xs ≡ Some g → p g ≡ true
+pub find_passes : {A : Type 0} (p : A → Bool) (xs : List A) (g : A) → find p xs ≡ Some g → p g ≡ true
 find_passes p [] g h = absurd cc
 find_passes {A} p (x ∷ xs) g h = by (find_passes p xs g) (p x) refl (unfolded (p x) refl h)
   where
@@ -94,7 +176,7 @@ pub record Given (homes : List Home) (owner : ℕ) (name : List ℕ) (g : Grant)
   pub name_is : g.stream ≡ name
   pub stream : Stream
   pub found : stream_at homes g.owner name ≡ Some stream
-  pub schema : stream.schema ≡ g.schema
+  pub shows : IsGrantOf g stream
 
 pub given : (homes : List Home) → AreOfStreams homes → (user owner : ℕ) (name : List ℕ) (g : Grant) → grant_of (home_at homes user) owner name ≡ Some g → Given homes owner name g
 given homes all user owner name g h =
@@ -106,7 +188,7 @@ given homes all user owner name g h =
       name_is = sym (name_eq name g.stream both.1);
       stream = there.0;
       found = sym (ap (λ o. stream_at homes o name) place) ∙ there.1;
-      schema = there.2;
+      shows = there.2;
     }
 
 -- the same, of the home that the tenant has
@@ -120,7 +202,7 @@ replaced homes i new keep shown all j owner name g h =
     let old = grow_at (AreShown homes) (AreShown homes) homes i new (λ k. shown) (λ home k. k) j (all j) owner name g h in
     let now =
     grow_at (λ home. find_named home.streams name ≡ Some old.0) (λ home. Has home.streams name old.0) homes i new (keep name old.0) (λ home k. still home.streams name old.0 k) owner old.1 in
-    (now.now, now.found, now.schema ∙ old.2)
+    (now.now, now.found, of_same g old.0 now.now now.schema old.2)
 
 -- after a change of a home's streams
 pub streams_replaced : (homes : List Home) (i : ℕ) (old new : Home) → home_at homes i ≡ old → new.granted ≡ old.granted
@@ -130,17 +212,15 @@ streams_replaced homes i old new is same keep all =
     (λ owner name g h. all i owner name g (ap (λ gs. find (is_of owner name) gs) (ap (λ home. home.granted) is ∙ sym same) ∙ h)) all
 
 -- after one more grant to a home
-pub grant_added : (homes : List Home) (i : ℕ) (old : Home) (new : Grant) → home_at homes i ≡ old → option_map (λ s. s.schema) (stream_at homes new.owner new.stream) ≡ Some new.schema
-    → AreOfStreams homes → AreOfStreams (set homes i (with_grant new old))
+pub grant_added : (homes : List Home) (i : ℕ) (old : Home) (new : Grant) → home_at homes i ≡ old → Shown homes new.owner new.stream new → AreOfStreams homes → AreOfStreams (set homes i (with_grant new old))
 grant_added homes i old new is there all =
-    replaced homes i (with_grant new old) (λ m s k. still old.streams m s (ap (λ home. find_named home.streams m) (sym is) ∙ k)) (one_more homes old new shown (subst (AreShown homes) is (all i))) all
-  where
-    by : (o : Option Stream) → stream_at homes new.owner new.stream ≡ o → option_map (λ s. s.schema) o ≡ Some new.schema → Shown homes new.owner new.stream new
-    by None e k = absurd cc
-    by (Some s) e k = (s, e, cc)
+    replaced homes i (with_grant new old) (λ m s k. still old.streams m s (ap (λ home. find_named home.streams m) (sym is) ∙ k)) (one_more homes old new there (subst (AreShown homes) is (all i))) all
 
-    shown : Shown homes new.owner new.stream new
-    shown = by (stream_at homes new.owner new.stream) refl there
+-- after a grant is taken from a home
+pub grant_taken : (homes : List Home) (i : ℕ) (old : Home) (owner : ℕ) (stream : List ℕ) → home_at homes i ≡ old → AreOfStreams homes → AreOfStreams (set homes i (without_grant owner stream old))
+grant_taken homes i old owner stream is all =
+    replaced homes i (without_grant owner stream old) (λ m s k. still old.streams m s (ap (λ home. find_named home.streams m) (sym is) ∙ k))
+    (λ o name g k. (subst (AreShown homes) is (all i)) o name g (still_granted owner o stream name old g k)) all
 
 -- after a change of a stream's time, where it is accepted
 pub time_kept : {E : Type 0} (told : Result (Unit {0}) E) (old new : List (Named Stream)) (name : List ℕ) (at : ℕ) → OnOk told (new ≡ change_named (opens at) name old) → OnErr told (new ≡ old)
@@ -165,7 +245,7 @@ after_done : (homes : List Home) (user : ℕ) (command : StreamCommand) → refu
 after_done homes user command accepted all j owner name g h =
     let old = grants_of_old homes user command accepted all j owner name g h in
     let now = streams_stay homes user command owner name old.0 old.1 in
-    (now.now, now.found, now.schema ∙ old.2)
+    (now.now, now.found, of_same g old.0 now.now now.schema old.2)
 
 after_one : (homes : List Home) (user : ℕ) (command : StreamCommand) → AreOfStreams homes → AreOfStreams (directory_after homes user command)
 after_one homes user command all = by (refused homes user command) refl
@@ -178,7 +258,7 @@ after_all : (homes : List Home) (calls : List (ℕ × StreamCommand)) → AreOfS
 after_all homes [] all = all
 after_all homes (call ∷ calls) all = after_all (directory_after homes call.0 call.1) calls (after_one homes call.0 call.1 all)
 
-no_grants : (table : List Tenant) (place : ℕ) → (home_at (nothing_made table) place).granted ≡ []
+pub no_grants : (table : List Tenant) (place : ℕ) → (home_at (nothing_made table) place).granted ≡ []
 no_grants [] place = refl
 no_grants (t ∷ table) zero = refl
 no_grants (t ∷ table) (suc place) = no_grants table place

@@ -1,7 +1,9 @@
 -- The directory after many commands is what the accepted ones among them make.
-use Rattle.std.specs.Prelude.{◌≡◌, ℕ, List, [], ◌∷◌, Some, is_none, slice_get, if◌then◌else◌}
+use Rattle.std.specs.Prelude.{◌≡◌, ◌<◌, ℕ, List, [], ◌∷◌, length, Some, is_none, slice_get, if◌then◌else◌}
+use Rattle.std.specs.List.{AllByRecursion}
 use Rattle.cql_tenants.specs.declared.tenants.Tenant.{Tenant}
 use Rattle.cql_tenants.specs.Named.{Named, find_named, place_of}
+use Rattle.cql_places.specs.Places.{at_places}
 use Rattle.cql_tenants.specs.Home.{Home, Stream, Grant, nothing_made, home_at, stream_at, grant_of}
 use Rattle.cql_tenants.specs.Directory.{StreamCommand, refused, done, directory_after}
 
@@ -22,11 +24,16 @@ all_done homes (call ∷ calls) = all_done (done homes call.0 call.1) calls
 abbrev pub IsDirectoryLaw : Type 0
 IsDirectoryLaw = (homes : List Home) (calls : List (ℕ × StreamCommand)) → directory_from homes calls ≡ all_done homes (accepted homes calls)
 
--- each grant that a tenant has is of a stream that is there, with the columns of the grant
+-- the grant shows the stream's columns at its places
+pub record IsGrantOf (g : Grant) (s : Stream) : Type 0 where
+  pub within : AllByRecursion (λ place. place < length s.schema) g.places
+  pub schema : g.schema ≡ at_places s.schema g.places
+
+-- each grant that a tenant has is of a stream that is there, and shows its columns at the grant's places
 abbrev pub AreOfStreams : List Home → Type 0
 AreOfStreams homes =
     (place owner : ℕ) (name : List ℕ) (g : Grant) → grant_of (home_at homes place) owner name ≡ Some g
-    → (s : Stream) × (stream_at homes owner name ≡ Some s) × (s.schema ≡ g.schema)
+    → (s : Stream) × (stream_at homes owner name ≡ Some s) × IsGrantOf g s
 
 abbrev pub IsGrantLaw : Type 0
 IsGrantLaw = (table : List Tenant) (calls : List (ℕ × StreamCommand)) → AreOfStreams (directory_from (nothing_made table) calls)

@@ -1,5 +1,5 @@
 -- What a tenant reads: its own streams, and those granted to it.
-use Rattle.std.specs.Prelude.{ℕ, ◌==◌, List, map, ◌++◌, Option, Some, None, option_map, Result, Ok, Err, if◌then◌else◌}
+use Rattle.std.specs.Prelude.{ℕ, Bool, false, ◌==◌, List, [], length, map, ◌++◌, Option, Some, None, option_map, Result, Ok, Err, if◌then◌else◌}
 use Rattle.cql_value.specs.declared.schema.Column.{Column}
 use Rattle.cql_tenants.specs.declared.refusal.StreamRefusal.{StreamRefusal}
 use Rattle.cql_tenants.specs.declared.refusal.StreamRefusal.TheVariants.{UnknownTenant}
@@ -8,15 +8,16 @@ use Rattle.cql_tenants.specs.declared.readable.Found.{Found}
 use Rattle.cql_tenants.specs.declared.readable.OwnStream.{OwnStream}
 use Rattle.cql_tenants.specs.declared.readable.ReadStream.{ReadStream}
 use Rattle.cql_tenants.specs.Named.{Named}
+use Rattle.cql_places.specs.Places.{all_places}
 use Rattle.cql_tenants.specs.Home.{Home, Stream, Grant, is_place, home_at, tenant_named, stream_at, opened_at, grant_of}
 
 -- a stream of the tenant's own goes by its name
 abbrev pub own_readable : Named Stream → Readable
-own_readable s = record { owner = None; name = s.name; schema = s.item.schema; opened = s.item.clock }
+own_readable s = record { owner = None; name = s.name; schema = s.item.schema; places = all_places (length s.item.schema); opened = s.item.clock }
 
 -- one of another's goes by owner and name, and has the columns of the grant
 abbrev pub granted_readable : List Home → Grant → Readable
-granted_readable homes g = record { owner = Some (home_at homes g.owner).name; name = g.stream; schema = g.schema; opened = opened_at homes g.owner g.stream }
+granted_readable homes g = record { owner = Some (home_at homes g.owner).name; name = g.stream; schema = g.schema; places = g.places; opened = opened_at homes g.owner g.stream }
 
 -- own streams in order of making, then the others in order of the grants
 abbrev pub all_readable : List Home → Home → List Readable
@@ -29,23 +30,28 @@ readable_to homes user = if is_place homes user then Ok (all_readable homes (hom
 abbrev pub own_stream : Named Stream → OwnStream
 own_stream s = record { name = s.name; opened = s.item.clock }
 
-abbrev pub read_stream : List Home → Grant → ReadStream
-read_stream homes g = record { owner = (home_at homes g.owner).name; stream = g.stream; opened = opened_at homes g.owner g.stream }
+-- the names of the columns, where the grant names them
+abbrev pub named_columns : Bool → List Column → Option (List (List ℕ))
+named_columns named columns = if named then Some (map (λ c. c.name) columns) else None
 
--- a stream that a tenant reads: its owner's place, its columns there, and the least time that it still takes
+abbrev pub read_stream : List Home → Grant → ReadStream
+read_stream homes g = record { owner = (home_at homes g.owner).name; stream = g.stream; columns = named_columns g.named g.schema; opened = opened_at homes g.owner g.stream }
+
+-- a stream that a tenant reads: its owner's place, the columns that the tenant sees, whether a grant names them, and the least time that it still takes
 pub record StreamSeen : Type 0 where
   pub owner : ℕ
   pub schema : List Column
+  pub named : Bool
   pub opened : ℕ
 
 abbrev pub seen_of : Found → StreamSeen
-seen_of f = record { owner = f.owner; schema = f.schema.now; opened = f.opened }
+seen_of f = record { owner = f.owner; schema = f.schema.now; named = f.named; opened = f.opened }
 
 abbrev pub own_found : List Home → ℕ → List ℕ → Option StreamSeen
-own_found homes user name = option_map (λ s. record { owner = user; schema = s.schema; opened = s.clock }) (stream_at homes user name)
+own_found homes user name = option_map (λ s. record { owner = user; schema = s.schema; named = false; opened = s.clock }) (stream_at homes user name)
 
 abbrev pub granted_found : List Home → ℕ → ℕ → List ℕ → Option StreamSeen
-granted_found homes user owner name = option_map (λ g. record { owner = g.owner; schema = g.schema; opened = opened_at homes g.owner g.stream }) (grant_of (home_at homes user) owner name)
+granted_found homes user owner name = option_map (λ g. record { owner = g.owner; schema = g.schema; named = g.named; opened = opened_at homes g.owner g.stream }) (grant_of (home_at homes user) owner name)
 
 -- the tenant that is meant by what stands before the dot: with no dot the caller itself
 abbrev pub owner_meant : List Home → ℕ → Option (List ℕ) → Option ℕ
@@ -59,3 +65,15 @@ found_of homes user (Some owner) name = if owner == user then own_found homes us
 -- a stream that isn't granted is found as little as one that isn't there
 abbrev pub found : List Home → ℕ → Option (List ℕ) → List ℕ → Option StreamSeen
 found homes user owner name = if is_place homes user then found_of homes user (owner_meant homes user owner) name else None
+
+-- the places of the columns that a tenant sees, in the stream's own row: all of a stream of its own, of another's those of the grant
+abbrev pub own_places : Option Stream → List ℕ
+own_places None = []
+own_places (Some s) = all_places (length s.schema)
+
+abbrev pub granted_places : Option Grant → List ℕ
+granted_places None = []
+granted_places (Some g) = g.places
+
+abbrev pub places_seen : List Home → ℕ → ℕ → List ℕ → List ℕ
+places_seen homes user owner name = if owner == user then own_places (stream_at homes user name) else granted_places (grant_of (home_at homes user) owner name)

@@ -3,11 +3,14 @@ ghost use Rattle.std.specs.Prelude.{◌≡◌, ℕ, ◌<◌, ◌≤◌, ◌^◌,
 ghost use Rattle.std.specs.Result.{result_err};
 ghost use Rattle.cql_order.specs.Clock.{time_fault};
 ghost use Rattle.cql_tenants.specs.Named.{place_of};
-ghost use Rattle.cql_tenants.specs.Home.{nothing_made, is_place, home_at, change_home, tenant_named, stream_at};
-ghost use Rattle.cql_tenants.specs.Checks.{grantee_refused};
-ghost use Rattle.cql_tenants.specs.Directory.{Make, Share, Put, Beat, with_time, refused, directory_after};
-ghost use Rattle.cql_tenants.specs.Readable.{readable_to, own_stream, read_stream, owner_meant, seen_of, own_found, granted_found, found};
+ghost use Rattle.cql_tenants.specs.Home.{nothing_made, is_place, home_at, change_home, tenant_named, stream_at, grant_of};
+ghost use Rattle.cql_places.specs.Places.{at_places, AreWithin};
+ghost use Rattle.cql_tenants.specs.Chosen.{is_shown};
+ghost use Rattle.cql_tenants.specs.Checks.{grantee_refused, taken_refused};
+ghost use Rattle.cql_tenants.specs.Directory.{Make, Share, Revoke, Put, Beat, with_time, refused, directory_after};
+ghost use Rattle.cql_tenants.specs.Readable.{readable_to, own_stream, read_stream, owner_meant, seen_of, own_found, granted_found, found, granted_places, places_seen};
 
+use crate::chosen::is_shown;
 use crate::home::{Grant, Home};
 use crate::homes::{home_at, tenant_named};
 use crate::readable::{
@@ -15,6 +18,7 @@ use crate::readable::{
 };
 use crate::refusal::StreamRefusal;
 use crate::tenants::{Quotas, TenantId, TenantTable};
+use cql_places::all_places;
 use cql_value::{Items, Row, Schema, Text};
 use std::alloc::{AllocError, Global};
 use std::marker::Model;
@@ -167,10 +171,18 @@ impl Directory {
         self.homes[tenant.place()].streams.beat(stream, at)
     }
 
-    // The tenant at whose place a stream of the tenant's own may be granted.
-    fn grantee(&self, tenant: TenantId, stream: &str, to: &str) -> Result<usize, StreamRefusal>
+    // The tenant at whose place a stream of the tenant's own, of this schema, may be granted.
+    fn grantee(
+        &self,
+        tenant: TenantId,
+        stream: &str,
+        schema: &Schema,
+        columns: Option<&Items<Text>>,
+        to: &str,
+    ) -> Result<usize, StreamRefusal>
         requires { tenant < length self.now }
-        ensures refused { result_err result ≡ grantee_refused self.now tenant stream.now (tenant_named self.now tenant to.now) }
+        ensures refused { result_err result ≡ grantee_refused self.now tenant stream.now schema.now (option_copied columns.entry) (tenant_named self.now tenant to.now) }
+        ensures shown { IfOk result (λ place. is_shown schema.now (option_copied columns.entry) ≡ true) }
         ensures place { IfOk result (λ place. tenant_named self.now tenant to.now ≡ Some place) }
         ensures within { IfOk result (λ place. place < length self.now) }
     {
@@ -180,6 +192,9 @@ impl Directory {
         if place == tenant.place() {
             return Err(StreamRefusal::SelfGrant);
         }
+        if !is_shown(schema, columns) {
+            return Err(StreamRefusal::BadGrantColumns);
+        }
         let grantee = home_at(&self.homes, place);
         if grantee.grant_of(tenant.place(), stream).is_some() {
             return Err(StreamRefusal::AlreadyGranted);
@@ -187,14 +202,16 @@ impl Directory {
         Ok(place)
     }
 
-    // What a grant gives: the stream's columns, and the place of the tenant that gets it.
+    // What a grant is of: the stream's columns, and the place of the tenant that gets it.
     fn granting(
         &self,
         tenant: TenantId,
         stream: &str,
+        columns: Option<&Items<Text>>,
         to: &str,
     ) -> Result<(&Schema, usize), StreamRefusal>
-        ensures refused { result_err result ≡ refused self.now tenant (Share stream.now to.now) }
+        ensures refused { result_err result ≡ refused self.now tenant (Share stream.now to.now (option_copied columns.entry)) }
+        ensures shown { IfOk result (λ p. is_shown p.0.now (option_copied columns.entry) ≡ true) }
         ensures schema { IfOk result (λ p. option_map (λ s. s.schema) (stream_at self.now tenant stream.now) ≡ Some p.0.now) }
         ensures place { IfOk result (λ p. tenant_named self.now tenant to.now ≡ Some p.1) }
         ensures within { IfOk result (λ p. p.1 < length self.now) }
@@ -205,36 +222,88 @@ impl Directory {
         let Some(own) = home_at(&self.homes, tenant.place()).streams.get(stream) else {
             return Err(StreamRefusal::UnknownStream);
         };
-        let place = self.grantee(tenant, stream, to)?;
+        let place = self.grantee(tenant, stream, &own.schema, columns, to)?;
         Ok((&own.schema, place))
     }
 
-    /// Grants a stream of the tenant's own, with all its columns, to the tenant of a name: 31 for
-    /// the caller, 30, 31, 33, 32, in this order.
+    /// Grants a stream of the tenant's own to the tenant of a name, with the columns of these names,
+    /// or with all where none are named: 31 for the caller, 30, 31, 33, 34, 32, in this order.
     pub fn grant(
         &mut self,
         alloc: Global,
         tenant: TenantId,
         stream: &str,
+        columns: Option<&Items<Text>>,
         to: &str,
     ) -> Result<Result<(), StreamRefusal>, AllocError>
-        ensures refused { IfOk result (λ told. result_err told ≡ refused self.old tenant (Share stream.now to.now)) }
-        ensures state { OnOk result (self.new ≡ directory_after self.old tenant (Share stream.now to.now)) }
+        ensures refused { IfOk result (λ told. result_err told ≡ refused self.old tenant (Share stream.now to.now (option_copied columns.entry))) }
+        ensures state { OnOk result (self.new ≡ directory_after self.old tenant (Share stream.now to.now (option_copied columns.entry))) }
         ensures err { OnErr result (self.new ≡ self.old) }
-        ensures memory { OnErr result (refused self.old tenant (Share stream.now to.now) ≡ None) }
+        ensures memory { OnErr result (refused self.old tenant (Share stream.now to.now (option_copied columns.entry)) ≡ None) }
     {
-        let (schema, place) = match self.granting(tenant, stream, to) {
+        let (schema, place) = match self.granting(tenant, stream, columns, to) {
             Ok(granting) => granting,
             Err(refusal) => return Ok(Err(refusal)),
         };
-        let schema = schema.try_clone(alloc)?;
-        let grant = Grant {
-            owner: tenant,
-            stream: Text::new(alloc, stream)?,
-            schema,
-        };
+        let grant = Grant::new(alloc, tenant, stream, schema, columns)?;
         self.homes[place].granted.push(grant)?;
         Ok(Ok(()))
+    }
+
+    // The tenant from which the grant of a stream of the tenant's own may be taken back.
+    fn taken(&self, tenant: TenantId, stream: &str, to: &str) -> Result<usize, StreamRefusal>
+        requires { tenant < length self.now }
+        ensures refused { result_err result ≡ taken_refused self.now tenant stream.now (tenant_named self.now tenant to.now) }
+        ensures place { IfOk result (λ place. tenant_named self.now tenant to.now ≡ Some place) }
+        ensures within { IfOk result (λ place. place < length self.now) }
+    {
+        let Some(place) = tenant_named(&self.homes, tenant.place(), to) else {
+            return Err(StreamRefusal::UnknownTenant);
+        };
+        if place == tenant.place() {
+            return Err(StreamRefusal::NotGranted);
+        }
+        let reader = home_at(&self.homes, place);
+        if reader.grant_of(tenant.place(), stream).is_none() {
+            return Err(StreamRefusal::NotGranted);
+        }
+        Ok(place)
+    }
+
+    // The place of the tenant from which a grant is taken back.
+    fn revoking(&self, tenant: TenantId, stream: &str, to: &str) -> Result<usize, StreamRefusal>
+        ensures refused { result_err result ≡ refused self.now tenant (Revoke stream.now to.now) }
+        ensures place { IfOk result (λ place. tenant_named self.now tenant to.now ≡ Some place) }
+        ensures within { IfOk result (λ place. place < length self.now) }
+    {
+        if !self.has(tenant) {
+            return Err(StreamRefusal::UnknownTenant);
+        }
+        if home_at(&self.homes, tenant.place())
+            .streams
+            .get(stream)
+            .is_none()
+        {
+            return Err(StreamRefusal::UnknownStream);
+        }
+        self.taken(tenant, stream, to)
+    }
+
+    /// Takes back the grant of a stream of the tenant's own from the tenant of a name, whose place
+    /// it tells: 31 for the caller, 30, 31, 35, in this order. Takes no memory.
+    pub fn revoke(
+        &mut self,
+        tenant: TenantId,
+        stream: &str,
+        to: &str,
+    ) -> Result<usize, StreamRefusal>
+        ensures refused { result_err result ≡ refused self.old tenant (Revoke stream.now to.now) }
+        ensures state { self.new ≡ directory_after self.old tenant (Revoke stream.now to.now) }
+        ensures place { IfOk result (λ place. tenant_named self.old tenant to.now ≡ Some place) }
+    {
+        let place = self.revoking(tenant, stream, to)?;
+        self.homes[place].take_back(tenant.place(), stream);
+        Ok(place)
     }
 
     /// The streams that the tenant reads: its own in order of making, then the others in order of
@@ -295,7 +364,9 @@ impl Directory {
         requires { tenant < length self.now }
         ensures seen { option_map seen_of result ≡ own_found self.now tenant stream.now }
         ensures place { IfSome result (λ f. place_of (home_at self.now f.owner).streams stream.now ≡ Some f.place) }
-        ensures schema { IfSome result (λ f. option_map (λ s. s.schema) (stream_at self.now f.owner stream.now) ≡ Some f.schema.now) }
+        ensures schema { IfSome result (λ f. option_map (λ s. at_places s.schema f.places.now) (stream_at self.now f.owner stream.now) ≡ Some f.schema.now) }
+        ensures within { IfSome result (λ f. IfSome (stream_at self.now f.owner stream.now) (λ s. AreWithin f.places.now (length s.schema))) }
+        ensures places { IfSome result (λ f. f.places.now ≡ places_seen self.now tenant f.owner stream.now) }
     {
         let streams = &home_at(&self.homes, tenant.place()).streams;
         let place = streams.place(stream)?;
@@ -304,6 +375,8 @@ impl Directory {
             owner: tenant,
             place,
             schema: &own.schema,
+            places: all_places(&own.schema),
+            named: false,
             opened: own.clock.opened(),
         })
     }
@@ -312,7 +385,10 @@ impl Directory {
         requires { tenant < length self.now }
         ensures seen { option_map seen_of result ≡ granted_found self.now tenant owner stream.now }
         ensures place { IfSome result (λ f. place_of (home_at self.now f.owner).streams stream.now ≡ Some f.place) }
-        ensures schema { IfSome result (λ f. option_map (λ s. s.schema) (stream_at self.now f.owner stream.now) ≡ Some f.schema.now) }
+        ensures schema { IfSome result (λ f. option_map (λ s. at_places s.schema f.places.now) (stream_at self.now f.owner stream.now) ≡ Some f.schema.now) }
+        ensures within { IfSome result (λ f. IfSome (stream_at self.now f.owner stream.now) (λ s. AreWithin f.places.now (length s.schema))) }
+        ensures places { IfSome result (λ f. f.places.now ≡ granted_places (grant_of (home_at self.now tenant) owner stream.now)) }
+        ensures owner { IfSome result (λ f. f.owner ≡ owner) }
     {
         let home = home_at(&self.homes, tenant.place());
         let grant = home.grant_of(owner, stream)?;
@@ -321,6 +397,8 @@ impl Directory {
             owner: grant.owner,
             place,
             schema: &grant.schema,
+            places: grant.places.as_slice(),
+            named: grant.named,
             opened: self.opened(grant.owner, place),
         })
     }
@@ -331,7 +409,9 @@ impl Directory {
     pub fn find(&self, tenant: TenantId, owner: Option<&str>, stream: &str) -> Option<Found<'_>>
         ensures seen { option_map seen_of result ≡ found self.now tenant (option_copied owner.entry) stream.now }
         ensures place { IfSome result (λ f. place_of (home_at self.now f.owner).streams stream.now ≡ Some f.place) }
-        ensures schema { IfSome result (λ f. option_map (λ s. s.schema) (stream_at self.now f.owner stream.now) ≡ Some f.schema.now) }
+        ensures schema { IfSome result (λ f. option_map (λ s. at_places s.schema f.places.now) (stream_at self.now f.owner stream.now) ≡ Some f.schema.now) }
+        ensures within { IfSome result (λ f. IfSome (stream_at self.now f.owner stream.now) (λ s. AreWithin f.places.now (length s.schema))) }
+        ensures places { IfSome result (λ f. f.places.now ≡ places_seen self.now tenant f.owner stream.now) }
     {
         if !self.has(tenant) {
             return None;

@@ -1,10 +1,13 @@
 // What there is of one tenant.
-ghost use Rattle.std.specs.Prelude.{◌≡◌, ◌≤◌, ◌^◌, ◌&&◌, ◌==◌, IfOk, IfSome, OnOk, OnErr, option_copied, slice_get, Some, None};
+ghost use Rattle.std.specs.Prelude.{◌≡◌, ◌≤◌, ◌^◌, ◌&&◌, ◌==◌, not, true, IfOk, IfSome, OnOk, OnErr, option_copied, slice_get, Some, None};
 ghost use Rattle.std.specs.Result.{result_err};
-ghost use Rattle.cql_tenants.specs.Home.{empty_home, is_of, grant_of};
+ghost use Rattle.std.specs.List.{filter};
+ghost use Rattle.cql_tenants.specs.Chosen.{is_shown};
+ghost use Rattle.cql_tenants.specs.Home.{empty_home, is_of, grant_of, without_grant};
 ghost use Rattle.cql_tenants.specs.Checks.{make_refused, room_refused};
-ghost use Rattle.cql_tenants.specs.Directory.{with_stream, with_grant};
+ghost use Rattle.cql_tenants.specs.Directory.{with_stream, grant_over};
 
+use crate::chosen::{schema_at, shown_places};
 use crate::refusal::StreamRefusal;
 use crate::shelf::Shelf;
 use crate::stream::Stream;
@@ -19,6 +22,10 @@ pub struct Grant {
     pub owner: TenantId,
     pub stream: Text,
     pub schema: Schema,
+    /// Where these columns stand among the stream's own.
+    pub places: Items<usize>,
+    /// Whether the grant names them.
+    pub named: bool,
 }
 
 impl Drop for Grant {
@@ -27,17 +34,58 @@ impl Drop for Grant {
             owner: _,
             stream: _,
             schema: _,
+            places: _,
+            named: _,
         } = self;
     }
 }
 
 impl Grant {
+    /// A grant of a stream of this schema, which shows the columns of these names, or all where
+    /// none are named.
+    pub fn new(
+        alloc: Global,
+        owner: TenantId,
+        stream: &str,
+        schema: &Schema,
+        columns: Option<&Items<Text>>,
+    ) -> Result<Grant, AllocError>
+        requires { is_shown schema.now (option_copied columns) ≡ true }
+        ensures { IfOk result (λ g. g ≡ grant_over owner stream.now schema.now (option_copied columns.entry)) }
+    {
+        let _all = schema.columns();
+        let places = shown_places(alloc, schema, columns)?;
+        let shown = schema_at(alloc, schema, places.as_slice())?;
+        let stream = Text::new(alloc, stream)?;
+        Ok(Grant {
+            owner,
+            stream,
+            schema: shown,
+            places,
+            named: columns.is_some(),
+        })
+    }
+
     // Whether it is a grant of that stream.
     #[tactic(auto, unfolding(crate::specs::Named::same_name))]
     fn is_of(&self, owner: usize, stream: &str) -> bool
         ensures { result ≡ is_of owner stream.now self.now }
     {
         owner == self.owner.place() && stream == self.stream.as_str()
+    }
+}
+
+// Takes the grants of that stream away.
+fn take_grants(granted: &mut Items<Grant>, owner: usize, stream: &str)
+    ensures { granted.new ≡ filter (λ grant. not (is_of owner stream.now grant)) granted.old }
+{
+    let mut at = 0;
+    while at < granted.len() {
+        if granted.as_slice()[at].is_of(owner, stream) {
+            let _grant = granted.remove(at);
+        } else {
+            at += 1;
+        }
     }
 }
 
@@ -83,6 +131,13 @@ impl Home {
             .as_slice()
             .iter()
             .find(|grant| grant.is_of(owner, stream))
+    }
+
+    /// Takes the grant of that stream away. Takes no memory.
+    pub fn take_back(&mut self, owner: usize, stream: &str)
+        ensures { self.new ≡ without_grant owner stream.now self.old }
+    {
+        take_grants(&mut self.granted, owner, stream);
     }
 
     // Whether there is a stream of the name, or no room for one more.

@@ -1,13 +1,15 @@
 // Streams as their readers see them.
 ghost use Rattle.std.specs.Prelude.{◌≡◌, IfOk, map};
-ghost use Rattle.cql_tenants.specs.Readable.{own_readable, granted_readable, own_stream, read_stream};
+ghost use Rattle.cql_value.specs.declared.schema.Column.{Column as column};
+ghost use Rattle.cql_tenants.specs.Readable.{own_readable, granted_readable, own_stream, named_columns, read_stream};
 
 use crate::home::{Grant, Home};
 use crate::homes::{opened_at, owner_name};
 use crate::shelf::Shelf;
 use crate::stream::Stream;
 use crate::tenants::TenantId;
-use cql_value::{Items, Schema, Text};
+use cql_places::all_places;
+use cql_value::{Column, Items, Name, Schema, Text};
 use std::alloc::{AllocError, Global};
 
 /// A stream that a tenant reads: under its name alone where it is the tenant's own, else under its
@@ -17,6 +19,8 @@ pub struct Readable {
     pub name: Text,
     /// The columns that the tenant sees.
     pub schema: Schema,
+    /// Where they stand among the stream's own.
+    pub places: Items<usize>,
     /// The least time, in ticks, that the stream still takes.
     pub opened: u64,
 }
@@ -27,6 +31,7 @@ impl Drop for Readable {
             owner: _,
             name: _,
             schema: _,
+            places: _,
             opened: _,
         } = self;
     }
@@ -40,6 +45,10 @@ pub struct Found<'a> {
     pub place: usize,
     /// The columns that the tenant sees.
     pub schema: &'a Schema,
+    /// Where they stand among the stream's own.
+    pub places: &'a [usize],
+    /// Whether a grant names them.
+    pub named: bool,
     /// The least time, in ticks, that the stream still takes.
     pub opened: u64,
 }
@@ -61,6 +70,8 @@ impl Drop for OwnStream {
 pub struct ReadStream {
     pub owner: Text,
     pub stream: Text,
+    /// The names of the columns, where the grant names them.
+    pub columns: Option<Items<Name>>,
     /// The least time, in ticks, that the stream still takes.
     pub opened: u64,
 }
@@ -70,6 +81,7 @@ impl Drop for ReadStream {
         let ReadStream {
             owner: _,
             stream: _,
+            columns: _,
             opened: _,
         } = self;
     }
@@ -81,10 +93,12 @@ fn own_readable(alloc: Global, name: &str, stream: &Stream) -> Result<Readable, 
 {
     let name = Text::new(alloc, name)?;
     let schema = stream.schema.try_clone(alloc)?;
+    let places = Items::from_slice(alloc, all_places(&stream.schema))?;
     Ok(Readable {
         owner: None,
         name,
         schema,
+        places,
         opened: stream.clock.opened(),
     })
 }
@@ -97,10 +111,12 @@ fn granted_readable(alloc: Global, homes: &[Home], grant: &Grant) -> Result<Read
     let owner_text = Text::new(alloc, owner_name(homes, owner))?;
     let name = grant.stream.try_clone(alloc)?;
     let schema = grant.schema.try_clone(alloc)?;
+    let places = Items::from_slice(alloc, grant.places.as_slice())?;
     Ok(Readable {
         owner: Some(owner_text),
         name,
         schema,
+        places,
         opened: opened_at(homes, owner, grant.stream.as_str()),
     })
 }
@@ -142,15 +158,43 @@ fn own_stream(alloc: Global, name: &str, stream: &Stream) -> Result<OwnStream, A
     })
 }
 
+// The names of columns.
+fn names_of(alloc: Global, columns: &[Column]) -> Result<Items<Name>, AllocError>
+    ensures { IfOk result (λ names. names ≡ map (λ (c : column). c.name) columns.now) }
+{
+    let mut names = Items::new(alloc);
+    for column in columns {
+        names.push(column.name.try_clone()?)?;
+    }
+    Ok(names)
+}
+
+// The names of columns, where a grant names them.
+fn named_columns(
+    alloc: Global,
+    named: bool,
+    schema: &Schema,
+) -> Result<Option<Items<Name>>, AllocError>
+    ensures { IfOk result (λ names. names ≡ named_columns named schema.now) }
+{
+    if !named {
+        return Ok(None);
+    }
+    let names = names_of(alloc, schema.columns())?;
+    Ok(Some(names))
+}
+
 fn read_stream(alloc: Global, homes: &[Home], grant: &Grant) -> Result<ReadStream, AllocError>
     ensures { IfOk result (λ s. s ≡ read_stream homes.now grant.now) }
 {
     let owner = grant.owner.place();
     let owner_text = Text::new(alloc, owner_name(homes, owner))?;
     let stream = grant.stream.try_clone(alloc)?;
+    let columns = named_columns(alloc, grant.named, &grant.schema)?;
     Ok(ReadStream {
         owner: owner_text,
         stream,
+        columns,
         opened: opened_at(homes, owner, grant.stream.as_str()),
     })
 }

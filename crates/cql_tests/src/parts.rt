@@ -155,7 +155,7 @@ fn readable_streams(rt: HostRuntime) -> Result<(), Fail> {
     let schema = schema(alloc)?;
     let schema = directory.may_make(a, "s", Some(&schema))?;
     directory.make_stream(alloc, a, "s", schema)?;
-    directory.grant(alloc, a, "s", "b")??;
+    directory.grant(alloc, a, "s", None, "b")??;
     assert_eq!(rt; directory.readable(alloc, a)??.len(), 1);
     assert_eq!(rt; directory.readable(alloc, b)??.len(), 1);
     assert!(rt; directory.readable(alloc, stranger)?.is_err());

@@ -12,6 +12,8 @@ pub(crate) enum Say {
     Stream(&'static str),
     /// A stream, granted to a tenant.
     Grant(&'static str, &'static str),
+    /// A stream, whose grant is taken back from a tenant.
+    Revoke(&'static str, &'static str),
     /// A stream, an instant and a number.
     Put(&'static str, u64, i64),
     /// A stream and an instant.
@@ -66,6 +68,15 @@ fn grant(alloc: Global, stream: &str, to: &str) -> Result<Command, Unmade> {
     Ok(Command::Grant {
         stream,
         to: Text::new(alloc, to)?,
+        columns: None,
+    })
+}
+
+fn revoke(alloc: Global, stream: &str, to: &str) -> Result<Command, Unmade> {
+    let stream = Text::new(alloc, stream)?;
+    Ok(Command::Revoke {
+        stream,
+        to: Text::new(alloc, to)?,
     })
 }
 
@@ -91,6 +102,7 @@ pub(crate) fn command(alloc: Global, say: Say) -> Result<Command, Unmade> {
     match say {
         Say::Stream(name) => stream(alloc, name),
         Say::Grant(name, to) => grant(alloc, name, to),
+        Say::Revoke(name, to) => revoke(alloc, name, to),
         Say::Put(name, at, number) => put(alloc, name, at, number),
         Say::Beat(name, at) => Ok(Command::Beat {
             stream: Text::new(alloc, name)?,
@@ -300,6 +312,64 @@ const OVERRUN: &[Call] = &[
     ("a", Say::Drop("q"), Want::Done, 0),
 ];
 
+// A revoked query lets its rows go, and no new grant wakes it.
+const REVOKED: &[Call] = &[
+    ("a", Say::Stream("s"), Want::Done, 0),
+    ("a", Say::Grant("s", "b"), Want::Done, 0),
+    (
+        "b",
+        Say::Query("q", "Select Rstream(*) From a.s"),
+        Want::Base(0),
+        0,
+    ),
+    ("a", Say::Put("s", 1, 1), Want::Done, 1),
+    ("a", Say::Beat("s", 1), Want::Done, 1),
+    ("a", Say::Revoke("s", "b"), Want::Done, 0),
+    ("b", Say::Fetch("q"), Want::Refused(63), 0),
+    ("b", Say::Ack("q", 1), Want::Refused(63), 0),
+    ("b", Say::List, Want::Listed(0, 0, 1), 0),
+    ("a", Say::Revoke("s", "b"), Want::Refused(35), 0),
+    ("a", Say::Grant("s", "b"), Want::Done, 0),
+    ("b", Say::Fetch("q"), Want::Refused(63), 0),
+    ("a", Say::Put("s", 2, 2), Want::Done, 0),
+    ("b", Say::List, Want::Listed(0, 1, 1), 0),
+    ("b", Say::Drop("q"), Want::Done, 0),
+    (
+        "b",
+        Say::Query("q", "Select Rstream(*) From a.s"),
+        Want::Base(2),
+        0,
+    ),
+];
+
+// A query over streams of two owners, of which one takes its grant back: it lets the rows of both
+// go, and the owner's other query keeps its own.
+const TWO_OWNERS: &[Call] = &[
+    ("a", Say::Stream("s"), Want::Done, 0),
+    ("b", Say::Stream("t"), Want::Done, 0),
+    ("b", Say::Grant("t", "a"), Want::Done, 0),
+    (
+        "a",
+        Say::Query("p", "Select Istream(*) From s [Range 2]"),
+        Want::Base(0),
+        0,
+    ),
+    (
+        "a",
+        Say::Query("q", "Select Rstream(*) From s x, b.t y Where x.v = y.v"),
+        Want::Base(0),
+        0,
+    ),
+    ("a", Say::Put("s", 1, 1), Want::Done, 1),
+    ("a", Say::Put("s", 7, 2), Want::Done, 2),
+    ("a", Say::Ack("p", 7), Want::Done, 2),
+    ("b", Say::Revoke("t", "a"), Want::Done, 1),
+    ("a", Say::Fetch("q"), Want::Refused(63), 1),
+    ("a", Say::Put("s", 8, 3), Want::Done, 2),
+    ("a", Say::Drop("q"), Want::Done, 2),
+    ("a", Say::Drop("p"), Want::Done, 0),
+];
+
 // Six inputs of one stream, three of them by parts: two joins and a set operation.
 const SIX_INPUTS: &[Call] = &[
     ("a", Say::Stream("s"), Want::Done, 0),
@@ -399,6 +469,16 @@ const SCRIPTS: &[Script] = &[
         what: "an overrun",
         hold: 2,
         calls: OVERRUN,
+    },
+    Script {
+        what: "a revoke",
+        hold: 100,
+        calls: REVOKED,
+    },
+    Script {
+        what: "two owners",
+        hold: 100,
+        calls: TWO_OWNERS,
     },
     Script {
         what: "six inputs",

@@ -9,10 +9,10 @@ use Rattle.cql_meaning.specs.declared.command.ColumnText.{ColumnText}
 use Rattle.cql_meaning.specs.declared.command.Command.{Command}
 use Rattle.cql_meaning.specs.declared.command.Command.TheVariants as command
 use Rattle.cql_wire.specs.declared.command.Word.{Word}
-use Rattle.cql_wire.specs.declared.command.Word.TheVariants.{Stream, Grant, Put, Beat, Query, Fetch, Ack, Drop, List as Lists}
+use Rattle.cql_wire.specs.declared.command.Word.TheVariants.{Stream, Grant, Revoke, Put, Beat, Query, Fetch, Ack, Drop, List as Lists}
 use Rattle.cql_wire.specs.declared.fault.LineFault.{LineFault}
 use Rattle.cql_wire.specs.declared.fault.LineFault.TheVariants.{BadLine, BadCommand, BadKey}
-use Rattle.cql_wire.specs.Tree.{tree_of, text_at, whole_at, array_at, optional_text, optional_whole, has_only, all_of}
+use Rattle.cql_wire.specs.Tree.{tree_of, text_at, whole_at, array_at, optional_text, optional_array, optional_whole, has_only, all_of}
 
 -- ---- the words, and the keys of their lines
 
@@ -20,6 +20,7 @@ abbrev pub word_of : List ℕ → Option Word
 word_of text =
     if bytes_eq text (codes "stream") then Some Stream
     else (if bytes_eq text (codes "grant") then Some Grant
+    else (if bytes_eq text (codes "revoke") then Some Revoke
     else (if bytes_eq text (codes "put") then Some Put
     else (if bytes_eq text (codes "beat") then Some Beat
     else (if bytes_eq text (codes "query") then Some Query
@@ -27,12 +28,13 @@ word_of text =
     else (if bytes_eq text (codes "ack") then Some Ack
     else (if bytes_eq text (codes "drop") then Some Drop
     else (if bytes_eq text (codes "list") then Some Lists
-    else None))))))))
+    else None)))))))))
 
 -- beside these, `do` and `tenant` may stand in each line
 abbrev pub own_keys : Word → List (List ℕ)
 own_keys Stream = codes "name" ∷ codes "columns" ∷ []
-own_keys Grant = codes "stream" ∷ codes "to" ∷ []
+own_keys Grant = codes "stream" ∷ codes "to" ∷ codes "columns" ∷ []
+own_keys Revoke = codes "stream" ∷ codes "to" ∷ []
 own_keys Put = codes "stream" ∷ codes "at" ∷ codes "row" ∷ []
 own_keys Beat = codes "stream" ∷ codes "at" ∷ []
 own_keys Query = codes "name" ∷ codes "text" ∷ []
@@ -70,13 +72,24 @@ column_of d = option_and_then column_from (as_array d)
 abbrev pub columns_of : Data → Option (List ColumnText)
 columns_of d = option_and_then (all_of column_of) (array_at (codes "columns") d)
 
+-- the names of the columns that a grant shows, where it names them: a list of texts
+abbrev pub names_from : Option Items → Option (Option (List (List ℕ)))
+names_from None = Some None
+names_from (Some items) = option_map (λ names. Some names) (all_of as_str items)
+
+abbrev pub named_columns_of : Data → Option (Option (List (List ℕ)))
+named_columns_of d = option_and_then names_from (optional_array (codes "columns") d)
+
 -- ---- the command of an object
 
 abbrev pub stream_of : Data → Option Command
 stream_of d = option_and_then (λ name. option_map (λ columns. command.Stream name columns) (columns_of d)) (text_at (codes "name") d)
 
 abbrev pub grant_of : Data → Option Command
-grant_of d = option_and_then (λ stream. option_map (λ to. command.Grant stream to) (text_at (codes "to") d)) (text_at (codes "stream") d)
+grant_of d = option_and_then (λ stream. option_and_then (λ to. option_map (λ columns. command.Grant stream to columns) (named_columns_of d)) (text_at (codes "to") d)) (text_at (codes "stream") d)
+
+abbrev pub revoke_of : Data → Option Command
+revoke_of d = option_and_then (λ stream. option_map (λ to. command.Revoke stream to) (text_at (codes "to") d)) (text_at (codes "stream") d)
 
 abbrev pub put_of : Data → Option Command
 put_of d = option_and_then (λ stream. option_and_then (λ at. option_map (λ row. command.Put stream at row) (row_of d)) (whole_at (codes "at") d)) (text_at (codes "stream") d)
@@ -99,6 +112,7 @@ drop_of d = option_map (λ name. command.Drop name) (text_at (codes "name") d)
 abbrev pub of_word : Word → Data → Option Command
 of_word Stream d = stream_of d
 of_word Grant d = grant_of d
+of_word Revoke d = revoke_of d
 of_word Put d = put_of d
 of_word Beat d = beat_of d
 of_word Query d = query_of d

@@ -1,5 +1,5 @@
 -- The line of a reply.
-use Rattle.std.specs.Prelude.{◌≡◌, ℕ, Bool, true, false, ◌⊎◌, List, [], ◌∷◌, ◌++◌, codes, decimal, Option, if◌then◌else◌}
+use Rattle.std.specs.Prelude.{◌≡◌, ℕ, Bool, true, false, ◌⊎◌, List, [], ◌∷◌, ◌++◌, codes, decimal, Option, Some, None, if◌then◌else◌}
 use Rattle.std.specs.Fmt.{signed_decimal}
 use Rattle.std.specs.Io.KnownBytes.{Appends}
 use Rattle.json.specs.Print.{quoted}
@@ -73,8 +73,16 @@ queries_text = list_text query_text
 abbrev pub readable_name : ReadStream → List ℕ
 readable_name s = s.owner ++ (codes "." ++ s.stream)
 
+abbrev pub names_text : List (List ℕ) → List ℕ
+names_text = list_text quoted
+
+-- what stands before the time: the names of the columns, where the grant names them
+abbrev pub shown_text : Option (List (List ℕ)) → List ℕ
+shown_text None = codes "{\"open\":"
+shown_text (Some names) = codes "{\"columns\":" ++ (names_text names ++ codes ",\"open\":")
+
 abbrev pub readable_text : ReadStream → List ℕ
-readable_text s = codes "{\"open\":" ++ (decimal s.opened ++ (codes ",\"stream\":" ++ (quoted (readable_name s) ++ codes "}")))
+readable_text s = shown_text s.columns ++ (decimal s.opened ++ (codes ",\"stream\":" ++ (quoted (readable_name s) ++ codes "}")))
 
 abbrev pub all_readable_text : List ReadStream → List ℕ
 all_readable_text = list_text readable_text

@@ -1,13 +1,14 @@
 //! The command of a line.
 ghost use Rattle.std.specs.Prelude.{◌≡◌, map, Some, ok_or, codes};
 ghost use Rattle.serde_json.specs.View.{view, items_view};
+ghost use Rattle.serde_json.specs.Find.{as_str};
 ghost use Rattle.cql_wire.specs.Tree.{text_at, optional_text, all_of};
-ghost use Rattle.cql_wire.specs.Command.{word_of, keys_of, value_of, row_of, column_of, columns_of, stream_of, grant_of, put_of, beat_of, query_of, fetch_of, ack_of, drop_of, of_word, addressed_of, of_keys, of_object, of_data, command_of};
+ghost use Rattle.cql_wire.specs.Command.{word_of, keys_of, value_of, row_of, column_of, columns_of, stream_of, named_columns_of, grant_of, revoke_of, put_of, beat_of, query_of, fetch_of, ack_of, drop_of, of_word, addressed_of, of_keys, of_object, of_data, command_of};
 ghost use Rattle.cql_wire.specs.Fault.{Means};
 
 use crate::fault::LineFault;
 use crate::tree::{
-    array_at, has_only, optional_text, optional_whole, read_tree, text_at, whole_at,
+    array_at, has_only, optional_array, optional_text, optional_whole, read_tree, text_at, whole_at,
 };
 use cql_core::{ColumnText, Command};
 use cql_value::{Items, Row, Text, Value};
@@ -19,6 +20,7 @@ use std::alloc::Global;
 enum Word {
     Stream,
     Grant,
+    Revoke,
     Put,
     Beat,
     Query,
@@ -35,6 +37,7 @@ impl Word {
         match text {
             "stream" => Some(Word::Stream),
             "grant" => Some(Word::Grant),
+            "revoke" => Some(Word::Revoke),
             "put" => Some(Word::Put),
             "beat" => Some(Word::Beat),
             "query" => Some(Word::Query),
@@ -52,7 +55,8 @@ impl Word {
     {
         match self {
             Word::Stream => &["do", "tenant", "name", "columns"],
-            Word::Grant => &["do", "tenant", "stream", "to"],
+            Word::Grant => &["do", "tenant", "stream", "to", "columns"],
+            Word::Revoke => &["do", "tenant", "stream", "to"],
             Word::Put => &["do", "tenant", "stream", "at", "row"],
             Word::Beat => &["do", "tenant", "stream", "at"],
             Word::Query => &["do", "tenant", "name", "text"],
@@ -129,12 +133,50 @@ fn stream_of(alloc: Global, tree: &Json) -> Result<Command, LineFault>
     Ok(Command::Stream { name, columns })
 }
 
+// Names of columns: a list of texts.
+fn names_of(alloc: Global, items: &[Json]) -> Result<Items<Text>, LineFault>
+    ensures { Means (ok_or (all_of as_str (items_view items.now)) LineFault.BadKey) result }
+{
+    let mut names = Vec::new(alloc);
+    for item in items {
+        let name = item.as_str().ok_or(LineFault::BadKey)?;
+        names.push(Text::new(alloc, name)?)?;
+    }
+    Ok(Items::from_vec(names))
+}
+
+// The names of the columns that a grant shows, if it names them.
+fn named_columns_of(alloc: Global, tree: &Json) -> Result<Option<Items<Text>>, LineFault>
+    ensures { Means (ok_or (named_columns_of (view tree.now)) LineFault.BadKey) result }
+{
+    match optional_array(tree, "columns").ok_or(LineFault::BadKey)? {
+        Some(items) => {
+            let names = names_of(alloc, items)?;
+            Ok(Some(names))
+        }
+        None => Ok(None),
+    }
+}
+
 fn grant_of(alloc: Global, tree: &Json) -> Result<Command, LineFault>
     ensures { Means (ok_or (grant_of (view tree.now)) LineFault.BadKey) result }
 {
     let stream = text_of(alloc, tree, "stream")?;
     let to = text_of(alloc, tree, "to")?;
-    Ok(Command::Grant { stream, to })
+    let columns = named_columns_of(alloc, tree)?;
+    Ok(Command::Grant {
+        stream,
+        to,
+        columns,
+    })
+}
+
+fn revoke_of(alloc: Global, tree: &Json) -> Result<Command, LineFault>
+    ensures { Means (ok_or (revoke_of (view tree.now)) LineFault.BadKey) result }
+{
+    let stream = text_of(alloc, tree, "stream")?;
+    let to = text_of(alloc, tree, "to")?;
+    Ok(Command::Revoke { stream, to })
 }
 
 fn put_of(alloc: Global, tree: &Json) -> Result<Command, LineFault>
@@ -193,6 +235,7 @@ fn of_word(alloc: Global, word: Word, tree: &Json) -> Result<Command, LineFault>
     match word {
         Word::Stream => stream_of(alloc, tree),
         Word::Grant => grant_of(alloc, tree),
+        Word::Revoke => revoke_of(alloc, tree),
         Word::Put => put_of(alloc, tree),
         Word::Beat => beat_of(alloc, tree),
         Word::Query => query_of(alloc, tree),

@@ -3,7 +3,7 @@ ghost use Rattle.std.specs.Prelude.{◌≡◌, map, option_map, option_and_then,
 ghost use Rattle.std.specs.List.{list_any};
 ghost use Rattle.std.specs.Str.{bytes_eq};
 ghost use Rattle.serde_json.specs.View.{view, items_view, members_view};
-ghost use Rattle.cql_wire.specs.Tree.{tree_of, text_at, whole_at, array_at, optional_text, optional_whole, are_among, has_only};
+ghost use Rattle.cql_wire.specs.Tree.{tree_of, text_at, whole_at, array_at, optional_text, optional_array, optional_whole, are_among, has_only};
 
 use serde_json::{Map, Value};
 use std::alloc::{AllocError, Global};
@@ -44,6 +44,16 @@ pub(crate) fn optional_text<'v>(value: &'v Value, key: &str) -> Option<Option<&'
     match value.get(key) {
         None => Some(None),
         Some(found) => Some(Some(found.as_str()?)),
+    }
+}
+
+// The list at a key that may be missing, or None where something else is there.
+pub(crate) fn optional_array<'v>(value: &'v Value, key: &str) -> Option<Option<&'v Vec<Value>>>
+    ensures { option_map (λ o. option_map (λ v. items_view v.now.items) o) result ≡ optional_array key.now (view value.now) }
+{
+    match value.get(key) {
+        None => Some(None),
+        Some(found) => Some(Some(found.as_array()?)),
     }
 }
 

@@ -1,0 +1,4 @@
+pub mod Laws
+pub mod Narrows
+pub mod Picks
+pub mod Sizes

@@ -11,11 +11,14 @@ use cql_bag::law::{
     plus_counts, put_all_counts, same_counts, take_counts,
 };
 use cql_core::law::{
-    alone_law, fetch_law, held_law as rows_held_law, history_law, isolation_law, language_law,
-    limit_law, query_law, refusal_law, relation_law, reply_law, solo_law, stub_law,
+    alone_law, fetch_law, held_law as rows_held_law, hidden_law, history_law, isolation_law,
+    language_law, limit_law, query_law, refusal_law, relation_law, reply_law, solo_law, stub_law,
 };
 use cql_out::law::{blocks_are_unique, blocks_law, local_law};
-use cql_plan::law::{column_law, first_fault_law, form_law, plain_law, ports_law, qualified_law};
+use cql_places::law::{all_law as all_places_law, chain_law, narrow_law, twice_law, wide_law};
+use cql_plan::law::{
+    column_law, first_fault_law, form_law, plain_law, ports_law, qualified_law, seen_law,
+};
 use cql_streams::law::remove_law;
 use cql_syntax::reserved_law;
 use cql_tenants::law::{directory_law, grant_law, place_law};
@@ -43,12 +46,18 @@ fn laws() {
     all_law();
     parts_law();
     held_law();
+    all_places_law();
+    chain_law();
+    wide_law();
+    twice_law();
+    narrow_law();
     column_law();
     first_fault_law();
     qualified_law();
     ports_law();
     form_law();
     plain_law();
+    seen_law();
     expression_law();
     expression_examples();
     items_law();
@@ -96,4 +105,5 @@ fn laws() {
     refusal_law();
     limit_law();
     rows_held_law();
+    hidden_law();
 }

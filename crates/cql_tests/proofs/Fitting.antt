@@ -1,8 +1,8 @@
 -- Rows of one number, in order of their times, fit each window that parts by that number at most, and are seen as they are.
-use Rattle.std.proofs.Common.{◌≡◌, ℕ, ◌≤◌, ◌<◌, ◌^◌, Bool, true, false, ◌&&◌, List, [], ◌∷◌, length, nat_le, refl, sym, ap, subst, ◌∙◌, arith}
+use Rattle.std.proofs.Common.{◌≡◌, ℕ, ◌≤◌, ◌<◌, ◌^◌, Bool, true, false, ◌&&◌, List, [], ◌∷◌, ◌++◌, length, take, drop, nat_le, refl, sym, ap, subst, ◌∙◌, arith}
 use Rattle.std.specs.List.{AllByRecursion, Contains, list_all}
 use Rattle.std.proofs.lemmas.Bool.{leb-true}
-use Rattle.std.proofs.lemmas.List.{length-map}
+use Rattle.std.proofs.lemmas.List.{length-map, take-append-drop}
 use Rattle.std.proofs.lemmas.List.Elements.{All-contains, All-from_recursion}
 use Rattle.cql_value.specs.declared.value.Value.{Value}
 use Rattle.cql_value.specs.Element.{Element}
@@ -42,6 +42,10 @@ fit_cons x xs rows at row split time values instant first typed fit =
       instants = (omega (arith, time, instant), fit.instants);
       typed = (subst (HasTypes one_number) values typed, fit.typed);
     })
+
+-- rows that are parted at a place are all of them still
+pub joined : (settled : ℕ) (rows : List Element) {content unseen : List Element} → content ≡ take settled rows → unseen ≡ drop settled rows → content ++ unseen ≡ rows
+joined settled rows first later = (λ i. first i ++ later i) ∙ take-append-drop settled rows
 
 -- ---- windows
 

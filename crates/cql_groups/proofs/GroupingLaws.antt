@@ -84,15 +84,6 @@ told_with q key (e ∷ es) g h =
     here : (a b : ℕ) → a + b ≡ b + a
     here a b = omega arith
 
--- where there is none to be taken out
-pub none_out : (key : Row) (es : Groups) → at_key key es ≡ None → remove_entry (λ k. is_eq (row_cmp key k)) es ≡ es
-none_out key [] h = refl
-none_out key (e ∷ es) h =
-    elim (is_eq (row_cmp key e.0)) as (λ b. cond b (Some e.1) (at_key key es) ≡ None → cond b es (e ∷ remove_entry (λ k. is_eq (row_cmp key k)) es) ≡ e ∷ es) [
-      | true ↦ λ f. absurd cc
-      | false ↦ λ f. ap (λ l. e ∷ l) (none_out key es f)
-    ] h
-
 -- ---- what waits
 
 or_other : (a b : Bool) → a ≡ false → (a || b) ≡ true → b ≡ true

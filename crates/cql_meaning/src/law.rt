@@ -22,12 +22,12 @@ pub fn machine_law()
 {}
 
 /// A command that is refused changes nothing, and neither does one that is told blocks.
-pub fn refusal_law()
+pub fn refusals_law()
     ensures { AreRefusalLaws }
 {}
 
 /// A query's base, rows and cursor, by what was accepted in the view.
-pub fn query_law()
+pub fn queries_law()
     ensures { AreQueryLaws }
 {}
 
@@ -37,7 +37,7 @@ pub fn limit_law()
 {}
 
 /// The rows that a stream holds are as many as some stub needs, or none, and no stub needs more.
-pub fn held_law()
+pub fn rows_held_law()
     ensures { IsHeldLaw }
 {}
 

@@ -4,8 +4,8 @@ use Rattle.cql_window.specs.declared.window.Window.TheVariants.{Range, Rows, All
 use Rattle.cql_places.specs.Law.{IsAllLaw, IsChainLaw, IsWideLaw, IsTwiceLaw}
 use Rattle.cql_places.proofs.Picks.{at_all, chained, among_all}
 
-pub all_law : IsAllLaw
-all_law row = at_all row
+pub all_places_law : IsAllLaw
+all_places_law row = at_all row
 
 pub chain_law : IsChainLaw
 chain_law row places columns h = chained row places columns h

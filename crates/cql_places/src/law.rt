@@ -2,7 +2,7 @@
 ghost use Rattle.cql_places.specs.Law.{IsAllLaw, IsChainLaw, IsWideLaw, IsTwiceLaw, IsNarrowLaw};
 
 /// At all places stands all.
-pub fn all_law()
+pub fn all_places_law()
     ensures { IsAllLaw }
 {}
 

@@ -158,7 +158,7 @@ grants_of_old homes user (Revoke stream to) accepted all j = by (tenant_named ho
         (λ h owner name g k. h owner name g (still_granted user owner stream name (home_at homes place) g k)) (λ home h. h) j (all j)
 
 -- the first that passes a test passes it
-find_passes : {A : Type 0} (p : A → Bool) (xs : List A) (g : A) → find p xs ≡ Some g → p g ≡ true
+pub find_passes : {A : Type 0} (p : A → Bool) (xs : List A) (g : A) → find p xs ≡ Some g → p g ≡ true
 find_passes p [] g h = absurd cc
 find_passes {A} p (x ∷ xs) g h = by (find_passes p xs g) (p x) refl (unfolded (p x) refl h)
   where
@@ -258,7 +258,7 @@ after_all : (homes : List Home) (calls : List (ℕ × StreamCommand)) → AreOfS
 after_all homes [] all = all
 after_all homes (call ∷ calls) all = after_all (directory_after homes call.0 call.1) calls (after_one homes call.0 call.1 all)
 
-no_grants : (table : List Tenant) (place : ℕ) → (home_at (nothing_made table) place).granted ≡ []
+pub no_grants : (table : List Tenant) (place : ℕ) → (home_at (nothing_made table) place).granted ≡ []
 no_grants [] place = refl
 no_grants (t ∷ table) zero = refl
 no_grants (t ∷ table) (suc place) = no_grants table place

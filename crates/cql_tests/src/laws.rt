@@ -2,20 +2,19 @@
 use cql_algebra::law::{
     bags_law, block_law, change_types_law, count_law, expression_examples, expression_law,
     fault_law, group_law, grouped_column_law, groups_law, item_types_law, items_law, join_example,
-    joined_law, joined_types_law, key_law, keys_law, max_law, min_law, overflow_law,
-    plain_law as plain_items_law, plan_law, product_law, shape_examples, sum_law,
-    types_law as node_types_law, whole_law,
+    joined_law, joined_types_law, key_law, keys_law, max_law, min_law, node_types_law,
+    overflow_law, plain_items_law, plan_law, product_law, shape_examples, sum_law, whole_law,
 };
 use cql_bag::law::{
     bag_of_counts, distinct_counts, listing_counts, listing_size, minus_counts, own_entries,
     plus_counts, put_all_counts, same_counts, take_counts,
 };
 use cql_core::law::{
-    alone_law, fetch_law, held_law as rows_held_law, hidden_law, history_law, isolation_law,
-    language_law, limit_law, query_law, refusal_law, relation_law, reply_law, solo_law, stub_law,
+    alone_law, fetch_law, hidden_law, history_law, isolation_law, language_law, limit_law,
+    query_law, refusal_law, relation_law, reply_law, rows_held_law, solo_law, stubs_law,
 };
 use cql_out::law::{blocks_are_unique, blocks_law, local_law};
-use cql_places::law::{all_law as all_places_law, chain_law, narrow_law, twice_law, wide_law};
+use cql_places::law::{all_places_law, chain_law, narrow_law, twice_law, wide_law};
 use cql_plan::law::{
     column_law, first_fault_law, form_law, plain_law, ports_law, qualified_law, seen_law,
 };
@@ -101,7 +100,7 @@ fn laws() {
     query_law();
     relation_law();
     alone_law();
-    stub_law();
+    stubs_law();
     refusal_law();
     limit_law();
     rows_held_law();

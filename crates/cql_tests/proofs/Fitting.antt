@@ -1,16 +1,20 @@
--- Rows of one number, in order of their times, fit each window that parts by that number at most.
-use Rattle.std.proofs.Common.{◌≡◌, ℕ, ◌≤◌, ◌<◌, ◌^◌, Bool, true, false, ◌&&◌, List, [], ◌∷◌, length, nat_le, refl, sym, ap, subst, ◌∙◌, arith}
-use Rattle.std.specs.List.{AllByRecursion, list_all}
+-- Rows of one number, in order of their times, fit each window that parts by that number at most, and are seen as they are.
+use Rattle.std.proofs.Common.{◌≡◌, ℕ, ◌≤◌, ◌<◌, ◌^◌, Bool, true, false, ◌&&◌, List, [], ◌∷◌, ◌++◌, length, take, drop, nat_le, refl, sym, ap, subst, ◌∙◌, arith}
+use Rattle.std.specs.List.{AllByRecursion, Contains, list_all}
 use Rattle.std.proofs.lemmas.Bool.{leb-true}
-use Rattle.std.proofs.lemmas.List.{length-map}
+use Rattle.std.proofs.lemmas.List.{length-map, take-append-drop}
+use Rattle.std.proofs.lemmas.List.Elements.{All-contains, All-from_recursion}
 use Rattle.cql_value.specs.declared.value.Value.{Value}
 use Rattle.cql_value.specs.Element.{Element}
 use Rattle.cql_value.specs.Schema.{type_of, HasTypes}
 use Rattle.cql_window.specs.declared.window.Window.{Window}
 use Rattle.cql_window.specs.declared.window.Window.TheVariants.{Range, Rows, All as all, Parts}
 use Rattle.cql_window.specs.Pin.{HasColumns, AreRows}
+use Rattle.cql_places.specs.Places.{at_places}
+use Rattle.cql_places.specs.Windows.{narrowed_all}
 use Rattle.cql_plan.specs.Ports.{PartsAmong}
-use Rattle.cql_tests.specs.Pins.{one_number, AreFit}
+use Rattle.cql_eval.specs.Pin.{AreOf}
+use Rattle.cql_tests.specs.Pins.{one_number, one_place, AreFit}
 
 all_weaker : {A : Type 0} (P Q : A → Type 0) → ((x : A) → P x → Q x) → (xs : List A) → AllByRecursion P xs → AllByRecursion Q xs
 all_weaker P Q weaker [] each = tt
@@ -39,13 +43,33 @@ fit_cons x xs rows at row split time values instant first typed fit =
       typed = (subst (HasTypes one_number) values typed, fit.typed);
     })
 
-has_columns : (w : Window) (x : Element) → PartsAmong w one_number → HasTypes one_number x.row → HasColumns w x
+-- rows that are parted at a place are all of them still
+pub joined : (settled : ℕ) (rows : List Element) {content unseen : List Element} → content ≡ take settled rows → unseen ≡ drop settled rows → content ++ unseen ≡ rows
+joined settled rows first later = (λ i. first i ++ later i) ∙ take-append-drop settled rows
+
+-- ---- windows
+
+below : (many place : ℕ) → many ≡ 1 → Contains one_place place → place < many
+below many place one among = All-contains (λ p. p < many) one_place place (All-from_recursion (λ p. p < many) one_place (omega (arith, one), tt)) among
+
+has_columns : (w : Window) (x : Element) → PartsAmong one_place w → HasTypes one_number x.row → HasColumns w x
 has_columns (Range len slide) x among typed = tt
 has_columns (Rows count slide) x among typed = tt
 has_columns all x among typed = tt
 has_columns (Parts places count) x among typed =
     let same : length x.row ≡ 1 = sym (length-map x.row type_of) ∙ ap length typed in
-    all_weaker (λ (i : ℕ). i < 1) (λ (i : ℕ). i < length x.row) (λ i h. omega (arith, h, same)) places among
+    all_weaker (Contains one_place) (λ (i : ℕ). i < length x.row) (λ i c. below (length x.row) i same c) places among
 
-pub are_rows : (w : Window) (xs : List Element) → PartsAmong w one_number → AreFit xs → AreRows w xs
+pub are_rows : (w : Window) (xs : List Element) → PartsAmong one_place w → AreFit xs → AreRows w xs
 are_rows w xs among fit = (fit.ascending, fit.instants, all_weaker (λ (x : Element). HasTypes one_number x.row) (HasColumns w) (λ x h. has_columns w x among h) xs fit.typed)
+
+-- ---- what is seen
+
+seen : (row : List Value) → HasTypes one_number row → HasTypes one_number (at_places row one_place)
+seen [] typed = absurd (omega (arith, ap length typed))
+seen (v ∷ []) typed = typed
+seen (v ∷ w ∷ more) typed = absurd (omega (arith, ap length typed))
+
+pub all_seen : (xs : List Element) → AreOf one_number xs → AreOf one_number (narrowed_all one_place xs)
+all_seen [] typed = tt
+all_seen (x ∷ xs) typed = (seen x.row typed.0, all_seen xs typed.1)

@@ -1,5 +1,5 @@
 -- What the pins of the tests are made of: plans that show all rows of one input of one number, and rows of one number.
-use Rattle.std.specs.Prelude.{◌≡◌, ◌<◌, ◌^◌, List, [], ◌∷◌, length, None}
+use Rattle.std.specs.Prelude.{◌≡◌, ℕ, ◌<◌, ◌^◌, List, [], ◌∷◌, None}
 use Rattle.std.specs.List.{AllByRecursion}
 use Rattle.cql_value.specs.declared.schema.ColumnType.{ColumnType}
 use Rattle.cql_value.specs.declared.schema.ColumnType.TheVariants.{Number}
@@ -8,6 +8,7 @@ use Rattle.cql_window.specs.Window.{AreAscending}
 use Rattle.cql_plan.specs.declared.condition.Condition.TheVariants.{Always}
 use Rattle.cql_plan.specs.declared.node.Node.TheVariants as node
 use Rattle.cql_plan.specs.declared.plan.Branch.{Branch}
+use Rattle.cql_plan.specs.declared.plan.Input.{Input}
 use Rattle.cql_plan.specs.declared.plan.Planned.{Planned}
 use Rattle.cql_plan.specs.Ports.{columns_from}
 use Rattle.cql_eval.specs.Pin.{AreOf}
@@ -15,6 +16,10 @@ use Rattle.cql_eval.specs.Pin.{AreOf}
 -- the columns of the one input
 abbrev pub one_number : List ColumnType
 one_number = Number ∷ []
+
+-- their places in the whole row
+abbrev pub one_place : List ℕ
+one_place = 0 ∷ []
 
 -- the block that shows all its rows
 abbrev pub whole : Branch
@@ -24,9 +29,10 @@ whole = record {
   distinct = None;
 }
 
--- this block alone
-pub record IsWhole (p : Planned) : Type 0 where
-  pub one : length p.inputs ≡ 1
+-- this block alone, over an input of which all columns are seen
+pub record IsWhole (input : Input) (p : Planned) : Type 0 where
+  pub one : p.inputs ≡ input ∷ []
+  pub places : input.places ≡ one_place
   pub first : p.first ≡ whole
   pub combined : p.combined ≡ None
 

@@ -2,20 +2,22 @@
 use cql_algebra::law::{
     bags_law, block_law, change_types_law, count_law, expression_examples, expression_law,
     fault_law, group_law, grouped_column_law, groups_law, item_types_law, items_law, join_example,
-    joined_law, joined_types_law, key_law, keys_law, max_law, min_law,
-    node_types_law, overflow_law, plain_items_law, plan_law, product_law, shape_examples, sum_law,
-    whole_law,
+    joined_law, joined_types_law, key_law, keys_law, max_law, min_law, node_types_law,
+    overflow_law, plain_items_law, plan_law, product_law, shape_examples, sum_law, whole_law,
 };
 use cql_bag::law::{
     bag_of_counts, distinct_counts, listing_counts, listing_size, minus_counts, own_entries,
     plus_counts, put_all_counts, same_counts, take_counts,
 };
 use cql_core::law::{
-    alone_law, fetch_law, history_law, isolation_law, language_law,
-    limit_law, query_law, refusal_law, relation_law, reply_law, rows_held_law, solo_law, stubs_law,
+    alone_law, fetch_law, hidden_law, history_law, isolation_law, language_law, limit_law,
+    query_law, refusal_law, relation_law, reply_law, rows_held_law, solo_law, stubs_law,
 };
 use cql_out::law::{blocks_are_unique, blocks_law, local_law};
-use cql_plan::law::{column_law, first_fault_law, form_law, plain_law, ports_law, qualified_law};
+use cql_places::law::{all_places_law, chain_law, narrow_law, twice_law, wide_law};
+use cql_plan::law::{
+    column_law, first_fault_law, form_law, plain_law, ports_law, qualified_law, seen_law,
+};
 use cql_streams::law::remove_law;
 use cql_syntax::reserved_law;
 use cql_tenants::law::{directory_law, grant_law, place_law};
@@ -43,12 +45,18 @@ fn laws() {
     all_law();
     parts_law();
     held_law();
+    all_places_law();
+    chain_law();
+    wide_law();
+    twice_law();
+    narrow_law();
     column_law();
     first_fault_law();
     qualified_law();
     ports_law();
     form_law();
     plain_law();
+    seen_law();
     expression_law();
     expression_examples();
     items_law();
@@ -96,4 +104,5 @@ fn laws() {
     refusal_law();
     limit_law();
     rows_held_law();
+    hidden_law();
 }

@@ -43,11 +43,38 @@ fn core_at_last(alloc: Global, script: &Script) -> Result<Core, Unmade> {
     }
 }
 
-// What is shown of a core: the list of a tenant, and how many rows of `s` are held.
+// What is shown of a core: the lists of both tenants, and how many rows are held of `s` of `a` and
+// of `t` of `b`.
 #[derive(Drop)]
 struct Shown {
-    list: Reply,
-    held: Option<u64>,
+    first: Reply,
+    second: Reply,
+    held: (Option<u64>, Option<u64>),
+}
+
+impl Shown {
+    fn is_same(&self, other: &Shown) -> bool {
+        self.held == other.held
+            && is_same_reply(&self.first, &other.first)
+            && is_same_reply(&self.second, &other.second)
+    }
+}
+
+fn list_of<O: Operator>(
+    alloc: Global,
+    core: &mut Core,
+    bench: &mut BenchOf<O>,
+    by: TenantId,
+) -> Result<Reply, Unmade>
+    requires { IsBench O.seen_in bench.old }
+    ensures { IsBench O.seen_in bench.new }
+{
+    let list = serve(alloc, core, bench, by, Command::List);
+    if matches!(&list, Reply::Listing(_)) {
+        Ok(list)
+    } else {
+        Err(Unmade::Wrong)
+    }
 }
 
 fn shown_of<O: Operator>(
@@ -55,18 +82,20 @@ fn shown_of<O: Operator>(
     core: &mut Core,
     bench: &mut BenchOf<O>,
     table: &TenantTable,
-    by: TenantId,
 ) -> Result<Shown, Unmade>
     requires { IsBench O.seen_in bench.old }
     ensures { IsBench O.seen_in bench.new }
 {
-    let owner = table.find("a").ok_or(Unmade::Wrong)?;
-    let held = core.rows_held(owner, "s");
-    let list = serve(alloc, core, bench, by, Command::List);
-    if !matches!(&list, Reply::Listing(_)) {
-        return Err(Unmade::Wrong);
-    }
-    Ok(Shown { list, held })
+    let a = table.find("a").ok_or(Unmade::Wrong)?;
+    let b = table.find("b").ok_or(Unmade::Wrong)?;
+    let held = (core.rows_held(a, "s"), core.rows_held(b, "t"));
+    let first = list_of(alloc, core, bench, a)?;
+    let second = list_of(alloc, core, bench, b)?;
+    Ok(Shown {
+        first,
+        second,
+        held,
+    })
 }
 
 // The same, asked once more where there was no memory.
@@ -75,14 +104,13 @@ fn shown_at_last<O: Operator>(
     core: &mut Core,
     bench: &mut BenchOf<O>,
     table: &TenantTable,
-    by: TenantId,
 ) -> Result<Shown, Unmade>
     requires { IsBench O.seen_in bench.old }
     ensures { IsBench O.seen_in bench.new }
 {
-    match shown_of(alloc, core, bench, table, by) {
+    match shown_of(alloc, core, bench, table) {
         Ok(shown) => Ok(shown),
-        Err(_why) => shown_of(alloc, core, bench, table, by),
+        Err(_why) => shown_of(alloc, core, bench, table),
     }
 }
 
@@ -115,18 +143,14 @@ fn is_served<O: Operator>(
 {
     let (by, say, told, _) = *call;
     let by = table.find(by).ok_or(Unmade::Wrong)?;
-    let before = shown_at_last(alloc, core, bench, table, by)?;
+    let before = shown_at_last(alloc, core, bench, table)?;
     let reply = serve(alloc, core, bench, by, command_at_last(alloc, say)?);
     let Reply::Refused(Refusal::NoMemory) = &reply else {
         return is_told_at_last(alloc, &reply, told);
     };
-    let after = shown_of(alloc, core, bench, table, by)?;
+    let after = shown_of(alloc, core, bench, table)?;
     let again = serve(alloc, core, bench, by, command(alloc, say)?);
-    Ok(
-        before.held == after.held
-            && is_same_reply(&before.list, &after.list)
-            && is_told(alloc, &again, told)?,
-    )
+    Ok(before.is_same(&after) && is_told(alloc, &again, told)?)
 }
 
 // The same with a bench of its own.

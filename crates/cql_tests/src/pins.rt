@@ -1,13 +1,18 @@
 // Pins over any rows, in the content of the window and behind it: at the base the core's content is
 // empty, and all rows come later.
-ghost use Rattle.std.specs.Prelude.{◌≡◌, [], ◌∷◌, ◌++◌, IfOk, IsTrue, nat_le};
+ghost use Rattle.std.specs.Prelude.{◌≡◌, ◌++◌, IfOk, IfSome, IsTrue, nat_le};
 ghost use Rattle.std.specs.List.{list_all};
+ghost use Rattle.cql_places.specs.Windows.{narrowed_all};
 ghost use Rattle.cql_plan.specs.Ports.{PartsAmong};
+ghost use Rattle.cql_eval.specs.Pin.{AreOf};
 ghost use Rattle.cql_value.specs.Schema.{HasTypes};
-ghost use Rattle.cql_tests.specs.Pins.{one_number, whole, IsWhole, AreFit};
+ghost use Rattle.cql_tests.specs.Pins.{one_number, one_place, whole, IsWhole, AreFit};
 
 use cql_eval::Pin;
-use cql_plan::{Branch, Condition, Expr, Input, Item, Join, Lookup, Node, Plan, Shape, resolve};
+use cql_places::{all_places, are_all};
+use cql_plan::{
+    Branch, Condition, Expr, Input, Item, Join, Lookup, Node, Plan, Readable, Shape, resolve,
+};
 use cql_text::read;
 use cql_value::{Column, ColumnType, Items, Name, Row, Same, Schema, Timed, TryClone, Value};
 use cql_window::WindowPin;
@@ -31,19 +36,23 @@ pub(crate) struct Asked {
     pub(crate) limit: u64,
 }
 
-// One stream, under any name.
+// One stream, of which all columns are seen, under any name.
 #[derive(Drop)]
 struct OneStream {
     schema: Schema,
 }
 
 impl Lookup for OneStream {
-    ghost use Rattle.std.specs.Prelude.{Some};
+    ghost use Rattle.std.specs.Prelude.{Some, length};
+    ghost use Rattle.cql_places.specs.Places.{all_places};
 
-    ghost readable = { λ l owner stream. Some l.schema };
+    ghost readable = { λ l owner stream. Some (record { schema = l.schema; places = all_places (length l.schema) }) };
 
-    fn schema(&self, _owner: Option<&str>, _stream: &str) -> Option<&Schema> {
-        Some(&self.schema)
+    fn schema(&self, _owner: Option<&str>, _stream: &str) -> Option<Readable<'_>> {
+        Some(Readable {
+            schema: &self.schema,
+            places: all_places(&self.schema),
+        })
     }
 }
 
@@ -101,20 +110,19 @@ fn whole(alloc: Global) -> Result<Branch, AllocError>
     })
 }
 
-// Whether the plan is that of this block alone, over one input.
-fn is_alone(plan: &Plan, block: &Branch) -> bool
+// The input of a plan that shows all rows of its one input in this block alone.
+fn only_input<'a>(plan: &'a Plan, block: &Branch) -> Option<&'a Input>
     requires { block.now ≡ whole }
-    ensures { IsTrue result → IsWhole plan.now }
+    ensures whole { IfSome result (λ input. IsWhole input.now plan.now) }
+    ensures parts { IfSome result (λ input. PartsAmong one_place input.now.window) }
 {
-    plan.inputs().len() == 1 && plan.first().is_same(block) && plan.combined().is_none()
-}
-
-fn input(plan: &Plan) -> &Input
-    requires { IsWhole plan.now }
-    ensures one { plan.now.inputs ≡ result.now ∷ [] }
-    ensures parts { PartsAmong result.now.window one_number }
-{
-    &plan.inputs()[0]
+    let [input] = plan.inputs() else {
+        return None;
+    };
+    let is_whole = are_all(input.places.as_slice(), 1)
+        && plan.first().is_same(block)
+        && plan.combined().is_none();
+    if is_whole { Some(input) } else { None }
 }
 
 fn is_number(row: &Row) -> bool
@@ -163,10 +171,10 @@ fn timed_rows(alloc: Global, rows: &[(u64, i64)]) -> Result<Vec<Timed>, Fail> {
 
 // The window of the input, over rows of which the first are settled.
 fn window(alloc: Global, input: &Input, rows: Vec<Timed>, settled: usize) -> Result<WindowPin, Fail>
-    requires parts { PartsAmong input.now.window one_number }
+    requires parts { PartsAmong one_place input.now.window }
     requires rows { AreFit rows.items }
     ensures window { IfOk result (λ w. w.window ≡ input.now.window) }
-    ensures rows { IfOk result (λ w. w.content ++ w.unseen ≡ rows.items) }
+    ensures seen { IfOk result (λ w. AreOf one_number (narrowed_all one_place (w.content ++ w.unseen))) }
 {
     let mut content = rows;
     let unseen = content.split_off(settled.min(content.len()))?;
@@ -178,10 +186,13 @@ fn window(alloc: Global, input: &Input, rows: Vec<Timed>, settled: usize) -> Res
 pub(crate) fn pin(alloc: Global, asked: &Asked) -> Result<Pin, Fail> {
     let plan = plan(alloc, asked.text)?;
     let rows = timed_rows(alloc, asked.rows)?;
-    if !is_alone(&plan, &whole(alloc)?) || !are_fit(&rows) {
-        return Err(Fail::from("no plain query, or rows out of order"));
+    let Some(input) = only_input(&plan, &whole(alloc)?) else {
+        return Err(Fail::from("no plain query"));
+    };
+    if !are_fit(&rows) {
+        return Err(Fail::from("rows out of order"));
     }
-    let window = window(alloc, input(&plan), rows, asked.settled)?;
+    let window = window(alloc, input, rows, asked.settled)?;
     let next = asked.next.min(GREATEST + 1);
     let from = asked.from.min(next);
     let base = asked.base.min(from);

@@ -1,21 +1,27 @@
 // Commands written short, and what each is told.
 use crate::outputs::{Numbers, Told, are_blocks};
 use crate::tenants::Unmade;
-use cql_core::{Block, ColumnText, Command, Listing, OwnQuery, OwnStream, ReadStream, Reply};
-use cql_value::{Items, Row, Text, Value};
+use cql_core::{Block, ColumnText, Command, Reply};
+use cql_value::{Items, Row, Same, Text, Value};
 use std::alloc::Global;
 
-/// A command. Each stream has one column `v int`.
+/// A command.
 #[derive(Clone, Copy)]
 pub(crate) enum Say {
-    /// A stream of this name.
+    /// A stream of this name, with the column `v int`.
     Stream(&'static str),
+    /// A stream of this name, with the columns `h int` and `v int`.
+    WideStream(&'static str),
     /// A stream, granted to a tenant.
     Grant(&'static str, &'static str),
+    /// A stream, of which these columns are granted to a tenant.
+    GrantColumns(&'static str, &'static [&'static str], &'static str),
     /// A stream, whose grant is taken back from a tenant.
     Revoke(&'static str, &'static str),
-    /// A stream, an instant and a number.
+    /// A stream of one column, an instant and a number.
     Put(&'static str, u64, i64),
+    /// A stream of two columns, an instant and their numbers.
+    PutBoth(&'static str, u64, i64, i64),
     /// A stream and an instant.
     Beat(&'static str, u64),
     /// A name and a text.
@@ -49,27 +55,44 @@ pub(crate) enum Want {
 /// after it.
 pub(crate) type Call = (&'static str, Say, Want, u64);
 
-fn columns(alloc: Global) -> Result<Items<ColumnText>, Unmade> {
-    let name = Text::new(alloc, "v")?;
-    let kind = Text::new(alloc, "int")?;
-    Ok(Items::from_vec(vec![in alloc; ColumnText { name, kind }]?))
+fn columns(alloc: Global, names: &[&str]) -> Result<Items<ColumnText>, Unmade> {
+    let mut columns = Items::new(alloc);
+    for name in names {
+        let name = Text::new(alloc, name)?;
+        let kind = Text::new(alloc, "int")?;
+        columns.push(ColumnText { name, kind })?;
+    }
+    Ok(columns)
 }
 
-fn stream(alloc: Global, name: &str) -> Result<Command, Unmade> {
-    let columns = columns(alloc)?;
+fn stream(alloc: Global, name: &str, columns: &[&str]) -> Result<Command, Unmade> {
+    let columns = self::columns(alloc, columns)?;
     Ok(Command::Stream {
         name: Text::new(alloc, name)?,
         columns,
     })
 }
 
-fn grant(alloc: Global, stream: &str, to: &str) -> Result<Command, Unmade> {
+fn grant(
+    alloc: Global,
+    stream: &str,
+    to: &str,
+    columns: Option<Items<Text>>,
+) -> Result<Command, Unmade> {
     let stream = Text::new(alloc, stream)?;
     Ok(Command::Grant {
         stream,
         to: Text::new(alloc, to)?,
-        columns: None,
+        columns,
     })
+}
+
+fn texts(alloc: Global, names: &[&str]) -> Result<Items<Text>, Unmade> {
+    let mut texts = Items::new(alloc);
+    for name in names {
+        texts.push(Text::new(alloc, name)?)?;
+    }
+    Ok(texts)
 }
 
 fn revoke(alloc: Global, stream: &str, to: &str) -> Result<Command, Unmade> {
@@ -80,8 +103,8 @@ fn revoke(alloc: Global, stream: &str, to: &str) -> Result<Command, Unmade> {
     })
 }
 
-fn put(alloc: Global, stream: &str, at: u64, number: i64) -> Result<Command, Unmade> {
-    let row = Row::new(alloc, vec![in alloc; Value::Number(number)]?)?;
+fn put(alloc: Global, stream: &str, at: u64, values: Vec<Value>) -> Result<Command, Unmade> {
+    let row = Row::new(alloc, values)?;
     Ok(Command::Put {
         stream: Text::new(alloc, stream)?,
         at,
@@ -100,10 +123,21 @@ fn query(alloc: Global, name: &str, text: &str) -> Result<Command, Unmade> {
 /// The command that is meant.
 pub(crate) fn command(alloc: Global, say: Say) -> Result<Command, Unmade> {
     match say {
-        Say::Stream(name) => stream(alloc, name),
-        Say::Grant(name, to) => grant(alloc, name, to),
+        Say::Stream(name) => stream(alloc, name, &["v"]),
+        Say::WideStream(name) => stream(alloc, name, &["h", "v"]),
+        Say::Grant(name, to) => grant(alloc, name, to, None),
+        Say::GrantColumns(name, columns, to) => {
+            let columns = texts(alloc, columns)?;
+            grant(alloc, name, to, Some(columns))
+        }
         Say::Revoke(name, to) => revoke(alloc, name, to),
-        Say::Put(name, at, number) => put(alloc, name, at, number),
+        Say::Put(name, at, number) => {
+            put(alloc, name, at, vec![in alloc; Value::Number(number)]?)
+        }
+        Say::PutBoth(name, at, first, second) => {
+            let values = vec![in alloc; Value::Number(first), Value::Number(second)]?;
+            put(alloc, name, at, values)
+        }
         Say::Beat(name, at) => Ok(Command::Beat {
             stream: Text::new(alloc, name)?,
             at,
@@ -144,47 +178,6 @@ pub(crate) fn is_told(alloc: Global, reply: &Reply, want: Want) -> Result<bool, 
     }
 }
 
-fn are_same_streams(all: &[OwnStream], others: &[OwnStream]) -> bool {
-    for (one, other) in all.iter().zip(others) {
-        if one.name.as_str() != other.name.as_str() || one.opened != other.opened {
-            return false;
-        }
-    }
-    all.len() == others.len()
-}
-
-fn are_same_grants(all: &[ReadStream], others: &[ReadStream]) -> bool {
-    for (one, other) in all.iter().zip(others) {
-        if one.owner.as_str() != other.owner.as_str()
-            || one.stream.as_str() != other.stream.as_str()
-            || one.opened != other.opened
-        {
-            return false;
-        }
-    }
-    all.len() == others.len()
-}
-
-fn are_same_queries(all: &[OwnQuery], others: &[OwnQuery]) -> bool {
-    for (one, other) in all.iter().zip(others) {
-        if one.name.as_str() != other.name.as_str()
-            || one.text.as_str() != other.text.as_str()
-            || one.base != other.base
-            || one.next != other.next
-        {
-            return false;
-        }
-    }
-    all.len() == others.len()
-}
-
-/// Whether two lists show the same.
-pub(crate) fn is_same_listing(one: &Listing, other: &Listing) -> bool {
-    are_same_streams(one.streams.as_slice(), other.streams.as_slice())
-        && are_same_grants(one.readable.as_slice(), other.readable.as_slice())
-        && are_same_queries(one.queries.as_slice(), other.queries.as_slice())
-}
-
 fn are_same_blocks(all: &[Block], others: &[Block]) -> bool {
     for (one, other) in all.iter().zip(others) {
         if one.from != other.from || one.to != other.to || !one.output.is(&other.output) {
@@ -202,7 +195,7 @@ pub(crate) fn is_same_reply(one: &Reply, other: &Reply) -> bool {
         (Reply::Blocks(answer), Reply::Blocks(other)) => {
             answer.next() == other.next() && are_same_blocks(answer.blocks(), other.blocks())
         }
-        (Reply::Listing(listing), Reply::Listing(other)) => is_same_listing(listing, other),
+        (Reply::Listing(listing), Reply::Listing(other)) => listing.is_same(other),
         (Reply::Refused(refusal), Reply::Refused(other)) => refusal.number() == other.number(),
         _ => false,
     }
@@ -342,6 +335,60 @@ const REVOKED: &[Call] = &[
     ),
 ];
 
+// Chosen columns are granted, taken back, and others granted: a query sees those that were granted
+// when it was registered.
+const COLUMNS: &[Call] = &[
+    ("a", Say::WideStream("s"), Want::Done, 0),
+    ("a", Say::GrantColumns("s", &["v"], "b"), Want::Done, 0),
+    (
+        "b",
+        Say::Query("q", "Select Rstream(*) From a.s [Partition By v Rows 1]"),
+        Want::Base(0),
+        0,
+    ),
+    ("a", Say::PutBoth("s", 1, 7, 1), Want::Done, 1),
+    ("a", Say::PutBoth("s", 1, 8, 1), Want::Done, 2),
+    ("a", Say::Beat("s", 1), Want::Done, 2),
+    (
+        "b",
+        Say::Fetch("q"),
+        Want::Blocks(&[(1, 1, Numbers::Rows(&[1]))], 2),
+        2,
+    ),
+    ("b", Say::Ack("q", 2), Want::Done, 0),
+    ("a", Say::PutBoth("s", 2, 9, 3), Want::Done, 1),
+    (
+        "a",
+        Say::GrantColumns("s", &["h"], "b"),
+        Want::Refused(32),
+        1,
+    ),
+    ("a", Say::Revoke("s", "b"), Want::Done, 0),
+    ("b", Say::Fetch("q"), Want::Refused(63), 0),
+    (
+        "a",
+        Say::GrantColumns("s", &["v", "v"], "b"),
+        Want::Refused(34),
+        0,
+    ),
+    ("a", Say::GrantColumns("s", &["v", "h"], "b"), Want::Done, 0),
+    (
+        "b",
+        Say::Query("r", "Select Istream(h) From a.s"),
+        Want::Base(2),
+        0,
+    ),
+    ("b", Say::List, Want::Listed(0, 1, 2), 0),
+    ("a", Say::PutBoth("s", 3, 4, 5), Want::Done, 1),
+    ("a", Say::Beat("s", 3), Want::Done, 1),
+    (
+        "b",
+        Say::Fetch("r"),
+        Want::Blocks(&[(3, 3, Numbers::Rows(&[4]))], 4),
+        1,
+    ),
+];
+
 // A query over streams of two owners, of which one takes its grant back: it lets the rows of both
 // go, and the owner's other query keeps its own.
 const TWO_OWNERS: &[Call] = &[
@@ -474,6 +521,11 @@ const SCRIPTS: &[Script] = &[
         what: "a revoke",
         hold: 100,
         calls: REVOKED,
+    },
+    Script {
+        what: "chosen columns",
+        hold: 100,
+        calls: COLUMNS,
     },
     Script {
         what: "two owners",

@@ -1,15 +1,22 @@
 use Rattle.std.proofs.Common.{◌≡◌, ◌++◌, ◌∙◌, sym, subst}
-use Rattle.std.proofs.lemmas.List.{take-append-drop}
 use Rattle.cql_window.specs.Pin.{AreRows}
+use Rattle.cql_places.specs.Windows.{narrowed_all}
 use Rattle.cql_plan.specs.Ports.{PartsAmong}
-use Rattle.cql_tests.specs.Pins.{one_number}
-use Rattle.cql_tests.proofs.Fitting.{are_rows}
+use Rattle.cql_eval.specs.Pin.{AreOf}
+use Rattle.cql_tests.specs.Pins.{one_number, one_place}
+use Rattle.cql_tests.proofs.Fitting.{joined, are_rows, all_seen}
 use Rattle.cql_tests.proofs.pins.window.Goals as goal
 
 pub new-requires : goal.new-requires
 new-requires c =
     let rows = c.args.rows.items in
-    let split : c.split_off.new.self.items ++ c.in_ok-unseen.unseen.items ≡ rows =
-    (λ i. c.in_ok-unseen.ensures.items i ++ c.in_ok-unseen.ensures.tail i) ∙ take-append-drop c.min.result rows in
-    let parts : PartsAmong c.in_ok-window.window one_number = subst (λ w. PartsAmong w one_number) (sym c.in_ok-window.ensures) c.requires.parts in
+    let split : c.split_off.new.self.items ++ c.in_ok-unseen.unseen.items ≡ rows = joined c.min.result rows c.in_ok-unseen.ensures.items c.in_ok-unseen.ensures.tail in
+    let parts : PartsAmong one_place c.in_ok-window.window = subst (PartsAmong one_place) (sym c.in_ok-window.ensures) c.requires.parts in
     subst (AreRows c.in_ok-window.window) (sym split) (are_rows c.in_ok-window.window rows parts c.requires.rows)
+
+pub returns-clause-seen : goal.returns-clause-seen
+returns-clause-seen c =
+    let rows = c.args.rows.items in
+    let split : c.split_off.new.self.items ++ c.in_ok-unseen.unseen.items ≡ rows = joined c.min.result rows c.in_ok-unseen.ensures.items c.in_ok-unseen.ensures.tail in
+    let held : c.new.result.content ++ c.new.result.unseen ≡ rows = (λ i. (c.new.ensures i).content ++ (c.new.ensures i).unseen) ∙ split in
+    subst (λ xs. AreOf one_number (narrowed_all one_place xs)) (sym held) (all_seen rows c.requires.rows.typed)

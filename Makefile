@@ -3,20 +3,22 @@ RUNNER := crates/cqlrun/out/cqlrun
 SERVER := crates/cqld/out/cqld
 FIRST := examples/first.jsonl
 # from nothing, on four cores
+RUN_TIME := one to three minutes
 BUILD_TIME := a quarter of an hour or more
+TEST_TIME := some 70 minutes on four cores, 15,400 s of processor time
 
 .PHONY: help run build test bench
 
 # tells what the targets do
 help:
-	@echo 'make run     the replies to $(FIRST), from a run that is checked and not proved (a minute)'
+	@echo 'make run     the replies to $(FIRST), from a run that is checked and not proved ($(RUN_TIME))'
 	@echo 'make build   proves and builds $(RUNNER) and $(SERVER) ($(BUILD_TIME))'
-	@echo 'make test    the gate, and then the built programs as users run them (more than half an hour)'
+	@echo 'make test    the gate, and then the built programs as users run them ($(TEST_TIME))'
 	@echo 'make bench   builds the programs, and times puts, query texts, fetches, shared streams, a store and the server, and counts instructions (an hour)'
 
 # runs the first script with no proof
 run:
-	@echo 'The replies to $(FIRST), one a line. This run is checked as it goes, and not proved:'
+	@echo 'The replies to $(FIRST), one a line. This run is checked as it goes, and not proved. It takes $(RUN_TIME):'
 	@cd crates/cqlrun && rt try < ../../$(FIRST)
 
 # proves the programs and what they stand on, and builds them
@@ -26,9 +28,10 @@ build:
 	@cd crates/cqld && rt run -- --help > /dev/null
 	@echo 'Built. Try: $(RUNNER) < $(FIRST)'
 
-# every proof from nothing, the edits that must be refused, the tests, and the built programs
+# every proof from nothing, the edits that must be refused, the tests, the built programs, and the pages
 test:
-	.ci/run
+	@echo 'The gate. It takes $(TEST_TIME); a line tells how far it is after each crate.'
+	@.ci/run
 
 # times puts, texts of two lengths, fetches over many rows, and many readers of one stream, through
 # the built cqlrun, and counts the instructions of fetches; appends to one store, through the built stores; and sessions of the built cqld

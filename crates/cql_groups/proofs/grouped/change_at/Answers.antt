@@ -1,4 +1,4 @@
-use Rattle.std.proofs.Common.{◌≡◌, ◌∙◌, Some, cond, refl, ap, subst}
+use Rattle.std.proofs.Common.{◌∙◌, Some, cond, refl, ap, subst}
 use Rattle.std.specs.Prelude.{IsSome}
 use Rattle.std.specs.BTreeMap.{insert_entry}
 use Rattle.std.specs.Ordering.{is_eq}

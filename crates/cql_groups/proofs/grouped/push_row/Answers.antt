@@ -1,5 +1,4 @@
 use Rattle.std.proofs.Common.{◌≡◌, sym, ap, ◌∙◌, subst}
-use Rattle.cql_bag.specs.Changes.{changed}
 use Rattle.cql_algebra.specs.Shape.{key_of}
 use Rattle.cql_groups.specs.Grouped.{IsGrouping, CanChangeAt, IsChangedAt, at_key}
 use Rattle.cql_groups.proofs.GroupingLaws.{can_change_at, row_pushed, on_ok_from}

@@ -53,6 +53,7 @@ impl Grant {
         requires { is_shown schema.now (option_copied columns) ≡ true }
         ensures { IfOk result (λ g. g ≡ grant_over owner stream.now schema.now (option_copied columns.entry)) }
     {
+        // asking for the columns tells the proof that they are those of a schema
         let _all = schema.columns();
         let places = shown_places(alloc, schema, columns)?;
         let shown = schema_at(alloc, schema, places.as_slice())?;

@@ -168,6 +168,7 @@ fn take_told(pin: &Pin, runs: &mut Runs, told: Option<Output>, until: u64) -> Re
 }
 
 // Something may change at the next instant, and then nothing before a later one.
+#[inline(always)]
 fn change<'a, O: Operator>(
     alloc: Global,
     bench: &mut BenchOf<O>,

@@ -1,6 +1,7 @@
 // Walks over windows of whole rows, seen through places.
-ghost use Rattle.std.specs.Prelude.{◌≡◌, ◌≤◌, IfOk, IsTrue};
+ghost use Rattle.std.specs.Prelude.{◌≡◌, ◌≤◌, true, length, IfOk, IsTrue};
 ghost use Rattle.std.specs.List.Sorted.{IsPermutation};
+ghost use Rattle.cql_places.specs.Places.{all_places};
 ghost use Rattle.cql_places.specs.Windows.{narrowed_all};
 ghost use Rattle.cql_window.specs.Walk.{IsExchange, IsSegment};
 ghost use Rattle.cql_eval.specs.Seen.{fresh, rows_seen, content_seen};
@@ -11,33 +12,44 @@ use cql_window::{Moved, Walk, WindowPin};
 use std::alloc::{AllocError, Global};
 use std::marker::Model;
 
-/// A walk over a window of whole rows, whose rows are seen through places.
+/// A walk over a window of whole rows, whose rows are seen through places. Whether these are the
+/// places from the first one on, in order, is asked once.
 pub(crate) struct SeenWalk<'a> {
     walk: Walk<'a>,
     places: &'a [usize],
+    are_first: bool,
 }
 
 impl<'a> Drop for SeenWalk<'a> {
     fn drop(self) {
-        let SeenWalk { walk: _, places: _ } = self;
+        let SeenWalk {
+            walk: _,
+            places: _,
+            are_first: _,
+        } = self;
     }
 }
 
 impl<'a> Model for SeenWalk<'a> {
+    ghost use Rattle.std.specs.Prelude.{◌≡◌, true, length};
+    ghost use Rattle.cql_places.specs.Places.{all_places};
     ghost use Rattle.cql_places.specs.Windows.{narrowed_all};
     ghost use Rattle.cql_eval.specs.Seen.{SeenWalked};
 
     ghost Value = { SeenWalked };
 
     ghost view = { λ w. record { pin = record { window = w.walk.pin; places = w.places.now }; cursor = w.walk.cursor; held = narrowed_all w.places.now w.walk.held } };
+
+    ghost invariant = { λ w. w.are_first ≡ true → w.places.now ≡ all_places (length w.places.now) };
 }
 
-// Whether the places are all of each row.
+// Whether places from the first one on are all of each row.
 fn are_whole(places: &[usize], rows: &[Timed]) -> bool
+    requires { places.now ≡ all_places (length places.now) }
     ensures { IsTrue result → narrowed_all places.now rows.now ≡ rows.now }
 {
     for row in rows {
-        if !are_all(places, row.row().len()) {
+        if row.row().len() != places.len() {
             return false;
         }
     }
@@ -57,10 +69,17 @@ fn narrowed(alloc: Global, places: &[usize], rows: &[Timed]) -> Result<Vec<Timed
 
 // The rows with the values at the places. Where these are all of each row, they are the rows
 // themselves, and nothing is copied.
-fn through(alloc: Global, places: &[usize], rows: Vec<Timed>) -> Result<Vec<Timed>, AllocError>
+#[inline(always)]
+fn through(
+    alloc: Global,
+    places: &[usize],
+    are_first: bool,
+    rows: Vec<Timed>,
+) -> Result<Vec<Timed>, AllocError>
+    requires { are_first ≡ true → places.now ≡ all_places (length places.now) }
     ensures { IfOk result (λ r. r.items ≡ narrowed_all places.now rows.items) }
 {
-    if are_whole(places, &rows) {
+    if are_first && are_whole(places, &rows) {
         return Ok(rows);
     }
     narrowed(alloc, places, &rows)
@@ -74,6 +93,7 @@ impl<'a> SeenWalk<'a> {
         SeenWalk {
             walk: Walk::new(alloc, window),
             places,
+            are_first: are_all(places, places.len()),
         }
     }
 
@@ -91,11 +111,22 @@ impl<'a> SeenWalk<'a> {
         ensures moved { IfOk result (λ r. IsExchange self.entry.held r.1.came.items r.1.left.items r.0.held) }
         ensures came { IfOk result (λ r. IsSegment (rows_seen self.entry.pin) r.1.came.items) }
     {
-        let SeenWalk { walk, places } = self;
+        let SeenWalk {
+            walk,
+            places,
+            are_first,
+        } = self;
         let (walk, Moved { came, left }) = walk.advance(alloc, cursor)?;
-        let came = through(alloc, places, came)?;
-        let left = through(alloc, places, left)?;
-        Ok((SeenWalk { walk, places }, Moved { came, left }))
+        let came = through(alloc, places, are_first, came)?;
+        let left = through(alloc, places, are_first, left)?;
+        Ok((
+            SeenWalk {
+                walk,
+                places,
+                are_first,
+            },
+            Moved { came, left },
+        ))
     }
 
     /// What the window holds at the cursor, as it is seen, in some order.
@@ -103,6 +134,6 @@ impl<'a> SeenWalk<'a> {
         ensures { IfOk result (λ r. IsPermutation r.items self.now.held) }
     {
         let held = self.walk.held(alloc)?;
-        through(alloc, self.places, held)
+        through(alloc, self.places, self.are_first, held)
     }
 }

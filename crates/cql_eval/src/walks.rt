@@ -55,6 +55,7 @@ pub(crate) fn start<'a, O: Operator>(
 }
 
 // Tells the bench that rows came into one window, or left it.
+#[inline(always)]
 fn push_rows<O: Operator>(
     alloc: Global,
     bench: &mut BenchOf<O>,

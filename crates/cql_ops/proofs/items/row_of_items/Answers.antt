@@ -1,4 +1,4 @@
-use Rattle.std.proofs.Common.{Some, sym, ap, ◌∙◌, subst}
+use Rattle.std.proofs.Common.{sym, ap, ◌∙◌, subst}
 use Rattle.cql_algebra.specs.Shape.{items_on}
 use Rattle.cql_ops.specs.Made.{AreMade}
 use Rattle.cql_ops.proofs.items.row_of_items.Goals.{then-not-change+in_default, else-not-change, in-true-Some+in_ok-keep, then-change+in-None-1, else-change}

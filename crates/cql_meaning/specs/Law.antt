@@ -53,8 +53,8 @@ IsReplyLaw language = (table : List Tenant) (calls : List (ℕ × Command)) (ten
     ≡ meaning language tenant (known_from language tenant (nothing_known table tenant) (view tenant (nothing_made table) calls)) command
 
 -- after any commands, what is kept of a tenant's queries, by the columns that it sees, is what their windows need of all rows in the tenant's view
-abbrev pub IsStubLaw : Language → Type 0
-IsStubLaw language = (table : List Tenant) (calls : List (ℕ × Command)) (tenant : ℕ)
+abbrev pub IsStubsLaw : Language → Type 0
+IsStubsLaw language = (table : List Tenant) (calls : List (ℕ × Command)) (tenant : ℕ)
     → AreKept (nothing_known table tenant).quotas.hold (queries_at (state_from language (opening table) calls).queries tenant)
     (known_from language tenant (nothing_known table tenant) (view tenant (nothing_made table) calls)).queries
 
@@ -174,7 +174,7 @@ IsLimitLaw = (opened : Source → ℕ) (inputs : List BoundInput)
 pub record MachineLaw (language : Language) : Type 0 where
   pub alone : IsAloneLaw language
   pub reply : IsReplyLaw language
-  pub stub : IsStubLaw language
+  pub stub : IsStubsLaw language
 
 abbrev pub IsMachineLaw : Type 0
 IsMachineLaw = (language : Language) → IsLanguage language → MachineLaw language

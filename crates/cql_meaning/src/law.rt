@@ -5,7 +5,7 @@ ghost use Rattle.cql_meaning.specs.Headline.{IsHeadlineLaw};
 ghost use Rattle.cql_meaning.specs.Law.{IsMachineLaw, AreRefusalLaws, AreQueryLaws, IsLimitLaw};
 ghost use Rattle.cql_meaning.specs.Hidden.{IsHiddenLaw};
 ghost use Rattle.cql_meaning.specs.Order.{IsOrderLaw};
-ghost use Rattle.cql_meaning.specs.Rows.{IsHeldLaw};
+ghost use Rattle.cql_meaning.specs.Rows.{IsRowsHeldLaw};
 
 /// The headline, for each language of queries: whatever commands any tenants send, in whatever
 /// order, each tenant is told what its own view means; so lists with equal views of a tenant give
@@ -38,7 +38,7 @@ pub fn limit_law()
 
 /// The rows that a stream holds are as many as some stub needs, or none, and no stub needs more.
 pub fn rows_held_law()
-    ensures { IsHeldLaw }
+    ensures { IsRowsHeldLaw }
 {}
 
 /// For each language, what a command means by its checks: it is told the refusal of the first check

@@ -15,7 +15,7 @@ use Rattle.cql_out.specs.Output.{is_empty, same_rows, same_fault, same_output}
 use Rattle.cql_out.specs.Blocks.{AreBlocks, joined, extended, blocks_of_many, blocks_of, IsBlocksLaw, IsLocalLaw}
 use Rattle.cql_out.specs.Runs.{Extends, GoesOn}
 use Rattle.cql_out.proofs.Blocks.{blocks_from, are_unique}
-use Rattle.cql_out.proofs.Ties.{tied, ties_itself}
+use Rattle.cql_value.proofs.Ties.{tied, ties_itself}
 use Rattle.cql_out.proofs.Extend.{extends_empty, extends_last, extends_new}
 
 same_rows-equal : (a b : List (List Value)) → same_rows a b ≡ true → a ≡ b

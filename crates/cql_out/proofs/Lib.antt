@@ -1,4 +1,3 @@
 mod Blocks
 mod Every
 mod Extend
-mod Ties

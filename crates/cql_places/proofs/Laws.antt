@@ -1,10 +1,10 @@
 -- The laws of places.
 use Rattle.std.proofs.Common.{refl, ap, sym}
 use Rattle.cql_window.specs.declared.window.Window.TheVariants.{Range, Rows, All as all, Parts}
-use Rattle.cql_places.specs.Law.{IsAllLaw, IsChainLaw, IsWideLaw, IsTwiceLaw}
+use Rattle.cql_places.specs.Law.{IsAllPlacesLaw, IsChainLaw, IsWideLaw, IsTwiceLaw}
 use Rattle.cql_places.proofs.Picks.{at_all, chained, among_all}
 
-pub all_places_law : IsAllLaw
+pub all_places_law : IsAllPlacesLaw
 all_places_law row = at_all row
 
 pub chain_law : IsChainLaw

@@ -74,7 +74,7 @@ first_places from (suc few) zero h = absurd (omega (arith, h))
 first_places from (suc few) (suc many) h = ap (λ l. from ∷ l) (first_places (from + 1) few many (omega (arith, h)))
 
 -- ONE MORE PLACE
-take_one : {A : Type 0} (xs : List A) (i : ℕ) (x : A) → slice_get xs i ≡ Some x → take (i + 1) xs ≡ take i xs ++ x ∷ []
+pub take_one : {A : Type 0} (xs : List A) (i : ℕ) (x : A) → slice_get xs i ≡ Some x → take (i + 1) xs ≡ take i xs ++ x ∷ []
 take_one [] i x h = absurd cc
 take_one (y ∷ ys) zero x h = grind arith
 take_one (y ∷ ys) (suc i) x h = let e : suc i + 1 ≡ suc (i + 1) = omega arith in ap (λ n. take n (y ∷ ys)) e ∙ ap (λ l. y ∷ l) (take_one ys i x h)

@@ -2,16 +2,13 @@
 use Rattle.std.proofs.Common.{◌≡◌, ◌≤◌, Bool, true, false, ◌&&◌, List, length, refl, arith}
 use Rattle.std.specs.Prelude.{nat_le}
 use Rattle.std.proofs.lemmas.Bool.Decides.{nat_tests}
+use Rattle.std.proofs.lemmas.Bool.{and_parts}
 use Rattle.cql_value.specs.declared.schema.Column.{Column}
 use Rattle.cql_value.specs.Schema.{is_schema}
-
-pub both : (a b : Bool) → (a && b) ≡ true → (a ≡ true) × (b ≡ true)
-both true b e = (refl, e)
-both false b e = absurd cc
 
 -- a schema has at most 16 columns
 pub schema_size : (columns : List Column) → is_schema columns ≡ true → length columns ≤ 16
 schema_size columns h =
-    let ends = both (nat_le 1 (length columns) && nat_le (length columns) 16) _ h in
-    let most = (both (nat_le 1 (length columns)) _ ends.0).1 in
+    let ends = and_parts (nat_le 1 (length columns) && nat_le (length columns) 16) _ h in
+    let most = (and_parts (nat_le 1 (length columns)) _ ends.0).1 in
     grind (arith, nat_tests, most)

@@ -9,8 +9,8 @@ use Rattle.cql_places.specs.Places.{at_places, all_places, AreWithin}
 use Rattle.cql_places.specs.Windows.{narrowed_all, wide_window, PartsWithin, HasPlaces}
 
 -- at all places stands all
-abbrev pub IsAllLaw : Type 0
-IsAllLaw = (row : List Value) → at_places row (all_places (length row)) ≡ row
+abbrev pub IsAllPlacesLaw : Type 0
+IsAllPlacesLaw = (row : List Value) → at_places row (all_places (length row)) ≡ row
 
 -- places of what stands at places are places of the whole
 abbrev pub IsChainLaw : Type 0

@@ -1,9 +1,9 @@
 // The laws of places: functions with empty bodies, whose contracts are the laws.
-ghost use Rattle.cql_places.specs.Law.{IsAllLaw, IsChainLaw, IsWideLaw, IsTwiceLaw, IsNarrowLaw};
+ghost use Rattle.cql_places.specs.Law.{IsAllPlacesLaw, IsChainLaw, IsWideLaw, IsTwiceLaw, IsNarrowLaw};
 
 /// At all places stands all.
 pub fn all_places_law()
-    ensures { IsAllLaw }
+    ensures { IsAllPlacesLaw }
 {}
 
 /// Places of what stands at places are places of the whole.

@@ -2,6 +2,7 @@
 use Rattle.std.proofs.Common.{◌≡◌, ℕ, zero, suc, ◌+◌, ◌<◌, ◌==◌, List, [], ◌∷◌, length, Bool, true, false, ◌&&◌, ◌||◌, if◌then◌else◌, ◌⊎◌, inl, inr, Option, Some, Ok, slice_get, refl, sym, ap, ◌∙◌, subst, arith}
 use Rattle.std.specs.List.{AllZip, Contains, list_any, slice_index_or}
 use Rattle.std.proofs.lemmas.Bool.Decides.{nat_tests}
+use Rattle.std.proofs.lemmas.Bool.{and_parts}
 use Rattle.cql_value.specs.declared.schema.ColumnType.{ColumnType}
 use Rattle.cql_value.specs.declared.schema.ColumnType.TheVariants.{Number, Text}
 use Rattle.cql_syntax.specs.declared.syntax.QualifiedName.{QualifiedName}
@@ -62,11 +63,6 @@ each_ok check (x ∷ xs) ys h =
     let b = passes (each check xs) (λ zs. Ok (a.0 ∷ zs)) ys a.2 in
     subst (AllZip (λ x y. check x ≡ Ok y) (x ∷ xs)) (ok_is (a.0 ∷ b.0) ys b.2) (a.1, each_ok check xs b.0 b.1)
 
-pub both : (a b : Bool) → (a && b) ≡ true → (a ≡ true) × (b ≡ true)
-both true true h = (refl, refl)
-both true false h = absurd cc
-both false b h = absurd cc
-
 -- ---- columns
 
 meant_at : (qualifier : Option (List ℕ)) (name : List ℕ) (place : ℕ) (fields : List Field) (f : Found) → Contains (meant qualifier name place fields) f → (k : ℕ) × (f.place ≡ place + k) × (slice_get (kinds_of fields) k ≡ Some f.kind)
@@ -126,7 +122,7 @@ operation_typed : (fields : List Field) (op : Operation) (l r t : TypedExpr) →
 operation_typed fields op l r t p q h =
     let made : TypedExpr = record { expr = e.Binary op l.expr r.expr; kind = Number } in
     let done = passed (same_kind l.kind Number && same_kind r.kind Number) _ (Ok made) t h in
-    let numbers = both (same_kind l.kind Number) (same_kind r.kind Number) done.0 in
+    let numbers = and_parts (same_kind l.kind Number) (same_kind r.kind Number) done.0 in
     let a : expr_type (kinds_of fields) l.expr ≡ Some Number = p ∙ ap (λ k. Some k) (is_number l.kind numbers.0) in
     let b : expr_type (kinds_of fields) r.expr ≡ Some Number = q ∙ ap (λ k. Some k) (is_number r.kind numbers.1) in
     subst (λ t. expr_type (kinds_of fields) t.expr ≡ Some t.kind) (ok_is made t done.1) (binary_type (kinds_of fields) op l.expr r.expr ∙ ap (λ x. number_type x (expr_type (kinds_of fields) r.expr)) a ∙ ap (number_type (Some Number)) b)

@@ -4,6 +4,7 @@ use Rattle.std.specs.Prelude.{IfSome}
 use Rattle.std.specs.List.{AllByRecursion, AllZip, list_any, list_all, zip}
 use Rattle.std.proofs.lemmas.Bool.Decides.{nat_tests}
 use Rattle.std.proofs.lemmas.List.{map-append}
+use Rattle.std.proofs.lemmas.Bool.{and_parts}
 use Rattle.cql_value.specs.declared.schema.ColumnType.{ColumnType}
 use Rattle.cql_value.specs.declared.schema.ColumnType.TheVariants.{Number, Text}
 use Rattle.cql_syntax.specs.declared.syntax.QualifiedName.{QualifiedName}
@@ -37,7 +38,7 @@ use Rattle.cql_plan.specs.Fit.{expr_type, is_aggregate, HasColumn, IsTypedItem, 
 use Rattle.cql_plan.specs.Node.{kind_of_node, item_type, with_type, item_types, result_columns, Feeds}
 use Rattle.cql_plan.specs.Plan.{last_of, last_node, IsBlock, IsCombined, IsFormLaw}
 use Rattle.cql_plan.proofs.Each.{passes}
-use Rattle.cql_plan.proofs.FitExpressions.{passed, ok_is, each_ok, both, column_found, column_type, is_number, expression_typed, among}
+use Rattle.cql_plan.proofs.FitExpressions.{passed, ok_is, each_ok, column_found, column_type, is_number, expression_typed, among}
 use Rattle.cql_plan.proofs.FitConditions.{where_typed}
 
 -- ---- items
@@ -64,7 +65,7 @@ is_plain (shown.Aggregate written) = false
 is_plain (shown.Expression written) = true
 
 allowed_by : (grouped : Bool) (c m : Bool) → (not grouped || (c && m)) ≡ true → grouped ≡ true → m ≡ true
-allowed_by true c m h g = (both c m h).1
+allowed_by true c m h g = (and_parts c m h).1
 allowed_by false c m h g = absurd cc
 
 item_fits : (fields : List Field) (grouped : Bool) (groups : List ℕ) (written : Shown) (t : TypedItem) → shown_of fields grouped groups written ≡ Ok t → Fits fields grouped groups (is_plain written) t
@@ -98,7 +99,7 @@ one_more fields grouped groups p q item items one all = record {
   typed = (one.typed, all.typed);
   gives = ap (λ k. with_type k (item_types (kinds_of fields) (shown_in items))) one.gives ∙ ap (λ l. item.kind ∷ l) all.gives;
   allowed = λ g. (one.allowed g, all.allowed g);
-  same = λ h. (let b = both p q h in ap (λ x. x || list_any is_aggregate (shown_in items)) (one.same b.0) ∙ all.same b.1);
+  same = λ h. (let b = and_parts p q h in ap (λ x. x || list_any is_aggregate (shown_in items)) (one.same b.0) ∙ all.same b.1);
 }
 
 abbrev are_plain : List WrittenItem → Bool
@@ -254,13 +255,13 @@ place_by_place [] [] long h = refl
 place_by_place [] (r ∷ right) long h = absurd cc
 place_by_place (l ∷ left) [] long h = absurd cc
 place_by_place (l ∷ left) (r ∷ right) long h =
-    let b = both (same_kind l r) (agree left right) h in
+    let b = and_parts (same_kind l r) (agree left right) h in
     let rest : left ≡ right = place_by_place left right (let is : suc (length left) ≡ suc (length right) = long in omega arith) b.1 in
     ap (λ x. x ∷ left) (same_type l r b.0) ∙ ap (λ l. r ∷ l) rest
 
 same_types : (left right : List ColumnType) → same_kinds left right ≡ true → left ≡ right
 same_types left right h =
-    let b = both (length left == length right) (agree left right) h in
+    let b = and_parts (length left == length right) (agree left right) h in
     let equal : (length left == length right) ≡ true = b.0 in
     place_by_place left right (grind (arith, nat_tests)) b.1
 

@@ -5,6 +5,7 @@ use Rattle.std.proofs.lemmas.Slice.Eq.{bytes_eq-Decides}
 use Rattle.std.specs.Prelude.{◌≢◌, Option, Some, None, Ok, Err, if◌then◌else◌}
 use Rattle.std.specs.List.{list_any}
 use Rattle.std.specs.Str.{bytes_eq}
+use Rattle.std.proofs.lemmas.Bool.{and_parts}
 use Rattle.cql_value.specs.declared.schema.Column.{Column}
 use Rattle.cql_value.specs.Schema.{are_distinct}
 use Rattle.cql_syntax.specs.declared.syntax.Input.{Input}
@@ -24,10 +25,6 @@ use Rattle.cql_plan.proofs.Each.{passes}
 neither : (a b : Bool) → (a || b) ≡ false → (a ≡ false) × (b ≡ false)
 neither true b h = absurd (cc)
 neither false b h = (refl, h)
-
-both : (a b : Bool) → (a && b) ≡ true → (a ≡ true) × (b ≡ true)
-both true b h = (refl, h)
-both false b h = absurd (cc)
 
 denied : (a : Bool) → not a ≡ true → a ≡ false
 denied true h = absurd (cc)
@@ -86,7 +83,7 @@ lone_input : (q n alias : List ℕ) (p : ℕ) (cs : List Column) → are_distinc
 unfolding meant
 lone_input q n alias p [] h = tt
 lone_input q n alias p (c ∷ cs) h =
-    let parts = both (not (list_any (λ other. bytes_eq c.name other.name) cs)) (are_distinct cs) h in
+    let parts = and_parts (not (list_any (λ other. bytes_eq c.name other.name) cs)) (are_distinct cs) h in
     let later = denied (list_any (λ other. bytes_eq c.name other.name) cs) parts.0 in
     lone_go (bytes_eq n c.name) (bytes_eq q alias) _ (meant (Some q) n (suc p) (fields_of alias cs))
     (λ same. absent q n alias (suc p) cs (ap (λ (m : List ℕ). list_any (λ other. bytes_eq m other.name) cs) (bytes_same n c.name same) ∙ later))
@@ -150,7 +147,7 @@ lone_row : (q n : List ℕ) (p : ℕ) (ss : List Source) → AreInputs ss → ar
 unfolding meant joined_row are_apart
 lone_row q n p [] are h = tt
 lone_row q n p (s ∷ ss) are h =
-    let parts = both (not (list_any (λ other. bytes_eq s.alias other.alias) ss)) (are_apart ss) h in
+    let parts = and_parts (not (list_any (λ other. bytes_eq s.alias other.alias) ss)) (are_apart ss) h in
     let later = denied (list_any (λ other. bytes_eq s.alias other.alias) ss) parts.0 in
     let cut = split (Some q) n p s.fields (joined_row ss) in
     let front : Lone (meant (Some q) n p s.fields) = subst (λ (fs : List Field). Lone (meant (Some q) n p fs)) (sym are.0.1) (lone_input q n s.alias p are.0.0 are.0.2) in

@@ -33,7 +33,7 @@ all_kept P (Rows count slide) c xs ys h = all_last P (length xs - count) xs ys h
 all_kept P all c xs ys h = h
 all_kept P (Parts columns count) c xs ys h = all_newest P columns count xs ys h
 
-all_split : (P : Element → Type 0) (w : Window) (c : ℕ) (settled xs : List Element) → AllByRecursion P (settled ++ xs) → AllByRecursion P (content w c settled xs ++ beyond w c xs)
+pub all_split : (P : Element → Type 0) (w : Window) (c : ℕ) (settled xs : List Element) → AllByRecursion P (settled ++ xs) → AllByRecursion P (content w c settled xs ++ beyond w c xs)
 all_split P w c settled xs h =
     let n : ℕ = front_len w c xs in
     let whole : (settled ++ take n xs) ++ drop n xs ≡ settled ++ xs = append_assoc settled (take n xs) (drop n xs) ∙ ap (λ l. settled ++ l) (take-append-drop n xs) in

@@ -16,7 +16,7 @@ use Rattle.cql_store.specs.Held.{Held, Stubs, stub_of, fed, fed_at, advanced}
 
 -- ---- windows over no row, and over one row more
 
-kept_none : (w : Window) (c : ℕ) → kept w c [] ≡ []
+pub kept_none : (w : Window) (c : ℕ) → kept w c [] ≡ []
 kept_none (Range len slide) c = refl
 kept_none (Rows count slide) c = drop-nil (0 - count)
 kept_none all c = refl

@@ -4,12 +4,12 @@ use Rattle.std.specs.Prelude.{Option, None, Some, option_map, unwrap_or, slice_g
 use Rattle.std.specs.List.{AllByRecursion, list_all, list_any, cons_option}
 use Rattle.std.specs.Str.{bytes_eq}
 use Rattle.std.proofs.lemmas.Slice.Eq.{bytes_eq-Decides}
+use Rattle.std.proofs.lemmas.Bool.{and_parts}
 use Rattle.cql_value.specs.declared.schema.Column.{Column}
 use Rattle.cql_value.specs.Schema.{are_distinct, is_schema}
 use Rattle.cql_places.specs.Places.{at_places}
 use Rattle.cql_tenants.specs.Chosen.{column_place, are_unlike, is_choice, is_shown, shown_places}
 use Rattle.cql_places.proofs.Picks.{at_all, all_within}
-use Rattle.cql_places.proofs.Sizes.{both}
 use Rattle.cql_tenants.proofs.Looks.{first}
 
 -- THE PLACE OF A NAME
@@ -56,7 +56,7 @@ named_so : (columns : List Column) (names : List (List ℕ)) → list_all (λ na
     → (map (λ (c : Column). c.name) (at_places columns (map (place_or columns) names)) ≡ names) × AllByRecursion (λ place. place < length columns) (map (place_or columns) names)
 named_so columns [] h = (refl, tt)
 named_so columns (name ∷ names) h =
-    let parts = both (is_some (column_place columns name)) _ h in
+    let parts = and_parts (is_some (column_place columns name)) _ h in
     let here = placed columns name parts.0 in
     let rest = named_so columns names parts.1 in
     ((λ i. map (λ (c : Column). c.name) (cons_option (here.is i) (at_places columns (map (place_or columns) names)))) ∙ (λ i. here.named i ∷ rest.0 i), (here.within, rest.1))
@@ -76,8 +76,8 @@ length_names (c ∷ cs) = ap suc (length_names cs)
 -- a choice is a schema
 choice_schema : (columns : List Column) (names : List (List ℕ)) → is_choice columns names ≡ true → is_schema (at_places columns (map (place_or columns) names)) ≡ true
 choice_schema columns names h =
-    let last = both (nat_le 1 (length names) && nat_le (length names) 16 && list_all (λ name. is_some (column_place columns name)) names) _ h in
-    let all = both (nat_le 1 (length names) && nat_le (length names) 16) _ last.0 in
+    let last = and_parts (nat_le 1 (length names) && nat_le (length names) 16 && list_all (λ name. is_some (column_place columns name)) names) _ h in
+    let all = and_parts (nat_le 1 (length names) && nat_le (length names) 16) _ last.0 in
     let so = (named_so columns names all.1).0 in
     let shown : List Column = at_places columns (map (place_or columns) names) in
     let size : length shown ≡ length names = sym (length_names shown) ∙ ap length so in
@@ -92,6 +92,6 @@ shown_schema columns (Some names) h k = choice_schema columns names k
 pub shown_within : (columns : List Column) (names : Option (List (List ℕ))) → is_shown columns names ≡ true → AllByRecursion (λ place. place < length columns) (shown_places columns names)
 shown_within columns None k = all_within (length columns)
 shown_within columns (Some names) k =
-    let last = both (nat_le 1 (length names) && nat_le (length names) 16 && list_all (λ name. is_some (column_place columns name)) names) _ k in
-    let all = both (nat_le 1 (length names) && nat_le (length names) 16) _ last.0 in
+    let last = and_parts (nat_le 1 (length names) && nat_le (length names) 16 && list_all (λ name. is_some (column_place columns name)) names) _ k in
+    let all = and_parts (nat_le 1 (length names) && nat_le (length names) 16) _ last.0 in
     (named_so columns names all.1).1

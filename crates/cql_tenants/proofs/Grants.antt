@@ -5,6 +5,7 @@ use Rattle.std.specs.Option.{option_or}
 use Rattle.std.specs.List.{AllByRecursion, find, filter}
 use Rattle.std.proofs.lemmas.Bool.Decides.{nat_tests}
 use Rattle.std.proofs.lemmas.List.Folds.{find-append}
+use Rattle.std.proofs.lemmas.Bool.{and_parts}
 use Rattle.cql_value.specs.declared.schema.Column.{Column}
 use Rattle.cql_tenants.specs.declared.tenants.Tenant.{Tenant}
 use Rattle.cql_tenants.specs.declared.refusal.StreamRefusal.{StreamRefusal}
@@ -40,10 +41,6 @@ find_one p x g h = by (p x) refl
     by : (b : Bool) → p x ≡ b → (p x ≡ true) × (x ≡ g)
     by true is = (is, grind (arith, is, h))
     by false is = absurd (grind (arith, is, h))
-
-and_true : (a b : Bool) → (a && b) ≡ true → (a ≡ true) × (b ≡ true)
-and_true true b e = (refl, e)
-and_true false b e = absurd cc
 
 -- a grant of what may be shown
 pub granted_new : (homes : List Home) (user : ℕ) (stream : List ℕ) (schema : List Column) (columns : Option (List (List ℕ))) → option_map (λ s. s.schema) (stream_at homes user stream) ≡ Some schema
@@ -96,8 +93,8 @@ others_left o owner s name (x ∷ xs) other = by (others_left o owner s name xs 
     by rest false p er ep = (λ i. if ep i then Some x else rest i)
     by rest true false er ep = rest
     by rest true true er ep =
-        let a = and_true (eqb o x.owner) (same_name s x.stream) er in
-        let b = and_true (eqb owner x.owner) (same_name name x.stream) ep in
+        let a = and_parts (eqb o x.owner) (same_name s x.stream) er in
+        let b = and_parts (eqb owner x.owner) (same_name name x.stream) ep in
         let place : eqb owner o ≡ true = grind (arith, nat_tests, a.0, b.0) in
         let same : same_name name s ≡ true = name_same name s (name_eq name x.stream b.1 ∙ sym (name_eq s x.stream a.1)) in
         absurd (let e : true ≡ false = (λ i. sym place i && sym same i) ∙ other in cc)
@@ -108,7 +105,7 @@ left o owner s name home = by (eqb owner o && same_name name s) refl
   where
     by : (b : Bool) → (eqb owner o && same_name name s) ≡ b → grant_of (without_grant o s home) owner name ≡ (if b then None else grant_of home owner name)
     by true is =
-        let both = and_true (eqb owner o) (same_name name s) is in
+        let both = and_parts (eqb owner o) (same_name name s) is in
         let place : owner ≡ o = grind (arith, nat_tests, both.0) in
         let same = name_eq name s both.1 in
         (λ i. find (is_of (place i) (same i)) (filter (λ g. not (is_of o s g)) home.granted)) ∙ none_left o s home.granted
@@ -129,7 +126,7 @@ one_more homes home new there all owner name g h = by (find (is_of owner name) h
     by (Some x) is k = all owner name g (is ∙ k)
     by None is k =
         let one = find_one (is_of owner name) new g k in
-        let both = and_true (eqb owner new.owner) (same_name name new.stream) one.0 in
+        let both = and_parts (eqb owner new.owner) (same_name name new.stream) one.0 in
         let place : owner ≡ new.owner = grind (arith, nat_tests, both.0) in
         let same = name_eq name new.stream both.1 in
         (there.0, ap (λ o. stream_at homes o name) place ∙ ap (stream_at homes new.owner) same ∙ there.1, subst (λ x. IsGrantOf x there.0) one.1 there.2)
@@ -180,7 +177,7 @@ pub record Given (homes : List Home) (owner : ℕ) (name : List ℕ) (g : Grant)
 
 pub given : (homes : List Home) → AreOfStreams homes → (user owner : ℕ) (name : List ℕ) (g : Grant) → grant_of (home_at homes user) owner name ≡ Some g → Given homes owner name g
 given homes all user owner name g h =
-    let both = and_true (eqb owner g.owner) (same_name name g.stream) (find_passes (is_of owner name) (home_at homes user).granted g h) in
+    let both = and_parts (eqb owner g.owner) (same_name name g.stream) (find_passes (is_of owner name) (home_at homes user).granted g h) in
     let place : owner ≡ g.owner = grind (arith, nat_tests, both.0) in
     let there = all user owner name g h in
     record {

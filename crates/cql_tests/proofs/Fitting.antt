@@ -4,6 +4,7 @@ use Rattle.std.specs.List.{AllByRecursion, Contains, list_all}
 use Rattle.std.proofs.lemmas.Bool.{leb-true}
 use Rattle.std.proofs.lemmas.List.{length-map, take-append-drop}
 use Rattle.std.proofs.lemmas.List.Elements.{All-contains, All-from_recursion}
+use Rattle.std.proofs.lemmas.Bool.{and_parts}
 use Rattle.cql_value.specs.declared.value.Value.{Value}
 use Rattle.cql_value.specs.Element.{Element}
 use Rattle.cql_value.specs.Schema.{type_of, HasTypes}
@@ -22,14 +23,10 @@ all_weaker P Q weaker (x ∷ xs) each = (weaker x each.0, all_weaker P Q weaker 
 
 -- ---- rows
 
-both : (a b : Bool) → (a && b) ≡ true → (a ≡ true) × (b ≡ true)
-both true b h = (refl, h)
-both false b h = absurd cc
-
 none_below : (at : ℕ) (xs : List Element) → list_all (λ x. nat_le at x.at) xs ≡ true → AllByRecursion (λ x. at ≤ x.at) xs
 none_below at [] h = tt
 none_below at (x ∷ xs) h =
-    let here = both (nat_le at x.at) (list_all (λ (y : Element). nat_le at y.at) xs) h in
+    let here = and_parts (nat_le at x.at) (list_all (λ (y : Element). nat_le at y.at) xs) h in
     (leb-true at x.at here.0, none_below at xs here.1)
 
 -- one row before others

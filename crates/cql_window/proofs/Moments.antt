@@ -13,12 +13,8 @@ use Rattle.cql_window.specs.declared.window.Window.{Window}
 use Rattle.cql_window.specs.declared.window.Window.TheVariants.{Range, Rows, All as all, Parts}
 use Rattle.cql_window.specs.Window.{IsWindow, end_of, count_before, kept, HasSameContent}
 use Rattle.cql_window.specs.Changes.{came, gone, moments, range_moments, is_within}
+use Rattle.cql_window.proofs.Exchanges.{each_take}
 use Rattle.cql_window.proofs.Multiples.{before_same, seen_same, kept_same}
-
-each_take : {A : Type 0} (P : A → Type 0) (n : ℕ) (xs : List A) → AllByRecursion P xs → AllByRecursion P (take n xs)
-each_take P zero xs every = tt
-each_take P (suc n) [] every = tt
-each_take P (suc n) (x ∷ xs) every = (every.0, each_take P n xs every.1)
 
 each_append : {A : Type 0} (P : A → Type 0) (xs ys : List A) → AllByRecursion P xs → AllByRecursion P ys → AllByRecursion P (xs ++ ys)
 each_append P [] ys a b = b

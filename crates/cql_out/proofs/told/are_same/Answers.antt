@@ -1,5 +1,5 @@
 use Rattle.std.proofs.lemmas.Slice.Eq.{slice_eq-Decides}
-use Rattle.cql_out.proofs.Ties.{same-Decides}
+use Rattle.cql_value.proofs.Ties.{same-Decides}
 use Rattle.cql_out.proofs.told.are_same.Goals as goal
 
 pub returns : goal.returns

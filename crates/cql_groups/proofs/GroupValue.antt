@@ -12,7 +12,7 @@ use Rattle.cql_value.proofs.Ties.{tied}
 use Rattle.cql_bag.specs.Bag.{Counts, IsBag, count, put_all, size_of}
 use Rattle.cql_bag.specs.Law.{ArePositive}
 use Rattle.cql_plan.specs.declared.node.Shape.{Shape}
-use Rattle.cql_plan.specs.Typing.{is_empty}
+use Rattle.cql_plan.specs.Fit.{is_empty}
 use Rattle.cql_algebra.specs.Shape.{with_first, all_of, as_bag, times_over, key_bag, group_of, key_groups, group_row, groups_value, items_over, shape_value}
 use Rattle.cql_groups.specs.GroupLaws.{Laws}
 use Rattle.cql_groups.specs.Grouped.{IsLacking, IsHeldOf, IsHeldAt, at_key, told_rows, IsGrouping}

@@ -14,7 +14,13 @@ use Rattle.cql_plan.specs.declared.expr.Expr.TheVariants as expr
 use Rattle.cql_plan.specs.declared.node.Shape.{Shape}
 use Rattle.cql_plan.specs.declared.node.Item.{Item}
 use Rattle.cql_plan.specs.declared.node.Item.TheVariants as i
-use Rattle.cql_plan.specs.Typing.{is_empty, same_kind}
+
+-- two types are one
+abbrev pub same_kind : ColumnType → ColumnType → Bool
+same_kind Number Number = true
+same_kind Number Text = false
+same_kind Text Number = false
+same_kind Text Text = true
 
 -- ---- expressions
 
@@ -41,6 +47,10 @@ expr_type columns = fold-Expr (Option ColumnType) (type_step columns)
 abbrev pub is_aggregate : Item → Bool
 is_aggregate (i.Value x) = false
 is_aggregate _ = true
+
+abbrev pub is_empty : {A : Type 0} → List A → Bool
+is_empty [] = true
+is_empty (x ∷ xs) = false
 
 -- there are grouped columns, or an aggregate
 abbrev pub is_grouped : Shape → Bool

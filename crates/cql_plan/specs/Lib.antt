@@ -1,13 +1,6 @@
 pub mod Expr
 pub mod Condition
-pub mod Outcome
-pub mod Visible
-pub mod Columns
-pub mod Sources
-pub mod Typing
 pub mod Fit
 pub mod Node
 pub mod Ports
 pub mod Plan
-pub mod Law
-pub mod Seen

@@ -1,6 +1,5 @@
 -- What every plan keeps.
-use Rattle.std.specs.Prelude.{◌≡◌, ◌≤◌, [], ◌∷◌, length, Option, Some, None, Ok, IfSome}
-use Rattle.cql_syntax.specs.declared.syntax.Query.{Query}
+use Rattle.std.specs.Prelude.{◌≡◌, ◌≤◌, [], ◌∷◌, length, Option, Some, None, IfSome}
 use Rattle.cql_plan.specs.declared.node.Node.{Node}
 use Rattle.cql_plan.specs.declared.node.OperatorKind.TheVariants.{Join, Shape, Distinct, SetOp}
 use Rattle.cql_plan.specs.declared.plan.Branch.{Branch}
@@ -8,8 +7,6 @@ use Rattle.cql_plan.specs.declared.plan.Combined.{Combined}
 use Rattle.cql_plan.specs.declared.plan.Planned.{Planned}
 use Rattle.cql_plan.specs.Node.{kind_of_node, port_columns, result_columns, IsTypedNode, Feeds}
 use Rattle.cql_plan.specs.Ports.{ports, HavePorts}
-use Rattle.cql_plan.specs.Sources.{Readable}
-use Rattle.cql_plan.specs.Typing.{typing}
 
 -- 1 to 6 inputs
 abbrev pub IsFew : Planned → Type 0
@@ -45,7 +42,3 @@ pub record IsPlan (p : Planned) : Type 0 where
   pub ports : HavePorts p.inputs (ports p)
   pub first : IsBlock p.first
   pub combined : IfSome p.combined (IsCombined p.first)
-
--- what is typed is a block, or two of the same columns under a set operation
-abbrev pub IsFormLaw : Type 0
-IsFormLaw = (readable : Readable) (query : Query) (plan : Planned) → typing readable query ≡ Ok plan → IsBlock plan.first × IfSome plan.combined (IsCombined plan.first)

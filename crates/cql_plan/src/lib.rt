@@ -1,27 +1,15 @@
-//! Types queries, and plans what is computed for them.
+//! What is computed for a query: plans, and how their expressions and conditions are evaluated.
 #![tactic(auto)]
 
-mod block;
 pub mod condition;
-pub mod error;
 pub mod expr;
 mod fault;
-mod item;
-pub mod law;
-pub mod lookup;
 pub mod node;
 pub mod plan;
-mod resolution;
-mod row;
 mod same;
-mod source;
-mod typed;
 
 pub use condition::{Condition, Operand, compares, meets};
-pub use error::{PlanError, PlanFault};
 pub use expr::{Expr, evaluate};
 pub use fault::Fault;
-pub use lookup::{Lookup, Readable};
 pub use node::{Item, Join, Node, OperatorKind, SetOp, Shape};
 pub use plan::{Branch, Combined, Input, OutputKind, Plan, Planned};
-pub use resolution::resolve;

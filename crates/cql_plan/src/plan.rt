@@ -54,8 +54,8 @@ pub struct Planned {
     pub output: OutputKind,
 }
 
-/// What is computed for a query: 1 or 2 blocks over its inputs. It is made by `resolve` alone, and
-/// contracts see what it says.
+/// What is computed for a query: 1 or 2 blocks over its inputs. It is made of what keeps a plan's
+/// form alone, and contracts see what it says.
 pub struct Plan {
     planned: Planned,
 }
@@ -125,7 +125,7 @@ impl Drop for Plan {
 
 impl Plan {
     /// The plan that says this.
-    pub(crate) fn new(planned: Planned) -> Plan
+    pub fn new(planned: Planned) -> Plan
         requires { spec.IsPlan planned }
         ensures { result ≡ planned }
     {

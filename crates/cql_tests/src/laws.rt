@@ -15,7 +15,7 @@ use cql_core::law::{
 };
 use cql_out::law::{blocks_are_unique, blocks_law, local_law};
 use cql_places::law::{all_places_law, chain_law, narrow_law, twice_law, wide_law};
-use cql_plan::law::{
+use cql_resolve::law::{
     column_law, first_fault_law, form_law, plain_law, ports_law, qualified_law, seen_law,
 };
 use cql_streams::law::remove_law;

@@ -10,9 +10,8 @@ ghost use Rattle.cql_tests.specs.Pins.{one_number, one_place, whole, IsWhole, Ar
 
 use cql_eval::Pin;
 use cql_places::{all_places, are_all};
-use cql_plan::{
-    Branch, Condition, Expr, Input, Item, Join, Lookup, Node, Plan, Readable, Shape, resolve,
-};
+use cql_plan::{Branch, Condition, Expr, Input, Item, Join, Node, Plan, Shape};
+use cql_resolve::{Lookup, Readable, resolve};
 use cql_text::read;
 use cql_value::{Column, ColumnType, Items, Name, Row, Same, Schema, Timed, TryClone, Value};
 use cql_window::WindowPin;

@@ -1,7 +1,0 @@
-use Rattle.std.proofs.Common.{rules}
-use Rattle.cql_plan.specs.Typing.{with_second}
-use Rattle.cql_plan.proofs.resolution.with_second.Goals as goal
-
-pub returns-then-not-same_kinds : goal.returns-then-not-same_kinds
-unfolding with_second
-returns-then-not-same_kinds g c = search rules

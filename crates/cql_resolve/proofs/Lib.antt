@@ -1,0 +1,16 @@
+mod Finding
+mod Bounds
+mod Each
+mod Few
+mod Meant
+mod Firsts
+mod FitExpressions
+mod FitConditions
+mod Fits
+mod Joined
+mod Qualified
+mod Ports
+mod Seen
+mod PlainPlans
+pub mod CrossTrees
+pub mod CrossQueries

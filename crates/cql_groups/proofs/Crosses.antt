@@ -5,7 +5,7 @@ use Rattle.cql_groups.proofs.keyed_shape.Kept.TheSendSync as kept
 use Rattle.cql_groups.specs.contracts.keyed_shape.KeyedShape as keyed_shape
 use Rattle.cql_groups.specs.contracts.group_shape.Way as way
 use Rattle.cql_groups.specs.contracts.group_shape.GroupShape as group_shape
-use Rattle.cql_ops.proofs.Crosses.{plain_shape_send}
+use Rattle.cql_plain.proofs.Crosses.{plain_shape_send}
 use Rattle.cql_plan.proofs.CrossQueries.{shape_send}
 
 keyed_shape_send : IsSend keyed_shape.the_row

@@ -21,7 +21,7 @@ use Rattle.cql_groups.specs.declared.grouped.Group.{Group}
 use Rattle.cql_groups.proofs.CellLaws.{row_is}
 use Rattle.cql_algebra.proofs.Keys.{bag_of_keys}
 use Rattle.cql_groups.proofs.GroupingLaws.{held}
-use Rattle.cql_ops.proofs.Shaped.{of_groups}
+use Rattle.cql_plain.proofs.Shaped.{of_groups}
 use Rattle.cql_bag.proofs.Rows.{count_rest}
 
 abbrev Row : Type 0

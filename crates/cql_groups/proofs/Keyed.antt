@@ -10,9 +10,9 @@ use Rattle.cql_bag.specs.Changes.{changed_by, CanChangeBy}
 use Rattle.cql_plan.specs.declared.node.Shape.{Shape}
 use Rattle.cql_algebra.specs.Shape.{shape_value}
 use Rattle.cql_groups.specs.Grouped.{TellsGroups}
-use Rattle.cql_ops.specs.Shaped.{TellsShape}
+use Rattle.cql_plain.specs.Shaped.{TellsShape}
 use Rattle.cql_ops.proofs.Linear.{changed_by-append, can_join}
-use Rattle.cql_ops.proofs.Telling.{types-append}
+use Rattle.cql_plain.proofs.Telling.{types-append}
 
 pub has_column : (columns : List ColumnType) (at : ℕ) → at < length columns → HasColumn columns at
 has_column [] at lt = absurd (omega (arith, lt))

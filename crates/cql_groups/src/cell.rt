@@ -8,7 +8,7 @@ ghost use Rattle.cql_algebra.specs.ShapeLaws.{number_in};
 ghost use Rattle.cql_groups.specs.Cells.{place_in, cell_of, column_of, moved, cell_changed, cell_value, value_change, row_of_cells};
 
 use cql_bag::{Bag, Change};
-use cql_ops::key;
+use cql_plain::key;
 use cql_plan::{Expr, Item};
 use cql_value::{Row, Value};
 use sqlite_items::at;

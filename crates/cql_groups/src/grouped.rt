@@ -9,15 +9,16 @@ ghost use Rattle.cql_groups.specs.Cells.{IsKeyed, cell_of};
 ghost use Rattle.cql_groups.specs.Grouped.{IsNew, at_key, IsChangedGroup, CanChangeAt, IsChangedAt, IsDue, IsLacking, IsGrouping, TellsGroups};
 ghost use Rattle.cql_groups.specs.GroupLaws.{Laws};
 ghost use Rattle.cql_ops.specs.Linear.{with_change};
-ghost use Rattle.cql_ops.specs.Shaped.{TellsShape, FailsToShape};
 ghost use Rattle.cql_ops.specs.declared.error.OpError.TheVariants.{NoMemory, Overflow};
+ghost use Rattle.cql_plain.specs.Shaped.{TellsShape, FailsToShape};
 
 use crate::cell::{Cell, change_cells, new_cells, row_of_cells};
 use cql_algebra::law::{change_types_law, group_law, group_types_law, grouped_column_law, key_law};
 use cql_algebra::pushes::{ends_law, fewer_law, key_change_law, key_count_law, more_law};
 use cql_bag::law::{own_entries, put_all_counts, same_counts, take_counts};
 use cql_bag::{Bag, Change};
-use cql_ops::{OpError, key};
+use cql_ops::OpError;
+use cql_plain::key;
 use cql_plan::{Item, Shape};
 use cql_value::Row;
 use std::alloc::{AllocError, Global};

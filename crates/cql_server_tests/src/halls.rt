@@ -3,7 +3,7 @@ use crate::holding::Holding;
 use crate::made::{Unmade, table, table_at_last};
 use cql_core::{ColumnText, Command, Core, Mark, Refusal, Reply, TenantId, TenantTable, prepare};
 use cql_hall::{Bare, Entry, Gate, Hall, Journal, Kept, OpenGate, Pending, Receipt, Seat};
-use cql_ops::plain_bench;
+use cql_plain::plain_bench;
 use cql_value::{Items, Row, Text, Value};
 use std::alloc::{AllocError, Global};
 use std::sync::Wait;

@@ -2,7 +2,7 @@
 use crate::made::{Unmade, table};
 use cql_core::TenantTable;
 use cql_hall::{Bare, Hall, Journal, Kept, OpenGate};
-use cql_ops::plain_bench;
+use cql_plain::plain_bench;
 use cql_server::{SessionEnd, session};
 use std::alloc::{AllocError, Global};
 use std::sync::Wait;

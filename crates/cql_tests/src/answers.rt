@@ -5,7 +5,7 @@ use crate::outputs::Numbers::{Rows, Signed};
 use crate::outputs::{Told, are_blocks};
 use crate::pins::{Asked, GREATEST, pin};
 use cql_eval::{Answer, Pin, answer};
-use cql_ops::plain_bench;
+use cql_plain::plain_bench;
 use std::alloc::{AllocError, Global};
 use std::test::Fail;
 

@@ -1,5 +1,6 @@
 // Benches that no line can make.
-use cql_ops::{Bench, DistinctOp, Operator, PlainJoin, PlainShape, SetOperation};
+use cql_ops::{Bench, DistinctOp, Operator, SetOperation};
+use cql_plain::{PlainJoin, PlainShape};
 use cql_plan::OperatorKind;
 use cql_plan::OperatorKind::{Distinct, Join, SetOp, Shape};
 use std::alloc::Global;

@@ -4,7 +4,7 @@ ghost use Rattle.cql_ops.specs.Bench.{IsBench};
 use crate::scripts::{Call, Script, command, is_told, scripts};
 use crate::tenants::{Unmade, table_with};
 use cql_core::{BenchOf, Core, Operator, TenantTable, serve};
-use cql_ops::plain_bench;
+use cql_plain::plain_bench;
 use std::alloc::Global;
 use std::test::Fail;
 

@@ -1,7 +1,8 @@
 // The operators of one bench, each by itself.
 use cql_groups::GroupShape;
 use cql_joins::KeyedJoin;
-use cql_ops::{DistinctOp, PlainJoin, PlainShape, SetOperation};
+use cql_ops::{DistinctOp, SetOperation};
+use cql_plain::{PlainJoin, PlainShape};
 use std::alloc::{AllocError, Global};
 
 /// The operators of one block.

@@ -1,7 +1,8 @@
 //! Runs a script: a tenants line and commands on standard input, replies on standard output.
 #![tactic(auto)]
 
-use cql_ops::{Bench, DistinctOp, Operator, PlainJoin, PlainShape, SetOperation};
+use cql_ops::{Bench, DistinctOp, Operator, SetOperation};
+use cql_plain::{PlainJoin, PlainShape};
 use cql_wire::{Ending, Watched, program};
 use std::alloc::AllocError;
 use std::process::ExitCode;

@@ -5,7 +5,7 @@ use super::hall;
 use crate::made::table;
 use cql_core::{BenchOf, Operator, TenantTable};
 use cql_hall::{Hall, Kept, OpenGate};
-use cql_ops::plain_bench;
+use cql_plain::plain_bench;
 use cql_server::{SessionEnd, session};
 use cql_wire::ScriptError;
 use std::alloc::Global;

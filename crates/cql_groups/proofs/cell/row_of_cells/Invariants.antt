@@ -1,7 +1,7 @@
 use Rattle.std.proofs.Common.{◌≡◌, map, drop}
 use Rattle.cql_algebra.specs.Shape.{all_of}
 use Rattle.cql_groups.specs.Cells.{cell_value, row_of_cells}
-use Rattle.cql_ops.proofs.Behind.{behind}
+use Rattle.cql_plain.proofs.Behind.{behind}
 use Rattle.cql_groups.proofs.cell.row_of_cells.Given as goal
 
 -- the values so far and the cells that are left

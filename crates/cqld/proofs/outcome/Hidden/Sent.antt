@@ -1,6 +1,6 @@
 use denote.Param.Send.{sendable}
 use denote.Param.Sent.{Sends}
-use Rattle.cql_ops.proofs.Crosses.{plain_join_send, plain_shape_send}
+use Rattle.cql_plain.proofs.Crosses.{plain_join_send, plain_shape_send}
 use Rattle.cql_joins.proofs.Crosses.{keyed_join_send}
 use Rattle.cql_groups.proofs.Crosses.{group_shape_send}
 use Rattle.cqld.proofs.outcome.OwnLists.{part-1-1, part-1-2, part-1-5, part-1-6}

@@ -1,0 +1,10 @@
+pub mod Passed
+pub mod Telling
+pub mod Chosen
+pub mod Joining
+pub mod JoinRows
+pub mod LastPort
+pub mod Grouping
+pub mod Made
+pub mod Shaped
+pub mod Mixed

@@ -1,0 +1,204 @@
+// The items of a shape on the groups of a bag.
+ghost use Rattle.std.specs.Prelude.{◌≡◌, ◌≤◌, ◌∷◌, length, None, IfOk, IsTrue, OnOk};
+ghost use Rattle.std.specs.Option.{option_copied, option_map};
+ghost use Rattle.cql_algebra.specs.Shape.{best_from, item_over, items_over, key_of, is_first};
+ghost use Rattle.cql_bag.specs.Bag.{Counts, IsBag, put_all};
+ghost use Rattle.cql_bag.specs.Law.{ArePositive};
+ghost use Rattle.cql_plain.specs.Grouping.{gather, groups_by, entries_from, IsSameMade};
+
+use crate::sum::sum_of;
+use cql_bag::Bag;
+use cql_bag::law::{own_entries, put_all_counts, same_counts};
+use cql_plan::{Item, evaluate};
+use cql_value::{Row, Same, Value};
+use sqlite_items::at;
+use std::alloc::{AllocError, Global};
+use std::collections::BTreeMap;
+use std::collections::btree_map::Iter;
+
+/// The values of these columns of a row, in the order of the columns; one that the row lacks is
+/// left out.
+pub fn key(alloc: Global, columns: &[usize], row: &[Value]) -> Result<Row, AllocError>
+    ensures { IfOk result (λ k. k ≡ key_of columns.now row.now) }
+{
+    let mut values = Vec::with_capacity(alloc, columns.len())?;
+    for column in columns {
+        if let Some(value) = at(row, *column) {
+            values.push(value.try_clone(alloc)?)?;
+        }
+    }
+    Row::new(alloc, values)
+}
+
+// Whether the row has the key in these columns.
+fn has_key(columns: &[usize], row: &[Value], key: &[Value]) -> bool
+    ensures { IsTrue result → key_of columns.now row.now ≡ key.now }
+{
+    let mut left = key;
+    for column in columns {
+        if let Some(value) = at(row, *column) {
+            let Some((first, rest)) = left.split_first() else {
+                return false;
+            };
+            if !first.is_same(value) {
+                return false;
+            }
+            left = rest;
+        }
+    }
+    left.is_empty()
+}
+
+// The rows at the front that have the key go to the end of `run`. Gives the first one that has
+// another.
+fn take_run<'a>(
+    alloc: Global,
+    columns: &[usize],
+    key: &[Value],
+    left: &mut Iter<'a, Row, u64>,
+    run: &mut Vec<(Row, u64)>,
+) -> Result<Option<(&'a Row, &'a u64)>, AllocError>
+    requires bag { IsBag left.old }
+    requires some { ArePositive run.old.items }
+    ensures made { IfOk result (λ next. (group : Counts) → IsSameMade (key_of columns.now) key.now left.old (put_all run.old.items group) (entries_from (option_map (λ e. (e.0.now, e.1.now)) next) left.new) (put_all run.new.items group)) }
+    ensures some { OnOk result (ArePositive run.new.items) }
+    ensures bag { IfOk result (λ next. IsBag (entries_from (option_map (λ e. (e.0.now, e.1.now)) next) left.new)) }
+    ensures fewer { IfOk result (λ next. length (entries_from (option_map (λ e. (e.0.now, e.1.now)) next) left.new) ≤ length left.old) }
+{
+    while let Some((row, times)) = left.next() {
+        if !has_key(columns, row.values(), key) {
+            return Ok(Some((row, times)));
+        }
+        run.push((row.try_clone(alloc)?, *times))?;
+    }
+    Ok(None)
+}
+
+// The rows put into the group, each so many times. A row that is less than those that are there is
+// found at once, so the last ones go first.
+fn put_run(run: Vec<(Row, u64)>, group: &mut Bag) -> Result<(), AllocError>
+    requires { ArePositive run.items }
+    ensures { OnOk result (group.new ≡ put_all run.items group.old) }
+{
+    same_counts();
+    put_all_counts();
+    let _ = group.entries();
+    let mut run = run;
+    while let Some((row, times)) = run.pop() {
+        group.add_times(row, times)?;
+    }
+    Ok(())
+}
+
+// The row so many times more in the group of its key, and the rows behind it that have this key.
+// Gives the first one that has another.
+fn put_in_group<'a>(
+    alloc: Global,
+    columns: &[usize],
+    groups: &mut BTreeMap<Row, Bag>,
+    row: &'a Row,
+    times: u64,
+    left: &mut Iter<'a, Row, u64>,
+) -> Result<Option<(&'a Row, &'a u64)>, AllocError>
+    requires some { 1 ≤ times }
+    requires bag { IsBag left.old }
+    ensures made { IfOk result (λ next. gather (key_of columns.now) ((row.now, times) ∷ left.old) groups.old.entries ≡ gather (key_of columns.now) (entries_from (option_map (λ e. (e.0.now, e.1.now)) next) left.new) groups.new.entries) }
+    ensures bag { IfOk result (λ next. IsBag (entries_from (option_map (λ e. (e.0.now, e.1.now)) next) left.new)) }
+    ensures fewer { IfOk result (λ next. length (entries_from (option_map (λ e. (e.0.now, e.1.now)) next) left.new) ≤ length left.old) }
+{
+    let key = key(alloc, columns, row.values())?;
+    let mut run = Vec::new(alloc);
+    run.push((row.try_clone(alloc)?, times))?;
+    let next = take_run(alloc, columns, key.values(), left, &mut run)?;
+    let group = groups.entry(key)?.or_insert(Bag::new(alloc));
+    put_run(run, group)?;
+    Ok(next)
+}
+
+/// Each key of the rows, and the rows that have it. A key is made and looked up once for rows that
+/// follow one another.
+pub fn groups(alloc: Global, columns: &[usize], bag: &Bag) -> Result<BTreeMap<Row, Bag>, AllocError>
+    ensures { IfOk result (λ m. m.entries ≡ groups_by columns.now bag.now) }
+{
+    own_entries();
+    put_all_counts();
+    let mut groups = BTreeMap::new(alloc);
+    let mut left = bag.entries();
+    let mut next = left.next();
+    while let Some((row, times)) = next {
+        next = put_in_group(alloc, columns, &mut groups, row, *times, &mut left)?;
+    }
+    Ok(groups)
+}
+
+// Whether the value goes before the other: as the less, or as the greater.
+fn goes_first(least: bool, a: &Value, b: &Value) -> bool
+    ensures { result ≡ is_first least a.now b.now }
+{
+    if least {
+        a.cmp(b).is_lt()
+    } else {
+        a.cmp(b).is_gt()
+    }
+}
+
+// The value of the column that goes first.
+fn best_of(bag: &Bag, column: usize, least: bool) -> Option<&Value>
+    ensures { option_copied result ≡ best_from least column None bag.now }
+{
+    let mut best: Option<&Value> = None;
+    for (row, _) in bag.entries() {
+        if let Some(value) = at(row.values(), column) {
+            best = match best {
+                None => Some(value),
+                Some(old) => {
+                    if goes_first(least, value, old) {
+                        Some(value)
+                    } else {
+                        Some(old)
+                    }
+                }
+            };
+        }
+    }
+    best
+}
+
+fn clone_of(alloc: Global, value: Option<&Value>) -> Result<Option<Value>, AllocError>
+    ensures { IfOk result (λ v. v ≡ option_copied value.entry) }
+{
+    match value {
+        Some(value) => Ok(Some(value.try_clone(alloc)?)),
+        None => Ok(None),
+    }
+}
+
+// The item on the group.
+fn item_on_group(alloc: Global, item: &Item, group: &Bag) -> Result<Option<Value>, AllocError>
+    ensures { IfOk result (λ v. v ≡ item_over group.now item.now) }
+{
+    match item {
+        Item::Value(expr) => match group.first() {
+            Some(row) => evaluate(alloc, expr, row.values()),
+            None => Ok(None),
+        },
+        Item::Count => Ok(Some(Value::Number(group.size() as i64))),
+        Item::Sum(column) => Ok(sum_of(group, *column)),
+        Item::Min(column) => clone_of(alloc, best_of(group, *column, true)),
+        Item::Max(column) => clone_of(alloc, best_of(group, *column, false)),
+    }
+}
+
+// The items on the group, unless one is outside i64.
+pub fn row_of_group(alloc: Global, items: &[Item], group: &Bag) -> Result<Option<Row>, AllocError>
+    ensures { IfOk result (λ r. r ≡ items_over items.now group.now) }
+{
+    let mut values = Vec::with_capacity(alloc, items.len())?;
+    for item in items {
+        match item_on_group(alloc, item, group)? {
+            Some(value) => values.push(value)?,
+            None => return Ok(None),
+        }
+    }
+    Ok(Some(Row::new(alloc, values)?))
+}

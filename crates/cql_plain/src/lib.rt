@@ -1,0 +1,30 @@
+//! The plain operators: a join and a shape that keep nothing by key, which keyed ones may replace,
+//! and the bench of them.
+#![tactic(auto)]
+
+mod chosen;
+mod difference;
+mod filtered;
+mod group;
+mod items;
+mod join;
+mod join_copy;
+mod join_rows;
+mod last_port;
+mod made;
+mod mixed;
+mod numbers;
+mod passed;
+mod plain_join;
+mod plain_shape;
+mod recomputed;
+mod shape;
+mod shape_copy;
+mod sum;
+
+pub use group::key;
+pub use join_copy::copy_of_join;
+pub use mixed::{Mixed, Plain, mixed_bench, plain_bench};
+pub use plain_join::PlainJoin;
+pub use plain_shape::PlainShape;
+pub use shape_copy::copy_of_shape;

@@ -1,0 +1,113 @@
+// The operators of a bench whose joins and whose shapes are of any make, without a box.
+ghost use Rattle.std.specs.Prelude.{◌≡◌};
+ghost use Rattle.cql_plan.specs.declared.node.OperatorKind.TheVariants.{Join as join_kind, Shape as shape_kind};
+ghost use Rattle.cql_ops.specs.Bench.{IsBench};
+ghost use Rattle.cql_plain.specs.Mixed.{seen_of, plain_seen};
+
+use crate::plain_join::PlainJoin;
+use crate::plain_shape::PlainShape;
+use cql_bag::Change;
+use cql_ops::bench::BlockOf;
+use cql_ops::{BenchOf, DistinctOp, OpError, Operator, SetOperation};
+use cql_plan::{Node, OperatorKind};
+use std::alloc::Global;
+
+/// An operator: a join and a shape of the caller's choice, and the two that there is one make of.
+pub enum Mixed<J, S> {
+    Join(J),
+    Shape(S),
+    Distinct(DistinctOp),
+    SetOp(SetOperation),
+}
+
+impl<J: Drop, S: Drop> Drop for Mixed<J, S> {
+    fn drop(self) {
+        match self {
+            Mixed::Join(_op) => {}
+            Mixed::Shape(_op) => {}
+            Mixed::Distinct(_op) => {}
+            Mixed::SetOp(_op) => {}
+        }
+    }
+}
+
+impl<J: Operator, S: Operator> Operator for Mixed<J, S> {
+    ghost seen_in = { seen_of J.seen_in S.seen_in };
+
+    fn kind(&self) -> OperatorKind {
+        match self {
+            Mixed::Join(op) => op.kind(),
+            Mixed::Shape(op) => op.kind(),
+            Mixed::Distinct(op) => op.kind(),
+            Mixed::SetOp(op) => op.kind(),
+        }
+    }
+
+    fn start(&mut self, node: &Node, limit: u64) -> Result<(), OpError> {
+        match self {
+            Mixed::Join(op) => op.start(node, limit),
+            Mixed::Shape(op) => op.start(node, limit),
+            Mixed::Distinct(op) => op.start(node, limit),
+            Mixed::SetOp(op) => op.start(node, limit),
+        }
+    }
+
+    fn push(&mut self, port: usize, change: &Change) -> Result<(), OpError> {
+        match self {
+            Mixed::Join(op) => op.push(port, change),
+            Mixed::Shape(op) => op.push(port, change),
+            Mixed::Distinct(op) => op.push(port, change),
+            Mixed::SetOp(op) => op.push(port, change),
+        }
+    }
+
+    fn emit(&mut self, out: &mut Vec<Change>) -> Result<(), OpError> {
+        match self {
+            Mixed::Join(op) => op.emit(out),
+            Mixed::Shape(op) => op.emit(out),
+            Mixed::Distinct(op) => op.emit(out),
+            Mixed::SetOp(op) => op.emit(out),
+        }
+    }
+}
+
+/// A bench of a join and a shape for each of the two blocks. Takes no memory.
+pub fn mixed_bench<J: Operator, S: Operator>(
+    alloc: Global,
+    joins: (J, J),
+    shapes: (S, S),
+) -> BenchOf<Mixed<J, S>>
+    requires joins { ((J.seen_in joins.0).kind ≡ join_kind) × ((J.seen_in joins.1).kind ≡ join_kind) }
+    requires shapes { ((S.seen_in shapes.0).kind ≡ shape_kind) × ((S.seen_in shapes.1).kind ≡ shape_kind) }
+    ensures { IsBench (seen_of J.seen_in S.seen_in) result }
+{
+    let (left_join, right_join) = joins;
+    let (left_shape, right_shape) = shapes;
+    BenchOf {
+        left: BlockOf {
+            join: Mixed::Join(left_join),
+            shape: Mixed::Shape(left_shape),
+            distinct: Mixed::Distinct(DistinctOp::new(alloc)),
+        },
+        right: BlockOf {
+            join: Mixed::Join(right_join),
+            shape: Mixed::Shape(right_shape),
+            distinct: Mixed::Distinct(DistinctOp::new(alloc)),
+        },
+        set_op: Mixed::SetOp(SetOperation::new(alloc)),
+    }
+}
+
+/// One of the plain operators.
+pub type Plain = Mixed<PlainJoin, PlainShape>;
+
+/// A bench of the plain operators. Takes no memory.
+pub fn plain_bench(alloc: Global) -> BenchOf<Plain>
+    ensures { IsBench plain_seen result }
+{
+    mixed_bench(
+        alloc,
+        (PlainJoin::new(alloc), PlainJoin::new(alloc)),
+        (PlainShape::new(alloc), PlainShape::new(alloc)),
+    )
+}

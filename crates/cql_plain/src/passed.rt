@@ -1,0 +1,96 @@
+// The changes of a bag, kept until they are told and behind.
+ghost use Rattle.std.specs.Prelude.{◌≡◌, ◌++◌, [], ◌∷◌, OnOk, OnErr};
+ghost use Rattle.cql_plain.specs.Passed.{logged, told_all, IsTellsLaw, IsAddsLaw};
+
+use cql_bag::Change;
+use cql_bag::law::{put_all_counts, same_counts, take_counts};
+use std::alloc::{AllocError, Global};
+use std::marker::Model;
+
+/// All changes of a bag since a start, and how many of them were told.
+#[derive(Drop)]
+pub(crate) struct Log {
+    changes: Vec<Change>,
+    told: usize,
+}
+
+impl Model for Log {
+    ghost use Rattle.std.specs.Prelude.{◌≤◌, length, take, drop};
+    ghost use Rattle.cql_plain.specs.Passed.{Logged};
+
+    ghost Value = { Logged };
+
+    ghost view = { λ l. record { told = take l.told l.changes.items; untold = drop l.told l.changes.items } };
+
+    ghost invariant = { λ l. l.told ≤ length l.changes.items };
+}
+
+/// A copy of the change at the end.
+#[inline(always)]
+pub(crate) fn add_copy(
+    alloc: Global,
+    change: &Change,
+    changes: &mut Vec<Change>,
+) -> Result<(), AllocError>
+    ensures ok { OnOk result (changes.new.items ≡ changes.old.items ++ change.now ∷ []) }
+    ensures err { OnErr result (changes.new.items ≡ changes.old.items) }
+{
+    let row = change.row.try_clone(alloc)?;
+    changes.push(Change {
+        plus: change.plus,
+        row,
+    })?;
+    Ok(())
+}
+
+impl Log {
+    /// No change.
+    pub fn new(alloc: Global) -> Log
+        ensures { result ≡ record { told = []; untold = [] } }
+    {
+        Log {
+            changes: Vec::new(alloc),
+            told: 0,
+        }
+    }
+
+    /// One change more, which is not told.
+    pub fn push(&mut self, alloc: Global, change: &Change) -> Result<(), AllocError>
+        ensures ok { OnOk result (self.new ≡ logged change.now self.old) }
+        ensures err { OnErr result (self.new ≡ self.old) }
+    {
+        add_copy(alloc, change, &mut self.changes)
+    }
+
+    /// The changes that were not told, in order.
+    pub fn untold(&self) -> &[Change]
+        ensures { result.now ≡ self.now.untold }
+    {
+        &self.changes[self.told..]
+    }
+
+    /// Now all are told.
+    pub fn tell(&mut self)
+        ensures { self.new ≡ told_all self.old }
+    {
+        self.told = self.changes.len();
+    }
+}
+
+/// What is left to tell of a log leads from what was told to what the log's bag is turned to.
+pub(crate) fn tells_law()
+    ensures { IsTellsLaw }
+{
+    same_counts();
+    put_all_counts();
+    take_counts();
+}
+
+/// A change of a log is a change of its bag.
+pub(crate) fn adds_law()
+    ensures { IsAddsLaw }
+{
+    same_counts();
+    put_all_counts();
+    take_counts();
+}

@@ -1,7 +1,7 @@
 // The login of a session.
 ghost use Rattle.std.specs.Prelude.{◌≡◌, [], false, IfOk, IfSome, IfNone, OnOk};
 ghost use Rattle.cql_server.specs.Asked.{logged_in};
-ghost use Rattle.cql_wire.specs.Login.{LogsIn};
+ghost use Rattle.cql_asked.specs.Login.{LogsIn};
 ghost use Rattle.cql_lines.specs.Next.{text_of};
 
 use cql_core::{Reply, TenantId, TenantTable};

@@ -1,0 +1,5 @@
+mod Columns
+mod Comparing
+mod Keys
+mod Readings
+mod Trees

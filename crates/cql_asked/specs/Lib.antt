@@ -1,0 +1,5 @@
+pub mod Command
+pub mod Fault
+pub mod Login
+pub mod Table
+pub mod Tree

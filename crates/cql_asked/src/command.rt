@@ -1,0 +1,295 @@
+//! The command of a line.
+ghost use Rattle.std.specs.Prelude.{◌≡◌, map, Some, ok_or, codes};
+ghost use Rattle.serde_json.specs.View.{view, items_view};
+ghost use Rattle.serde_json.specs.Find.{as_str};
+ghost use Rattle.cql_asked.specs.Tree.{text_at, optional_text, all_of};
+ghost use Rattle.cql_asked.specs.Command.{word_of, keys_of, value_of, row_of, column_of, columns_of, stream_of, named_columns_of, grant_of, revoke_of, put_of, beat_of, query_of, fetch_of, ack_of, drop_of, of_word, addressed_of, of_keys, of_object, of_data, command_of};
+ghost use Rattle.cql_asked.specs.Fault.{Means};
+
+use crate::fault::LineFault;
+use crate::tree::{
+    array_at, has_only, optional_array, optional_text, optional_whole, read_tree, text_at, whole_at,
+};
+use cql_meaning::{ColumnText, Command};
+use cql_value::{Items, Row, Text, Value};
+use serde_json::Value as Json;
+use std::alloc::Global;
+
+/// The word of a command: what stands at the key `do`.
+#[derive(Clone, Copy)]
+enum Word {
+    Stream,
+    Grant,
+    Revoke,
+    Put,
+    Beat,
+    Query,
+    Fetch,
+    Ack,
+    Drop,
+    List,
+}
+
+impl Word {
+    fn read(text: &str) -> Option<Word>
+        ensures { result ≡ word_of text.now }
+    {
+        match text {
+            "stream" => Some(Word::Stream),
+            "grant" => Some(Word::Grant),
+            "revoke" => Some(Word::Revoke),
+            "put" => Some(Word::Put),
+            "beat" => Some(Word::Beat),
+            "query" => Some(Word::Query),
+            "fetch" => Some(Word::Fetch),
+            "ack" => Some(Word::Ack),
+            "drop" => Some(Word::Drop),
+            "list" => Some(Word::List),
+            _ => None,
+        }
+    }
+
+    // The keys that may stand in its line.
+    fn keys(self) -> &'static [&'static str]
+        ensures { map (λ k. k.now) result.now ≡ keys_of self }
+    {
+        match self {
+            Word::Stream => &["do", "tenant", "name", "columns"],
+            Word::Grant => &["do", "tenant", "stream", "to", "columns"],
+            Word::Revoke => &["do", "tenant", "stream", "to"],
+            Word::Put => &["do", "tenant", "stream", "at", "row"],
+            Word::Beat => &["do", "tenant", "stream", "at"],
+            Word::Query => &["do", "tenant", "name", "text"],
+            Word::Fetch => &["do", "tenant", "name", "until"],
+            Word::Ack => &["do", "tenant", "name", "to"],
+            Word::Drop => &["do", "tenant", "name"],
+            Word::List => &["do", "tenant"],
+        }
+    }
+}
+
+// A copy of the text at a key.
+fn text_of(alloc: Global, tree: &Json, key: &str) -> Result<Text, LineFault>
+    ensures { Means (ok_or (text_at key.now (view tree.now)) LineFault.BadKey) result }
+{
+    let text = text_at(tree, key).ok_or(LineFault::BadKey)?;
+    let text = Text::new(alloc, text)?;
+    Ok(text)
+}
+
+// A whole number of 64 bits with a sign, or a text.
+fn value_of(alloc: Global, tree: &Json) -> Result<Value, LineFault>
+    ensures { Means (ok_or (value_of (view tree.now)) LineFault.BadKey) result }
+{
+    if let Some(number) = tree.as_i64() {
+        return Ok(Value::Number(number));
+    }
+    let text = tree.as_str().ok_or(LineFault::BadKey)?;
+    let text = Text::new(alloc, text)?;
+    Ok(Value::Text(text))
+}
+
+fn row_of(alloc: Global, items: &[Json]) -> Result<Row, LineFault>
+    ensures { Means (ok_or (all_of value_of (items_view items.now)) LineFault.BadKey) result }
+{
+    let mut values = Vec::new(alloc);
+    for item in items {
+        values.push(value_of(alloc, item)?)?;
+    }
+    Ok(Row::new(alloc, values)?)
+}
+
+// A list of exactly two texts: the name and the type of a column.
+fn column_of(alloc: Global, tree: &Json) -> Result<ColumnText, LineFault>
+    ensures { Means (ok_or (column_of (view tree.now)) LineFault.BadKey) result }
+{
+    let texts = tree.as_array().ok_or(LineFault::BadKey)?;
+    let [name, kind] = texts.as_slice() else {
+        return Err(LineFault::BadKey);
+    };
+    let name = name.as_str().ok_or(LineFault::BadKey)?;
+    let kind = kind.as_str().ok_or(LineFault::BadKey)?;
+    let name = Text::new(alloc, name)?;
+    let kind = Text::new(alloc, kind)?;
+    Ok(ColumnText { name, kind })
+}
+
+fn columns_of(alloc: Global, items: &[Json]) -> Result<Items<ColumnText>, LineFault>
+    ensures { Means (ok_or (all_of column_of (items_view items.now)) LineFault.BadKey) result }
+{
+    let mut columns = Vec::new(alloc);
+    for item in items {
+        columns.push(column_of(alloc, item)?)?;
+    }
+    Ok(Items::from_vec(columns))
+}
+
+fn stream_of(alloc: Global, tree: &Json) -> Result<Command, LineFault>
+    ensures { Means (ok_or (stream_of (view tree.now)) LineFault.BadKey) result }
+{
+    let name = text_of(alloc, tree, "name")?;
+    let columns = array_at(tree, "columns").ok_or(LineFault::BadKey)?;
+    let columns = columns_of(alloc, columns)?;
+    Ok(Command::Stream { name, columns })
+}
+
+// Names of columns: a list of texts.
+fn names_of(alloc: Global, items: &[Json]) -> Result<Items<Text>, LineFault>
+    ensures { Means (ok_or (all_of as_str (items_view items.now)) LineFault.BadKey) result }
+{
+    let mut names = Vec::new(alloc);
+    for item in items {
+        let name = item.as_str().ok_or(LineFault::BadKey)?;
+        names.push(Text::new(alloc, name)?)?;
+    }
+    Ok(Items::from_vec(names))
+}
+
+// The names of the columns that a grant shows, if it names them.
+fn named_columns_of(alloc: Global, tree: &Json) -> Result<Option<Items<Text>>, LineFault>
+    ensures { Means (ok_or (named_columns_of (view tree.now)) LineFault.BadKey) result }
+{
+    match optional_array(tree, "columns").ok_or(LineFault::BadKey)? {
+        Some(items) => {
+            let names = names_of(alloc, items)?;
+            Ok(Some(names))
+        }
+        None => Ok(None),
+    }
+}
+
+fn grant_of(alloc: Global, tree: &Json) -> Result<Command, LineFault>
+    ensures { Means (ok_or (grant_of (view tree.now)) LineFault.BadKey) result }
+{
+    let stream = text_of(alloc, tree, "stream")?;
+    let to = text_of(alloc, tree, "to")?;
+    let columns = named_columns_of(alloc, tree)?;
+    Ok(Command::Grant {
+        stream,
+        to,
+        columns,
+    })
+}
+
+fn revoke_of(alloc: Global, tree: &Json) -> Result<Command, LineFault>
+    ensures { Means (ok_or (revoke_of (view tree.now)) LineFault.BadKey) result }
+{
+    let stream = text_of(alloc, tree, "stream")?;
+    let to = text_of(alloc, tree, "to")?;
+    Ok(Command::Revoke { stream, to })
+}
+
+fn put_of(alloc: Global, tree: &Json) -> Result<Command, LineFault>
+    ensures { Means (ok_or (put_of (view tree.now)) LineFault.BadKey) result }
+{
+    let stream = text_of(alloc, tree, "stream")?;
+    let at = whole_at(tree, "at").ok_or(LineFault::BadKey)?;
+    let row = array_at(tree, "row").ok_or(LineFault::BadKey)?;
+    let row = row_of(alloc, row)?;
+    Ok(Command::Put { stream, at, row })
+}
+
+fn beat_of(alloc: Global, tree: &Json) -> Result<Command, LineFault>
+    ensures { Means (ok_or (beat_of (view tree.now)) LineFault.BadKey) result }
+{
+    let stream = text_of(alloc, tree, "stream")?;
+    let at = whole_at(tree, "at").ok_or(LineFault::BadKey)?;
+    Ok(Command::Beat { stream, at })
+}
+
+fn query_of(alloc: Global, tree: &Json) -> Result<Command, LineFault>
+    ensures { Means (ok_or (query_of (view tree.now)) LineFault.BadKey) result }
+{
+    let name = text_of(alloc, tree, "name")?;
+    let text = text_of(alloc, tree, "text")?;
+    Ok(Command::Query { name, text })
+}
+
+fn fetch_of(alloc: Global, tree: &Json) -> Result<Command, LineFault>
+    ensures { Means (ok_or (fetch_of (view tree.now)) LineFault.BadKey) result }
+{
+    let name = text_of(alloc, tree, "name")?;
+    let until = optional_whole(tree, "until").ok_or(LineFault::BadKey)?;
+    Ok(Command::Fetch { name, until })
+}
+
+fn ack_of(alloc: Global, tree: &Json) -> Result<Command, LineFault>
+    ensures { Means (ok_or (ack_of (view tree.now)) LineFault.BadKey) result }
+{
+    let name = text_of(alloc, tree, "name")?;
+    let to = whole_at(tree, "to").ok_or(LineFault::BadKey)?;
+    Ok(Command::Ack { name, to })
+}
+
+fn drop_of(alloc: Global, tree: &Json) -> Result<Command, LineFault>
+    ensures { Means (ok_or (drop_of (view tree.now)) LineFault.BadKey) result }
+{
+    let name = text_of(alloc, tree, "name")?;
+    Ok(Command::Drop { name })
+}
+
+// The command of a word.
+fn of_word(alloc: Global, word: Word, tree: &Json) -> Result<Command, LineFault>
+    ensures { Means (ok_or (of_word word (view tree.now)) LineFault.BadKey) result }
+{
+    match word {
+        Word::Stream => stream_of(alloc, tree),
+        Word::Grant => grant_of(alloc, tree),
+        Word::Revoke => revoke_of(alloc, tree),
+        Word::Put => put_of(alloc, tree),
+        Word::Beat => beat_of(alloc, tree),
+        Word::Query => query_of(alloc, tree),
+        Word::Fetch => fetch_of(alloc, tree),
+        Word::Ack => ack_of(alloc, tree),
+        Word::Drop => drop_of(alloc, tree),
+        Word::List => Ok(Command::List),
+    }
+}
+
+// The tenant that the line names, if it names one.
+fn tenant_of(alloc: Global, tree: &Json) -> Result<Option<Text>, LineFault>
+    ensures { Means (ok_or (optional_text (codes "tenant") (view tree.now)) LineFault.BadKey) result }
+{
+    match optional_text(tree, "tenant").ok_or(LineFault::BadKey)? {
+        Some(text) => {
+            let name = Text::new(alloc, text)?;
+            Ok(Some(name))
+        }
+        None => Ok(None),
+    }
+}
+
+fn of_keys(alloc: Global, word: Word, tree: &Json) -> Result<(Option<Text>, Command), LineFault>
+    ensures { Means (of_keys word (view tree.now)) result }
+{
+    if !has_only(tree, word.keys()) {
+        return Err(LineFault::BadKey);
+    }
+    let tenant = tenant_of(alloc, tree)?;
+    let command = of_word(alloc, word, tree)?;
+    Ok((tenant, command))
+}
+
+fn of_tree(alloc: Global, tree: &Json) -> Result<(Option<Text>, Command), LineFault>
+    ensures { Means (of_data (Some (view tree.now))) result }
+{
+    if !tree.is_object() {
+        return Err(LineFault::BadLine);
+    }
+    let text = text_at(tree, "do").ok_or(LineFault::BadCommand)?;
+    let word = Word::read(text).ok_or(LineFault::BadCommand)?;
+    of_keys(alloc, word, tree)
+}
+
+/// The command of a line, without its line feed, and the tenant that the line names, if any.
+///
+/// In this order: `BadLine` (10) where the line isn't the UTF-8 text of one JSON object,
+/// `BadCommand` (11) where its key `do` is missing or no word of a command, `BadKey` (12) where
+/// another key is missing, unknown or of another kind. `NoMemory` (70) may be told of any line.
+#[tactic(auto, unfolding(crate::specs::Command::command_of))]
+pub fn read_command(alloc: Global, line: &[u8]) -> Result<(Option<Text>, Command), LineFault>
+    ensures { Means (command_of line.now) result }
+{
+    let tree = read_tree(alloc, line)?.ok_or(LineFault::BadLine)?;
+    of_tree(alloc, &tree)
+}

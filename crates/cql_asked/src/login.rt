@@ -1,0 +1,85 @@
+//! The login of a session.
+ghost use Rattle.std.specs.Prelude.{◌≡◌, ◌==◌, Some, slice_get};
+ghost use Rattle.std.specs.Bool.{Decides};
+ghost use Rattle.std.specs.Str.{bytes_eq};
+ghost use Rattle.serde_json.specs.View.{view};
+ghost use Rattle.cql_asked.specs.Login.{is_key_at, login_with, login_in, login_of, LogsIn};
+
+use crate::fault::LineFault;
+use crate::tree::{has_only, read_tree, text_at};
+use cql_tenants::{TenantId, TenantTable};
+use serde_json::Value as Json;
+use std::alloc::Global;
+
+/// The keys of a login line, each of which has to be there.
+const LOGIN_KEYS: &[&str] = &["key", "tenant"];
+
+fn byte_at(key: &[u8], place: usize) -> Option<u8>
+    ensures { result ≡ slice_get key.now place }
+{
+    key.get(place).copied()
+}
+
+// How the bits of two bytes differ: 0 exactly where they are the same. From no byte each differs.
+fn difference(byte: u8, other: Option<u8>) -> u8
+    ensures { Decides (result == 0) (other ≡ Some byte) }
+{
+    match other {
+        Some(other) => byte ^ other,
+        None => 1,
+    }
+}
+
+// Whether the keys are the same. It goes over the whole given key whatever differs, and doesn't
+// branch on its bytes, so that the time doesn't tell how much of the key is right.
+fn is_same_key(given: &[u8], kept: &[u8]) -> bool
+    ensures { result ≡ bytes_eq given.now kept.now }
+{
+    let mut differences = 0;
+    for (place, byte) in given.iter().enumerate() {
+        differences |= difference(*byte, byte_at(kept, place));
+    }
+    differences == 0 && given.len() == kept.len()
+}
+
+fn is_key_at(table: &TenantTable, id: TenantId, key: &str) -> bool
+    ensures { result ≡ is_key_at table.now id key.now }
+{
+    match table.tenants().get(id.place()) {
+        Some(tenant) => is_same_key(key.as_bytes(), tenant.key.as_str().as_bytes()),
+        None => false,
+    }
+}
+
+fn login_with(table: &TenantTable, name: &str, key: &str) -> Option<TenantId>
+    ensures { result ≡ login_with table.now name.now key.now }
+{
+    let id = table.find(name)?;
+    is_key_at(table, id, key).then_some(id)
+}
+
+fn login_in(table: &TenantTable, tree: &Json) -> Option<TenantId>
+    ensures { result ≡ login_in table.now (view tree.now) }
+{
+    if !has_only(tree, LOGIN_KEYS) {
+        return None;
+    }
+    let name = text_at(tree, "tenant")?;
+    let key = text_at(tree, "key")?;
+    login_with(table, name, key)
+}
+
+/// The tenant of the table that a line, without its line feed, logs in. A login is an object with
+/// exactly the keys `key` and `tenant`, both texts: the tenant's name, and its key, whole.
+/// `WrongKey` (13) exactly where the line is no login of a tenant of the table. `NoMemory` (70)
+/// may be told of any line.
+///
+/// The time that a wrong key takes doesn't depend on how much of it is right. A wrong tenant takes
+/// less time than a wrong key: names aren't secret.
+#[tactic(auto, unfolding(crate::specs::Login::login_of))]
+pub fn read_login(alloc: Global, line: &[u8], table: &TenantTable) -> Result<TenantId, LineFault>
+    ensures { LogsIn (login_of table.now line.now) result }
+{
+    let tree = read_tree(alloc, line)?.ok_or(LineFault::WrongKey)?;
+    login_in(table, &tree).ok_or(LineFault::WrongKey)
+}

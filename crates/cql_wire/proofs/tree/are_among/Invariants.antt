@@ -1,8 +1,0 @@
--- It is left to the members that are left.
-use Rattle.std.proofs.Common.{◌≡◌, map}
-use Rattle.serde_json.specs.View.{members_view}
-use Rattle.cql_wire.specs.Tree.{are_among}
-use Rattle.cql_wire.proofs.tree.are_among.Given as goal
-
-abbrev pub invariant-loop-key : goal.invariant-loop-key
-invariant-loop-key l = are_among (map (λ k. k.now) l.keys) (members_view l.key-iterator) ≡ are_among (map (λ k. k.now) l.keys) (members_view l.members.entries)

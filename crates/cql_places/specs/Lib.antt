@@ -1,3 +1,4 @@
+pub mod Chosen
 pub mod Law
 pub mod Places
 pub mod Windows

@@ -4,28 +4,12 @@ ghost use Rattle.std.specs.List.{cons_option};
 ghost use Rattle.cql_places.specs.Places.{at_places};
 ghost use Rattle.cql_places.specs.Windows.{narrowed, wide_window};
 
+use crate::copies::push_copy;
 use crate::places::are_all;
-use cql_value::{Items, Row, Timed, TryClone, Value};
+use cql_value::{Items, Row, Timed, Value};
 use cql_window::Window;
 use sqlite_items::at;
 use std::alloc::{AllocError, Global};
-
-// A copy of a value, if there is one, goes behind the others.
-fn push_copy(
-    alloc: Global,
-    copies: &mut Vec<Value>,
-    value: Option<&Value>,
-) -> Result<(), AllocError>
-    ensures { OnOk result (copies.new.items ≡ copies.old.items ++ cons_option (option_copied value.entry) []) }
-{
-    match value {
-        None => Ok(()),
-        Some(value) => {
-            copies.push(value.try_clone(alloc)?)?;
-            Ok(())
-        }
-    }
-}
 
 // Copies of the values at the places.
 fn values_at(alloc: Global, values: &[Value], places: &[usize]) -> Result<Vec<Value>, AllocError>

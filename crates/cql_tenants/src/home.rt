@@ -2,17 +2,17 @@
 ghost use Rattle.std.specs.Prelude.{◌≡◌, ◌≤◌, ◌^◌, ◌&&◌, ◌==◌, not, true, IfOk, IfSome, OnOk, OnErr, option_copied, slice_get, Some, None};
 ghost use Rattle.std.specs.Result.{result_err};
 ghost use Rattle.std.specs.List.{filter};
-ghost use Rattle.cql_tenants.specs.Chosen.{is_shown};
+ghost use Rattle.cql_places.specs.Chosen.{is_shown};
 ghost use Rattle.cql_tenants.specs.Home.{empty_home, is_of, grant_of, without_grant};
 ghost use Rattle.cql_tenants.specs.Checks.{make_refused, room_refused};
 ghost use Rattle.cql_tenants.specs.Directory.{with_stream, grant_over};
 
-use crate::chosen::{schema_at, shown_places};
 use crate::refusal::StreamRefusal;
 use crate::shelf::Shelf;
 use crate::stream::Stream;
 use crate::tenants::{Quotas, Tenant, TenantId};
 use cql_order::Clock;
+use cql_places::{schema_at, shown_places};
 use cql_value::name::is_name;
 use cql_value::{Items, Name, Schema, Text};
 use std::alloc::{AllocError, Global};

@@ -8,9 +8,9 @@ use Rattle.std.proofs.lemmas.Bool.{and_parts}
 use Rattle.cql_value.specs.declared.schema.Column.{Column}
 use Rattle.cql_value.specs.Schema.{are_distinct, is_schema}
 use Rattle.cql_places.specs.Places.{at_places}
-use Rattle.cql_tenants.specs.Chosen.{column_place, are_unlike, is_choice, is_shown, shown_places}
+use Rattle.cql_places.specs.Chosen.{column_place, are_unlike, is_choice, is_shown, shown_places}
 use Rattle.cql_places.proofs.Picks.{at_all, all_within}
-use Rattle.cql_tenants.proofs.Looks.{first}
+use Rattle.cql_places.proofs.Positions.{first}
 
 -- THE PLACE OF A NAME
 -- there is a column of that name at the place

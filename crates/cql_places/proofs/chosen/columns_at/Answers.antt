@@ -1,7 +1,7 @@
 use Rattle.std.proofs.Common.{[], ◌++◌, ◌∙◌, sym}
 use Rattle.std.specs.List.{cons_option}
 use Rattle.cql_places.proofs.Picks.{at_more}
-use Rattle.cql_tenants.proofs.chosen.columns_at.Goals as goal
+use Rattle.cql_places.proofs.chosen.columns_at.Goals as goal
 
 pub loop-place-preserved : goal.loop-place-preserved
 loop-place-preserved c =

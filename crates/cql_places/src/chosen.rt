@@ -1,13 +1,14 @@
 // The columns of a stream that a grant shows.
-ghost use Rattle.std.specs.Prelude.{◌≡◌, ◌++◌, [], true, IfOk, OnOk, is_some, length, map, unwrap_or, option_copied};
-ghost use Rattle.std.specs.List.{cons_option, list_all, list_any};
+ghost use Rattle.std.specs.Prelude.{◌≡◌, true, IfOk, is_some, length, map, unwrap_or, option_copied};
+ghost use Rattle.std.specs.List.{list_all, list_any};
 ghost use Rattle.std.specs.Str.{bytes_eq};
 ghost use Rattle.cql_value.specs.Schema.{is_schema};
 ghost use Rattle.cql_places.specs.Places.{at_places};
-ghost use Rattle.cql_tenants.specs.Chosen.{column_place, are_unlike, is_choice, is_shown, shown_places};
+ghost use Rattle.cql_places.specs.Chosen.{column_place, are_unlike, is_choice, is_shown, shown_places};
 
-use cql_places::all_places;
-use cql_value::{Column, Items, Schema, Text, TryClone};
+use crate::copies::push_copy;
+use crate::places::all_places;
+use cql_value::{Column, Items, Schema, Text};
 use sqlite_items::at;
 use std::alloc::{AllocError, Global};
 
@@ -92,23 +93,6 @@ pub fn shown_places(
     match names {
         None => Items::from_slice(alloc, all_places(schema)),
         Some(names) => places_named(alloc, schema.columns(), names.as_slice()),
-    }
-}
-
-// A copy of a column, if there is one, goes behind the others.
-fn push_copy(
-    alloc: Global,
-    copies: &mut Vec<Column>,
-    column: Option<&Column>,
-) -> Result<(), AllocError>
-    ensures { OnOk result (copies.new.items ≡ copies.old.items ++ cons_option (option_copied column.entry) []) }
-{
-    match column {
-        None => Ok(()),
-        Some(column) => {
-            copies.push(column.try_clone(alloc)?)?;
-            Ok(())
-        }
     }
 }
 

@@ -1,6 +1,6 @@
 use Rattle.std.proofs.Common.{◌≡◌, take}
 use Rattle.cql_places.specs.Places.{at_places}
-use Rattle.cql_tenants.proofs.chosen.columns_at.Given as goal
+use Rattle.cql_places.proofs.chosen.columns_at.Given as goal
 
 -- the columns at the places so far
 abbrev pub invariant-loop-place : goal.invariant-loop-place

@@ -18,7 +18,8 @@ use Rattle.cql_syntax.specs.declared.syntax.Second.{Second}
 use Rattle.cql_syntax.specs.declared.syntax.StreamOperator.{StreamOperator}
 use Rattle.cql_syntax.specs.declared.syntax.Query.{Query}
 use Rattle.cql_syntax.specs.Tokens.{Tokens}
-use Rattle.cql_text.specs.Meaning.{function_of, number_from, unit_named, unit_of, times, ticks_of, or_else, or_unbounded, or_empty, to_list, is_either, set_operator_of, stream_operator_of}
+use Rattle.cql_syntax.specs.Operators.{function_of, set_operator_of, stream_operator_of}
+use Rattle.cql_text.specs.Meaning.{number_from, unit_named, unit_of, times, ticks_of, or_else, or_unbounded, or_empty, to_list, is_either}
 use Rattle.cql_text.specs.Rules.{Rule}
 use Rattle.cql_text.specs.Rules as rule
 use Rattle.cql_text.specs.Grammar as grammar

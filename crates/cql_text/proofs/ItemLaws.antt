@@ -18,7 +18,7 @@ use Rattle.cql_syntax.specs.Cursor.{expect, token_by}
 use Rattle.cql_text.specs.Rules.{Rule}
 use Rattle.cql_text.specs.Rules as rule
 use Rattle.cql_text.specs.Grammar as grammar
-use Rattle.cql_text.specs.Grammar.{IsName, IsColumn, IsExpression, IsCount, IsOver, IsShown, IsItem, IsSelection, most_levels}
+use Rattle.cql_text.specs.Grammar.{IsColumn, IsExpression, IsCount, IsOver, IsShown, IsItem, IsSelection, most_levels}
 use Rattle.cql_text.specs.Readers as read
 use Rattle.cql_syntax.specs.Spelling.{function_word}
 use Rattle.cql_text.proofs.Laws as law

@@ -2,7 +2,7 @@
 use Rattle.std.specs.Prelude.{length, ℕ, zero, suc, Bool, if◌then◌else◌, List, [], ◌∷◌, Ok, Err, Option, Some, None}
 use Rattle.cql_syntax.specs.declared.token.Fixed.TheVariants as k
 use Rattle.cql_syntax.specs.declared.token.Token.{Token}
-use Rattle.cql_syntax.specs.Tokens.{Tokens, sign, joined}
+use Rattle.cql_syntax.specs.Tokens.{sign, joined}
 use Rattle.cql_syntax.specs.Cursor.{next_is, next, Outcome, Parser, linked, at_head}
 
 abbrev pub and_then : {A B : Type 0} → Outcome A → (A → Parser B) → Outcome B

@@ -1,7 +1,6 @@
 // Reads blocks.
 ghost use Rattle.std.specs.Prelude.{◌≡◌, ◌≤◌, ◌++◌, ◌∷◌, [], length, IfOk};
 ghost use Rattle.cql_syntax.specs.Cursor.{Reads};
-ghost use Rattle.cql_text.specs.Reading.{and_then};
 ghost use Rattle.cql_text.specs.Readers as spec;
 
 use crate::condition::condition;

@@ -10,7 +10,7 @@ use Rattle.cql_bag.specs.declared.change.Change.{Change}
 use Rattle.cql_plan.specs.declared.node.Item.{Item}
 use Rattle.cql_algebra.specs.Shape.{items_on}
 use Rattle.cql_ops.specs.Linear.{with_change, turned_changes, how_many, lacks}
-use Rattle.cql_plain.specs.Passed.{Logged, logged_bag, IsLog, IsAddsLaw}
+use Rattle.cql_plain.specs.Logs.{Logged, logged_bag, IsLog, IsAddsLaw}
 use Rattle.cql_ops.proofs.Linear.{turned-append}
 
 -- ---- one change after another

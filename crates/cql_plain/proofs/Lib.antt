@@ -1,4 +1,4 @@
-pub mod Passed
+pub mod Logs
 pub mod Telling
 pub mod Choosing
 pub mod Together

@@ -19,7 +19,7 @@ use Rattle.cql_ops.specs.Linear.{with_change, turned_changes, how_many, lacks}
 use Rattle.cql_ops.specs.Seen.{Seen}
 use Rattle.cql_ops.specs.declared.error.OpError.{OpError}
 use Rattle.cql_ops.specs.declared.error.OpError.TheVariants.{NoMemory, Overflow}
-use Rattle.cql_plain.specs.Passed.{Logged, logged_bag, told_all, told_image, IsTellsLaw}
+use Rattle.cql_plain.specs.Logs.{Logged, logged_bag, told_all, told_image, IsTellsLaw}
 use Rattle.cql_plain.specs.Shaped.{KeepsRows, KeepsGroups, TellsShape, FailsToShape}
 use Rattle.cql_plain.specs.Telling.{TellsOf}
 use Rattle.cql_ops.proofs.ByRow.{whole_value, no_value}

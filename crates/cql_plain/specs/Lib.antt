@@ -1,4 +1,4 @@
-pub mod Passed
+pub mod Logs
 pub mod Telling
 pub mod Chosen
 pub mod Joining
@@ -7,4 +7,4 @@ pub mod LastPort
 pub mod Grouping
 pub mod Made
 pub mod Shaped
-pub mod Mixed
+pub mod Plain

@@ -10,10 +10,10 @@ use Rattle.cql_plan.specs.Node.{item_types}
 use Rattle.cql_algebra.specs.Shape.{items_on, shape_value}
 use Rattle.cql_algebra.specs.Typed.{AreOf}
 use Rattle.cql_ops.specs.Clauses.{AreChangesOf}
-use Rattle.cql_ops.specs.Linear.{how_many}
+use Rattle.cql_ops.specs.Linear.{how_many, lacks}
 use Rattle.cql_ops.specs.declared.error.OpError.{OpError}
 use Rattle.cql_ops.specs.declared.error.OpError.TheVariants.{NoMemory, Overflow}
-use Rattle.cql_plain.specs.Passed.{Logged, logged_bag, IsLog, told_image}
+use Rattle.cql_plain.specs.Logs.{Logged, logged_bag, IsLog, told_image}
 use Rattle.cql_plain.specs.Made.{AreMade}
 use Rattle.cql_plain.specs.declared.plain_shape.Work.{Work}
 use Rattle.cql_plain.specs.declared.plain_shape.Work.TheVariants.{Rows, Groups}

@@ -4,7 +4,7 @@ ghost use Rattle.cql_value.specs.declared.value.Value.{Value as CqlValue};
 ghost use Rattle.cql_bag.specs.Changes.{Grows};
 ghost use Rattle.cql_algebra.specs.Shape.{item_value, items_on};
 ghost use Rattle.cql_ops.specs.Linear.{turned_changes, how_many, lacks};
-ghost use Rattle.cql_plain.specs.Passed.{logged_bag, told_image};
+ghost use Rattle.cql_plain.specs.Logs.{logged_bag, told_image};
 ghost use Rattle.cql_plain.specs.Made.{AreMade};
 ghost use Rattle.cql_plain.specs.Shaped.{KeepsRows, TellsShape, FailsToShape};
 

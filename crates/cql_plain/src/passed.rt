@@ -1,6 +1,6 @@
 // The changes of a bag, kept until they are told and behind.
 ghost use Rattle.std.specs.Prelude.{◌≡◌, ◌++◌, [], ◌∷◌, OnOk, OnErr};
-ghost use Rattle.cql_plain.specs.Passed.{logged, told_all, IsTellsLaw, IsAddsLaw};
+ghost use Rattle.cql_plain.specs.Logs.{logged, told_all, IsTellsLaw, IsAddsLaw};
 
 use cql_bag::Change;
 use cql_bag::law::{put_all_counts, same_counts, take_counts};
@@ -16,7 +16,7 @@ pub(crate) struct Log {
 
 impl Model for Log {
     ghost use Rattle.std.specs.Prelude.{◌≤◌, length, take, drop};
-    ghost use Rattle.cql_plain.specs.Passed.{Logged};
+    ghost use Rattle.cql_plain.specs.Logs.{Logged};
 
     ghost Value = { Logged };
 

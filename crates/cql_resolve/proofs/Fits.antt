@@ -33,10 +33,11 @@ use Rattle.cql_plan.specs.declared.plan.Planned.{Planned}
 use Rattle.cql_resolve.specs.Outcome.{Outcome, ◌>>=◌, ◌>>◌, unless, each}
 use Rattle.cql_resolve.specs.Columns.{kinds_of, column_of}
 use Rattle.cql_resolve.specs.Sources.{Readable, source_of, are_apart, joined_row, ports_of, inputs_of}
-use Rattle.cql_resolve.specs.Typing.{same_kind, same_kinds, expression_of, group_of, is_among, is_column, is_grouped_by, function_of, aggregate_of, shown_of, item_of, all_items, items_of, is_aggregate as is_written_aggregate, has_aggregate, is_empty, is_grouped as is_written_grouped, where_of, distinct_of, shown_in, kinds_in, join_of, shape_of, checked_of, body_of, block_of, output_of, alone, combined, with_second, typing}
-use Rattle.cql_plan.specs.Fit.{expr_type, is_aggregate, HasColumn, IsTypedItem, IsGroupedItem, is_typed_condition, all_columns}
+use Rattle.cql_resolve.specs.Typing.{same_kind, same_kinds, expression_of, group_of, is_among, is_column, is_grouped_by, function_of, aggregate_of, shown_of, item_of, all_items, items_of, is_aggregate as is_written_aggregate, has_aggregate, is_grouped as is_written_grouped, where_of, distinct_of, shown_in, kinds_in, join_of, shape_of, checked_of, body_of, block_of, output_of, alone, combined, with_second, typing}
+use Rattle.cql_resolve.specs.Law.{IsFormLaw}
+use Rattle.cql_plan.specs.Fit.{is_empty, expr_type, is_aggregate, HasColumn, IsTypedItem, IsGroupedItem, is_typed_condition, all_columns}
 use Rattle.cql_plan.specs.Node.{kind_of_node, item_type, with_type, item_types, result_columns, Feeds}
-use Rattle.cql_plan.specs.Plan.{last_of, last_node, IsBlock, IsCombined, IsFormLaw}
+use Rattle.cql_plan.specs.Plan.{last_of, last_node, IsBlock, IsCombined}
 use Rattle.cql_resolve.proofs.Each.{passes}
 use Rattle.cql_resolve.proofs.FitExpressions.{passed, ok_is, each_ok, column_found, column_type, is_number, expression_typed, among}
 use Rattle.cql_resolve.proofs.FitConditions.{where_typed}

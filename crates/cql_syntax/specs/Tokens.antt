@@ -1,5 +1,5 @@
 -- Tokens and what is asked of them.
-use Rattle.std.specs.Prelude.{Bool, false, List, ◌++◌, map, Option, Some, None, if◌then◌else◌, is_some}
+use Rattle.std.specs.Prelude.{Bool, true, false, List, ◌++◌, map, Option, Some, None, if◌then◌else◌, is_some}
 use denote.Enum.Bare.{sameb}
 use Rattle.cql_syntax.specs.contracts.token.Fixed.{the_type}
 use Rattle.cql_syntax.specs.declared.token.Fixed.{Fixed}
@@ -24,6 +24,13 @@ is k (t.Fixed j) = same j k
 is k (t.Word s) = false
 is k (t.Number n) = false
 is k (t.Text s) = false
+
+-- a word that isn't reserved, of any length
+abbrev pub is_word : Token → Bool
+is_word (t.Word s) = true
+is_word (t.Fixed j) = false
+is_word (t.Number n) = false
+is_word (t.Text s) = false
 
 -- the token means something
 abbrev pub knows : {O : Type 0} → (Token → Option O) → Token → Bool

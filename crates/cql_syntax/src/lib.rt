@@ -2,6 +2,7 @@
 //! spelling.
 #![tactic(auto)]
 
+pub mod cursor;
 mod lex;
 mod print;
 mod printer;
@@ -10,4 +11,3 @@ pub mod token;
 
 pub use lex::{Scanned, lexed, reserved_law};
 pub use print::text_of;
-pub use token::is_same;

@@ -8,7 +8,8 @@ use cql_core::{
 };
 use cql_groups::GroupShape;
 use cql_joins::KeyedJoin;
-use cql_plain::{mixed_bench, plain_bench};
+use cql_ops::mixed_bench;
+use cql_plain::plain_bench;
 use std::alloc::{AllocError, Global};
 use std::test::Fail;
 

@@ -13,7 +13,8 @@ use Rattle.cql_syntax.specs.declared.syntax.Expression.TheVariants as e
 use Rattle.cql_syntax.specs.declared.syntax.Condition.{Condition}
 use Rattle.cql_syntax.specs.declared.syntax.Condition.TheVariants as b
 use Rattle.cql_syntax.specs.Tokens.{Tokens, sign, joined}
-use Rattle.cql_text.specs.Meaning.{name_of, qualified, constant_of, negative_of, minus, sum_sign, product_sign, comparison_of}
+use Rattle.cql_syntax.specs.Operators.{sum_sign, product_sign, comparison_of}
+use Rattle.cql_text.specs.Meaning.{name_of, qualified, constant_of, negative_of, minus}
 use Rattle.cql_text.specs.Rules.{Rule, GoesOn, ends, goes}
 use Rattle.cql_text.specs.Rules as rule
 use Rattle.cql_text.specs.Grammar as grammar

@@ -18,11 +18,12 @@ use Rattle.cql_syntax.specs.declared.syntax.Second.{Second}
 use Rattle.cql_syntax.specs.declared.syntax.StreamOperator.{StreamOperator}
 use Rattle.cql_syntax.specs.declared.syntax.Query.{Query}
 use Rattle.cql_syntax.specs.Tokens.{Tokens}
-use Rattle.cql_text.specs.Meaning.{function_of, number_from, unit_named, unit_of, times, ticks_of, or_else, or_unbounded, or_empty, to_list, is_either, set_operator_of, stream_operator_of}
+use Rattle.cql_syntax.specs.Operators.{function_of, set_operator_of, stream_operator_of}
+use Rattle.cql_text.specs.Meaning.{number_from, unit_named, unit_of, times, ticks_of, or_else, or_unbounded, or_empty, to_list, is_either}
 use Rattle.cql_text.specs.Rules.{Rule}
 use Rattle.cql_text.specs.Rules as rule
 use Rattle.cql_text.specs.Grammar as grammar
-use Rattle.cql_text.specs.Grammar.{IsName, IsColumn, IsExpression, IsCondition, most_levels, IsCount, IsOver, IsShown, IsItem, IsSelection, IsLength, IsRange, IsRows, IsPartition, IsWindow, IsInput, IsInputs, IsRest, IsSelected, IsBlock, IsSecond, IsOuter, IsInner, IsWhole, IsQuery, Spells, query_of}
+use Rattle.cql_text.specs.Grammar.{IsName, IsColumn, IsCondition, most_levels, IsCount, IsOver, IsShown, IsItem, IsSelection, IsLength, IsPartition, IsWindow, IsInput, IsInputs, IsRest, IsSelected, IsBlock, IsSecond, IsOuter, IsInner, IsWhole, Spells, query_of}
 use Rattle.cql_syntax.specs.Spelling.{symbol, number, Pieces, pieces_tokens, spell_name, function_word, spell_aggregate, spell_shown, spell_alias, spell_item, spell_selection, spell_slide, spell_range, spell_plain, spell_window, spell_input, separated, following, spell_condition, spell_where, spell_groups, spell_distinct, spell_block, set_word, spell_second, stream_word, spell_query}
 use Rattle.cql_text.proofs.ItemLaws.{function_is}
 use Rattle.cql_text.proofs.WindowLaws.{number_facts, number_known}

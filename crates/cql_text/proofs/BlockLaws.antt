@@ -17,8 +17,9 @@ use Rattle.cql_syntax.specs.declared.syntax.StreamOperator.TheVariants as s
 use Rattle.cql_syntax.specs.declared.syntax.Second.{Second}
 use Rattle.cql_syntax.specs.declared.syntax.Query.{Query}
 use Rattle.cql_syntax.specs.Tokens.{is, same, knows, sign}
-use Rattle.cql_text.specs.Meaning.{starts_alias, or_unbounded, or_empty, to_list, set_operator_of, stream_operator_of, unit_of}
-use Rattle.cql_text.specs.Reading.{expect, eat, token_by, next_is}
+use Rattle.cql_syntax.specs.Operators.{set_operator_of, stream_operator_of}
+use Rattle.cql_text.specs.Meaning.{starts_alias, or_unbounded, or_empty, to_list, unit_of}
+use Rattle.cql_syntax.specs.Cursor.{expect, eat, token_by, next_is}
 use Rattle.cql_text.specs.Rules.{Rule}
 use Rattle.cql_text.specs.Rules as rule
 use Rattle.cql_text.specs.Grammar as grammar

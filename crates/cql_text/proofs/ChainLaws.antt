@@ -2,7 +2,8 @@
 use Rattle.std.proofs.Common.{◌≡◌, ◌≤◌, ℕ, zero, suc, [], ◌∷◌, ◌++◌, length, Ok, Err, Option, Some, None, refl, sym, ap, ◌∙◌, subst, append_assoc, length-append, arith, ◌⊎◌, inl, inr}
 use Rattle.cql_syntax.specs.declared.token.Token.{Token}
 use Rattle.cql_syntax.specs.Tokens.{Tokens}
-use Rattle.cql_text.specs.Reading.{Outcome, Parser, at_head, and_then, linked, chain}
+use Rattle.cql_syntax.specs.Cursor.{Outcome, Parser, at_head, linked}
+use Rattle.cql_text.specs.Reading.{and_then, chain}
 use Rattle.cql_text.specs.Rules.{Rule, GoesOn, ends, goes}
 use Rattle.cql_text.proofs.Laws.{IsPlain, ArePlain, plain-append, IsSound, IsComplete, IsViable, IsFree, Looks, GoesOnSo, rest_of, with_rest}
 

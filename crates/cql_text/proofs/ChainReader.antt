@@ -2,7 +2,8 @@
 use Rattle.std.proofs.Common.{◌≡◌, ◌≤◌, ℕ, ◌∷◌, ◌++◌, length, Ok, Err, Option, Some, None, refl, sym, ap, ◌∙◌, append_assoc, length-append, arith, ◌⊎◌, inl, inr}
 use Rattle.cql_syntax.specs.declared.token.Token.{Token}
 use Rattle.cql_syntax.specs.Tokens.{Tokens}
-use Rattle.cql_text.specs.Reading.{Outcome, Parser, at_head, and_then, chain, chain_of}
+use Rattle.cql_syntax.specs.Cursor.{Outcome, Parser, at_head}
+use Rattle.cql_text.specs.Reading.{and_then, chain, chain_of}
 use Rattle.cql_text.specs.Rules.{Rule, ends}
 use Rattle.cql_text.specs.Rules as rule
 use Rattle.cql_text.proofs.Laws.{IsPlain, plain-append, GoesOnSo, rest_of, with_rest}

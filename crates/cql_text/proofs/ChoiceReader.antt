@@ -2,7 +2,8 @@
 use Rattle.std.proofs.Common.{◌≡◌, Bool, true, false, ◌∷◌, ◌++◌, Ok, Err, refl, ◌∙◌, inl, inr, if◌then◌else◌}
 use Rattle.cql_syntax.specs.declared.token.Token.{Token}
 use Rattle.cql_syntax.specs.Tokens.{Tokens}
-use Rattle.cql_text.specs.Reading.{Parser, next_is, choice}
+use Rattle.cql_syntax.specs.Cursor.{Parser, next_is}
+use Rattle.cql_text.specs.Reading.{choice}
 use Rattle.cql_text.specs.Rules.{Rule}
 use Rattle.cql_text.proofs.Laws.{GoesOnSo, StandsBy, rest_of, with_rest}
 use Rattle.cql_text.specs.Rules as rule

@@ -11,8 +11,9 @@ use Rattle.cql_syntax.specs.declared.syntax.Comparison.TheVariants as o
 use Rattle.cql_syntax.specs.declared.syntax.Condition.{Condition}
 use Rattle.cql_syntax.specs.declared.syntax.Condition.TheVariants as c
 use Rattle.cql_syntax.specs.Tokens.{is, same, sign}
-use Rattle.cql_text.specs.Meaning.{is_word, comparison_of}
-use Rattle.cql_text.specs.Reading.{Parser, expect, token_by}
+use Rattle.cql_syntax.specs.Tokens.{is_word}
+use Rattle.cql_syntax.specs.Operators.{comparison_of}
+use Rattle.cql_syntax.specs.Cursor.{Parser, expect, token_by}
 use Rattle.cql_text.specs.Rules.{Rule}
 use Rattle.cql_text.specs.Rules as rule
 use Rattle.cql_text.specs.Grammar.{IsColumn, IsConstant, IsOperand, IsComparison, IsBothOf, IsEitherOf, IsPlain, IsCondition}

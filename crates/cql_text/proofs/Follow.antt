@@ -3,7 +3,8 @@ use Rattle.std.proofs.Common.{Bool, ◌||◌}
 use Rattle.cql_syntax.specs.declared.token.Fixed.TheVariants as k
 use Rattle.cql_syntax.specs.declared.token.Token.{Token}
 use Rattle.cql_syntax.specs.Tokens.{is, knows, sign}
-use Rattle.cql_text.specs.Meaning.{starts_alias, sum_sign, product_sign, unit_of, set_operator_of}
+use Rattle.cql_syntax.specs.Operators.{sum_sign, product_sign, set_operator_of}
+use Rattle.cql_text.specs.Meaning.{starts_alias, unit_of}
 
 abbrev pub Test : Type 0
 Test = Token → Bool

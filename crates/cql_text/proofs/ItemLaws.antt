@@ -12,12 +12,13 @@ use Rattle.cql_syntax.specs.declared.syntax.Item.{Item}
 use Rattle.cql_syntax.specs.declared.syntax.Selection.{Selection}
 use Rattle.cql_syntax.specs.declared.syntax.Selection.TheVariants as e
 use Rattle.cql_syntax.specs.Tokens.{is, same, sign, joined}
-use Rattle.cql_text.specs.Meaning.{function_of, starts_aggregate}
-use Rattle.cql_text.specs.Reading.{expect, token_by}
+use Rattle.cql_syntax.specs.Operators.{function_of}
+use Rattle.cql_text.specs.Meaning.{starts_aggregate}
+use Rattle.cql_syntax.specs.Cursor.{expect, token_by}
 use Rattle.cql_text.specs.Rules.{Rule}
 use Rattle.cql_text.specs.Rules as rule
 use Rattle.cql_text.specs.Grammar as grammar
-use Rattle.cql_text.specs.Grammar.{IsName, IsColumn, IsExpression, IsCount, IsOver, IsShown, IsItem, IsSelection, most_levels}
+use Rattle.cql_text.specs.Grammar.{IsColumn, IsExpression, IsCount, IsOver, IsShown, IsItem, IsSelection, most_levels}
 use Rattle.cql_text.specs.Readers as read
 use Rattle.cql_syntax.specs.Spelling.{function_word}
 use Rattle.cql_text.proofs.Laws as law

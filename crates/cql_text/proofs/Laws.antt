@@ -5,7 +5,7 @@ use Rattle.cql_syntax.specs.declared.token.Token.{Token}
 use Rattle.cql_syntax.specs.declared.token.Token.TheVariants as t
 use Rattle.cql_syntax.specs.Tokens.{Tokens}
 use Rattle.cql_text.specs.Rules.{Rule}
-use Rattle.cql_text.specs.Reading.{Outcome, Parser}
+use Rattle.cql_syntax.specs.Cursor.{Outcome, Parser}
 
 abbrev pub rest_of : {A : Type 0} → Outcome A → Tokens
 rest_of (Ok p) = p.1

@@ -13,8 +13,11 @@ use Rattle.cql_syntax.specs.declared.syntax.Expression.TheVariants as e
 use Rattle.cql_syntax.specs.declared.syntax.Operation.{Operation}
 use Rattle.cql_syntax.specs.declared.syntax.Operation.TheVariants as o
 use Rattle.cql_syntax.specs.Tokens.{is, same}
-use Rattle.cql_text.specs.Meaning.{name_of, is_word, qualified, constant_of, negative_of, minus, sum_sign, product_sign}
-use Rattle.cql_text.specs.Reading.{Parser, expect, token_by, and_then}
+use Rattle.cql_syntax.specs.Tokens.{is_word}
+use Rattle.cql_syntax.specs.Operators.{sum_sign, product_sign}
+use Rattle.cql_text.specs.Meaning.{name_of, qualified, constant_of, negative_of, minus}
+use Rattle.cql_syntax.specs.Cursor.{Parser, expect, token_by}
+use Rattle.cql_text.specs.Reading.{and_then}
 use Rattle.cql_text.specs.Rules.{Rule}
 use Rattle.cql_text.specs.Rules as rule
 use Rattle.cql_text.specs.Grammar.{IsName, IsColumn, IsConstant, IsAtom, IsTermOf, IsSumOf, IsFactor, IsExpression}

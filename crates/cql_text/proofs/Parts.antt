@@ -5,7 +5,8 @@ use Rattle.cql_syntax.specs.declared.token.Fixed.TheVariants as k
 use Rattle.cql_syntax.specs.declared.token.Token.{Token}
 use Rattle.cql_syntax.specs.declared.token.Token.TheVariants as t
 use Rattle.cql_syntax.specs.Tokens.{Tokens, is, sign, knows, joined}
-use Rattle.cql_text.specs.Reading.{Parser, next_is, at_head, and_then, optional, chain_of, list_of, single}
+use Rattle.cql_syntax.specs.Cursor.{Parser, next_is, at_head}
+use Rattle.cql_text.specs.Reading.{and_then, optional, chain_of, list_of, single}
 use Rattle.cql_text.specs.Rules.{Rule}
 use Rattle.cql_text.specs.Rules as rule
 use Rattle.cql_text.specs.Grammar as grammar

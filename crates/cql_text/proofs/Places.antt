@@ -11,7 +11,7 @@ use Rattle.cql_text.specs.declared.reader.ReadError.TheVariants.{BadQuery, NoMem
 use Rattle.cql_syntax.specs.Tokens.{Tokens, tokens_of}
 use Rattle.cql_syntax.specs.Lex.{Bytes, lexed, lexed_until, cut}
 use Rattle.cql_text.specs.Grammar.{Spells, CanBegin}
-use Rattle.cql_text.specs.Reading.{Outcome}
+use Rattle.cql_syntax.specs.Cursor.{Outcome}
 use Rattle.cql_text.specs.Readers.{query}
 use Rattle.cql_text.specs.Read.{most_bytes, Is, IsStuck, IsTooLong, IsPlace, IsRefusedAt, end_of, place, number_at, number_before, goes_on, with_one, refusal, ended, attempted, attempt, finished, capped, read_tokens, read_of, Answers, Reads}
 use Rattle.cql_text.proofs.Laws.{rest_of}

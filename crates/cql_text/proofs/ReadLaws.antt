@@ -8,7 +8,7 @@ use Rattle.cql_syntax.specs.declared.syntax.Query.{Query}
 use Rattle.cql_syntax.specs.Tokens.{Tokens, tokens_of}
 use Rattle.cql_syntax.specs.Lex.{Bytes, scan, token, is_blank, step, Found}
 use Rattle.cql_text.specs.Grammar.{Spells, CanBegin}
-use Rattle.cql_text.specs.Reading.{Outcome}
+use Rattle.cql_syntax.specs.Cursor.{Outcome}
 use Rattle.cql_text.specs.Readers.{query}
 use Rattle.cql_text.specs.Read.{left_of, goes_on}
 use Rattle.cql_text.proofs.Laws.{rest_of, with_rest}

@@ -7,7 +7,8 @@ use Rattle.cql_syntax.specs.declared.token.Fixed.TheVariants as k
 use Rattle.cql_syntax.specs.declared.token.Token.{Token}
 use Rattle.cql_syntax.specs.declared.token.Token.TheVariants as t
 use Rattle.cql_syntax.specs.Tokens.{Tokens, is, same, sign}
-use Rattle.cql_text.specs.Reading.{Outcome, Parser, next_is, and_then, linked, token_by, expect, sees, eat, after, optional}
+use Rattle.cql_syntax.specs.Cursor.{Outcome, Parser, next_is, linked, token_by, expect, sees, eat, after}
+use Rattle.cql_text.specs.Reading.{and_then, optional}
 use Rattle.cql_text.specs.Rules.{Rule}
 use Rattle.cql_text.specs.Rules as rule
 use Rattle.cql_text.proofs.Laws.{IsPlain, plain-append, IsSound, IsComplete, IsViable, IsFree, Looks, GoesOnSo, StandsBy, rest_of, with_rest}

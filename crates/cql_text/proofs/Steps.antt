@@ -5,9 +5,11 @@ use Rattle.cql_syntax.specs.declared.token.Fixed.{Fixed}
 use Rattle.cql_syntax.specs.declared.token.Fixed.TheVariants as k
 use Rattle.cql_syntax.specs.declared.token.Token.{Token}
 use Rattle.cql_syntax.specs.Tokens.{Tokens, is, sign}
-use Rattle.cql_text.specs.Reading.{Parser, sees, next, next_is, at_head, and_then, linked, chain, choice}
+use Rattle.cql_syntax.specs.Cursor.{Parser, sees, next, next_is, at_head, linked}
+use Rattle.cql_text.specs.Reading.{and_then, chain, choice}
 use Rattle.cql_syntax.specs.Tokens.{knows}
-use Rattle.cql_text.specs.Meaning.{function_of, is_word}
+use Rattle.cql_syntax.specs.Tokens.{is_word}
+use Rattle.cql_syntax.specs.Operators.{function_of}
 use Rattle.cql_text.specs.Readers as read
 
 pub factor_at : (level : ℕ) (ts : Tokens) → read.factor level ts ≡ (if nat_lt 0 level && sees k.Open ts then read.bracket (read.sum (level - 1)) ts else read.atom ts)

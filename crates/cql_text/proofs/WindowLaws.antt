@@ -9,7 +9,8 @@ use Rattle.cql_syntax.specs.declared.syntax.WrittenWindow.{WrittenWindow}
 use Rattle.cql_syntax.specs.declared.syntax.WrittenWindow.TheVariants as w
 use Rattle.cql_syntax.specs.Tokens.{Tokens, is, same, knows}
 use Rattle.cql_text.specs.Meaning.{number_from, unit_of, unit_named, times, ticks_of, or_else}
-use Rattle.cql_text.specs.Reading.{Parser, expect, token_by, optional, next_is, and_then}
+use Rattle.cql_syntax.specs.Cursor.{Parser, expect, token_by, next_is}
+use Rattle.cql_text.specs.Reading.{optional, and_then}
 use Rattle.cql_text.specs.Rules.{Rule}
 use Rattle.cql_text.specs.Rules as rule
 use Rattle.cql_text.specs.Grammar as grammar

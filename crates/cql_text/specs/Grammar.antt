@@ -24,7 +24,8 @@ use Rattle.cql_syntax.specs.declared.syntax.Second.{Second}
 use Rattle.cql_syntax.specs.declared.syntax.StreamOperator.{StreamOperator}
 use Rattle.cql_syntax.specs.declared.syntax.Query.{Query}
 use Rattle.cql_syntax.specs.Tokens.{Tokens, sign, joined}
-use Rattle.cql_text.specs.Meaning.{name_of, qualified, constant_of, negative_of, sum_sign, product_sign, function_of, comparison_of, stream_operator_of, set_operator_of, number_from, ticks_of, or_else, or_unbounded, or_empty, to_list}
+use Rattle.cql_syntax.specs.Operators.{sum_sign, product_sign, function_of, comparison_of, stream_operator_of, set_operator_of}
+use Rattle.cql_text.specs.Meaning.{name_of, qualified, constant_of, negative_of, number_from, ticks_of, or_else, or_unbounded, or_empty, to_list}
 use Rattle.cql_text.specs.Rules.{Rule, ◌>>=◌, ◌>>◌, pure, word, one, optional, may, either, chain}
 
 -- R { "," R }

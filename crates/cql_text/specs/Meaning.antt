@@ -1,26 +1,17 @@
 -- What single tokens mean, and what is made of the parts of a production.
-use Rattle.std.specs.Prelude.{ℕ, zero, suc, ◌*◌, ◌^◌, nat_lt, nat_le, ℤ, pos, negsuc, Bool, true, false, ◌||◌, ◌&&◌, if◌then◌else◌, List, [], ◌∷◌, Option, Some, None, codes}
+use Rattle.std.specs.Prelude.{ℕ, zero, suc, ◌*◌, ◌^◌, nat_lt, nat_le, ℤ, pos, negsuc, Bool, ◌||◌, ◌&&◌, if◌then◌else◌, List, [], ◌∷◌, Option, Some, None, codes}
 use Rattle.std.specs.Str.{str_eq_ignore_ascii_case}
 use Rattle.cql_value.specs.Name.{is_name}
 use Rattle.cql_syntax.specs.declared.token.Fixed.TheVariants as k
 use Rattle.cql_syntax.specs.declared.token.Token.{Token}
 use Rattle.cql_syntax.specs.declared.token.Token.TheVariants as t
-use Rattle.cql_syntax.specs.declared.syntax.StreamOperator.{StreamOperator}
-use Rattle.cql_syntax.specs.declared.syntax.StreamOperator.TheVariants.{Istream, Dstream, Rstream}
-use Rattle.cql_syntax.specs.declared.syntax.SetOperator.{SetOperator}
-use Rattle.cql_syntax.specs.declared.syntax.SetOperator.TheVariants.{UnionAll, ExceptAll}
 use Rattle.cql_syntax.specs.declared.syntax.QualifiedName.{QualifiedName}
 use Rattle.cql_syntax.specs.declared.syntax.Constant.{Constant}
 use Rattle.cql_syntax.specs.declared.syntax.Constant.TheVariants as constant
-use Rattle.cql_syntax.specs.declared.syntax.Operation.{Operation}
-use Rattle.cql_syntax.specs.declared.syntax.Operation.TheVariants.{Add, Subtract, Multiply}
-use Rattle.cql_syntax.specs.declared.syntax.Function.{Function}
-use Rattle.cql_syntax.specs.declared.syntax.Function.TheVariants.{Sum, Min, Max}
-use Rattle.cql_syntax.specs.declared.syntax.Comparison.{Comparison}
-use Rattle.cql_syntax.specs.declared.syntax.Comparison.TheVariants as comparison
 use Rattle.cql_syntax.specs.declared.syntax.WrittenWindow.{WrittenWindow}
 use Rattle.cql_syntax.specs.declared.syntax.WrittenWindow.TheVariants as window
-use Rattle.cql_syntax.specs.Tokens.{is, knows}
+use Rattle.cql_syntax.specs.Tokens.{is, is_word, knows}
+use Rattle.cql_syntax.specs.Operators.{function_of}
 
 -- ---- names
 
@@ -30,13 +21,6 @@ name_of (t.Word s) = if is_name s then Some s else None
 name_of (t.Fixed j) = None
 name_of (t.Number n) = None
 name_of (t.Text s) = None
-
--- a word that isn't reserved, of any length
-abbrev pub is_word : Token → Bool
-is_word (t.Word s) = true
-is_word (t.Fixed j) = false
-is_word (t.Number n) = false
-is_word (t.Text s) = false
 
 abbrev pub starts_alias : Token → Bool
 starts_alias x = is k.As x || is_word x
@@ -64,31 +48,10 @@ negative_of (t.Fixed j) = None
 negative_of (t.Word s) = None
 negative_of (t.Text s) = None
 
--- ---- operators
-
-abbrev pub sum_sign : Token → Option Operation
-sum_sign x = if is k.Plus x then Some Add else (if is k.Minus x then Some Subtract else None)
-
-abbrev pub product_sign : Token → Option Operation
-product_sign x = if is k.Star x then Some Multiply else None
-
-abbrev pub function_of : Token → Option Function
-function_of x = if is k.Sum x then Some Sum else (if is k.Min x then Some Min else (if is k.Max x then Some Max else None))
+-- ---- aggregates
 
 abbrev pub starts_aggregate : Token → Bool
 starts_aggregate x = is k.Count x || knows function_of x
-
-abbrev pub comparison_of : Token → Option Comparison
-comparison_of x =
-    if is k.Equal x then Some comparison.Equal else (if is k.Unequal x then Some comparison.Unequal else (if is k.Less x then Some comparison.Less
-    else (if is k.LessOrEqual x then Some comparison.LessOrEqual else (if is k.Greater x then Some comparison.Greater
-    else (if is k.GreaterOrEqual x then Some comparison.GreaterOrEqual else None)))))
-
-abbrev pub stream_operator_of : Token → Option StreamOperator
-stream_operator_of x = if is k.Istream x then Some Istream else (if is k.Dstream x then Some Dstream else (if is k.Rstream x then Some Rstream else None))
-
-abbrev pub set_operator_of : Token → Option SetOperator
-set_operator_of x = if is k.Union x then Some UnionAll else (if is k.Except x then Some ExceptAll else None)
 
 -- ---- windows
 

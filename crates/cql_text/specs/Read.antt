@@ -10,7 +10,7 @@ use Rattle.cql_text.specs.declared.reader.ReadError.TheVariants.{BadQuery, NoMem
 use Rattle.cql_syntax.specs.Tokens.{Tokens, tokens_of}
 use Rattle.cql_syntax.specs.Lex.{Bytes, lexed, lexed_until}
 use Rattle.cql_text.specs.Grammar.{Spells, CanBegin}
-use Rattle.cql_text.specs.Reading.{Outcome}
+use Rattle.cql_syntax.specs.Cursor.{Outcome}
 use Rattle.cql_text.specs.Readers.{query}
 
 abbrev pub most_bytes : ℕ

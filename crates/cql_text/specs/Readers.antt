@@ -23,9 +23,12 @@ use Rattle.cql_syntax.specs.declared.syntax.SelectBlock.{SelectBlock}
 use Rattle.cql_syntax.specs.declared.syntax.Second.{Second}
 use Rattle.cql_syntax.specs.declared.syntax.Query.{Query}
 use Rattle.cql_syntax.specs.Tokens.{Tokens, is, knows, sign}
-use Rattle.cql_text.specs.Meaning.{name_of, is_word, starts_alias, qualified, constant_of, negative_of, sum_sign, product_sign, function_of, starts_aggregate, comparison_of, stream_operator_of, set_operator_of, number_from, unit_of, ticks_of, or_else, or_unbounded, or_empty, to_list}
+use Rattle.cql_syntax.specs.Tokens.{is_word}
+use Rattle.cql_syntax.specs.Operators.{sum_sign, product_sign, function_of, comparison_of, stream_operator_of, set_operator_of}
+use Rattle.cql_text.specs.Meaning.{name_of, starts_alias, qualified, constant_of, negative_of, starts_aggregate, number_from, unit_of, ticks_of, or_else, or_unbounded, or_empty, to_list}
 use Rattle.cql_text.specs.Grammar.{most_levels, query_of}
-use Rattle.cql_text.specs.Reading.{Parser, next_is, ◌>>=◌, ◌>>◌, pure, expect, eat, token_by, optional, choice, chain_of, list_of}
+use Rattle.cql_syntax.specs.Cursor.{Parser, next_is, expect, eat, token_by}
+use Rattle.cql_text.specs.Reading.{◌>>=◌, ◌>>◌, pure, optional, choice, chain_of, list_of}
 
 unfoldable pub name : Parser (List ℕ)
 name = token_by name_of

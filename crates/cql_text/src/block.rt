@@ -1,13 +1,13 @@
 // Reads blocks.
 ghost use Rattle.std.specs.Prelude.{◌≡◌, ◌≤◌, ◌++◌, ◌∷◌, [], length, IfOk};
-ghost use Rattle.cql_text.specs.Reading.{Reads, and_then};
+ghost use Rattle.cql_syntax.specs.Cursor.{Reads};
 ghost use Rattle.cql_text.specs.Readers as spec;
 
 use crate::condition::condition;
 use crate::constant::{column, name};
-use crate::cursor::{Cursor, Stop};
 use crate::item::{MOST_LEVELS, selection};
 use crate::window::in_squares;
+use cql_syntax::cursor::{Cursor, Stop};
 use cql_syntax::syntax::{Condition, Input, QualifiedName, SelectBlock, Selection, WrittenWindow};
 use cql_syntax::token::Fixed;
 use cql_value::{Items, Name};

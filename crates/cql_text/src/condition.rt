@@ -1,13 +1,14 @@
 // Reads conditions.
 ghost use Rattle.std.specs.Prelude.{◌≡◌, ◌≤◌, length, IfOk};
 ghost use Rattle.cql_syntax.specs.Tokens.{sign};
-ghost use Rattle.cql_text.specs.Meaning as meaning;
-ghost use Rattle.cql_text.specs.Reading.{Reads, chain, token_by};
+ghost use Rattle.cql_syntax.specs.Operators as operators;
+ghost use Rattle.cql_syntax.specs.Cursor.{Reads, token_by};
+ghost use Rattle.cql_text.specs.Reading.{chain};
 ghost use Rattle.cql_text.specs.Readers as spec;
 ghost use Rattle.cql_syntax.specs.declared.token.Fixed.TheVariants as k;
 
 use crate::constant::{column, constant};
-use crate::cursor::{Cursor, Stop};
+use cql_syntax::cursor::{Cursor, Stop};
 use cql_syntax::syntax::{Comparison, Condition, Operand};
 use cql_syntax::token::Fixed;
 use cql_value::Boxed;
@@ -24,9 +25,9 @@ fn operand(alloc: Global, cursor: &mut Cursor<'_>) -> Result<Operand, Stop>
     }
 }
 
-#[tactic(auto, unfolding(crate::specs::Reading::token_by))]
+#[tactic(auto, unfolding(cql_syntax::specs::Cursor::token_by))]
 fn comparison_sign(cursor: &mut Cursor<'_>) -> Result<Comparison, Stop>
-    ensures { Reads (token_by meaning.comparison_of cursor.old) result cursor.new }
+    ensures { Reads (token_by operators.comparison_of cursor.old) result cursor.new }
 {
     match cursor.comparison() {
         Some(how) => {

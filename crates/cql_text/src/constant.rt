@@ -1,16 +1,16 @@
 // Reads names and constants.
 ghost use Rattle.std.specs.Prelude.{◌≡◌, ◌≤◌, ◌^◌};
 ghost use Rattle.cql_text.specs.Meaning as meaning;
-ghost use Rattle.cql_text.specs.Reading.{Reads, token_by};
+ghost use Rattle.cql_syntax.specs.Cursor.{Reads, token_by};
 ghost use Rattle.cql_text.specs.Readers as spec;
 
-use crate::cursor::{Cursor, Stop};
+use cql_syntax::cursor::{Cursor, Stop};
 use cql_syntax::syntax::{Constant, QualifiedName};
 use cql_syntax::token::{Fixed, Token};
 use cql_value::{Name, NameError, Text};
 use std::alloc::Global;
 
-#[tactic(auto, unfolding(crate::specs::Reading::token_by, crate::specs::Readers::name))]
+#[tactic(auto, unfolding(cql_syntax::specs::Cursor::token_by, crate::specs::Readers::name))]
 pub(crate) fn name(alloc: Global, cursor: &mut Cursor<'_>) -> Result<Name, Stop>
     ensures { Reads (spec.name cursor.old) result cursor.new }
 {
@@ -73,7 +73,7 @@ fn minus(n: u64) -> i64
 const LARGEST: u64 = 0x7fff_ffff_ffff_ffff;
 
 // The number behind a constant's own `-`.
-#[tactic(auto, unfolding(crate::specs::Reading::token_by))]
+#[tactic(auto, unfolding(cql_syntax::specs::Cursor::token_by))]
 fn negative(cursor: &mut Cursor<'_>) -> Result<Constant, Stop>
     ensures { Reads (token_by meaning.negative_of cursor.old) result cursor.new }
 {
@@ -87,7 +87,7 @@ fn negative(cursor: &mut Cursor<'_>) -> Result<Constant, Stop>
     }
 }
 
-#[tactic(auto, unfolding(crate::specs::Reading::token_by))]
+#[tactic(auto, unfolding(cql_syntax::specs::Cursor::token_by))]
 fn unsigned(alloc: Global, cursor: &mut Cursor<'_>) -> Result<Constant, Stop>
     ensures { Reads (token_by meaning.constant_of cursor.old) result cursor.new }
 {

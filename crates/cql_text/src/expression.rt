@@ -1,11 +1,12 @@
 // Reads expressions.
 ghost use Rattle.std.specs.Prelude.{◌≡◌, ◌≤◌, length, IfOk};
-ghost use Rattle.cql_text.specs.Meaning.{product_sign, sum_sign};
-ghost use Rattle.cql_text.specs.Reading.{Reads, chain};
+ghost use Rattle.cql_syntax.specs.Operators.{product_sign, sum_sign};
+ghost use Rattle.cql_syntax.specs.Cursor.{Reads};
+ghost use Rattle.cql_text.specs.Reading.{chain};
 ghost use Rattle.cql_text.specs.Readers as spec;
 
 use crate::constant::{column, constant};
-use crate::cursor::{Cursor, Stop};
+use cql_syntax::cursor::{Cursor, Stop};
 use cql_syntax::syntax::{Expression, Operation};
 use cql_syntax::token::Fixed;
 use cql_value::Boxed;

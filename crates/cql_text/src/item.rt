@@ -1,12 +1,12 @@
 // Reads items.
 ghost use Rattle.std.specs.Prelude.{◌≡◌, ◌≤◌, length};
-ghost use Rattle.cql_text.specs.Meaning as meaning;
-ghost use Rattle.cql_text.specs.Reading.{Reads, token_by};
+ghost use Rattle.cql_syntax.specs.Operators as operators;
+ghost use Rattle.cql_syntax.specs.Cursor.{Reads, token_by};
 ghost use Rattle.cql_text.specs.Readers as spec;
 
 use crate::constant::{column, name_after};
-use crate::cursor::{Cursor, Stop};
 use crate::expression::sum;
+use cql_syntax::cursor::{Cursor, Stop};
 use cql_syntax::syntax::{Aggregate, Function, Item, Selection, Shown};
 use cql_syntax::token::Fixed;
 use cql_value::Items;
@@ -26,9 +26,9 @@ fn count(cursor: &mut Cursor<'_>) -> Result<Aggregate, Stop>
     Ok(Aggregate::Count)
 }
 
-#[tactic(auto, unfolding(crate::specs::Reading::token_by))]
+#[tactic(auto, unfolding(cql_syntax::specs::Cursor::token_by))]
 fn function(cursor: &mut Cursor<'_>) -> Result<Function, Stop>
-    ensures { Reads (token_by meaning.function_of cursor.old) result cursor.new }
+    ensures { Reads (token_by operators.function_of cursor.old) result cursor.new }
 {
     match cursor.function() {
         Some(function) => {

@@ -4,7 +4,6 @@
 mod block;
 mod condition;
 mod constant;
-mod cursor;
 mod expression;
 mod item;
 mod query;

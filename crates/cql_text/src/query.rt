@@ -1,19 +1,19 @@
 // Reads queries.
 ghost use Rattle.std.specs.Prelude.{◌≡◌};
-ghost use Rattle.cql_text.specs.Meaning as meaning;
-ghost use Rattle.cql_text.specs.Reading.{Reads, token_by};
+ghost use Rattle.cql_syntax.specs.Operators as operators;
+ghost use Rattle.cql_syntax.specs.Cursor.{Reads, token_by};
 ghost use Rattle.cql_text.specs.Readers as spec;
 
 use crate::block::{block, rest, selected};
-use crate::cursor::{Cursor, Stop};
 use crate::item::selection;
+use cql_syntax::cursor::{Cursor, Stop};
 use cql_syntax::syntax::{Query, Second, SetOperator, StreamOperator};
 use cql_syntax::token::Fixed;
 use std::alloc::Global;
 
-#[tactic(auto, unfolding(crate::specs::Reading::token_by))]
+#[tactic(auto, unfolding(cql_syntax::specs::Cursor::token_by))]
 fn set_operator(cursor: &mut Cursor<'_>) -> Result<SetOperator, Stop>
-    ensures { Reads (token_by meaning.set_operator_of cursor.old) result cursor.new }
+    ensures { Reads (token_by operators.set_operator_of cursor.old) result cursor.new }
 {
     match cursor.set_operator() {
         Some(operator) => {
@@ -24,9 +24,9 @@ fn set_operator(cursor: &mut Cursor<'_>) -> Result<SetOperator, Stop>
     }
 }
 
-#[tactic(auto, unfolding(crate::specs::Reading::token_by))]
+#[tactic(auto, unfolding(cql_syntax::specs::Cursor::token_by))]
 fn stream_operator(cursor: &mut Cursor<'_>) -> Result<StreamOperator, Stop>
-    ensures { Reads (token_by meaning.stream_operator_of cursor.old) result cursor.new }
+    ensures { Reads (token_by operators.stream_operator_of cursor.old) result cursor.new }
 {
     match cursor.stream_operator() {
         Some(operator) => {

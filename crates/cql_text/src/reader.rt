@@ -7,8 +7,8 @@ ghost use Rattle.cql_syntax.specs.Tokens.{tokens_of};
 ghost use Rattle.cql_text.specs.Read as spec;
 ghost use Rattle.cql_text.specs.Read.{Answers, Reads};
 
-use crate::cursor::{Cursor, Stop};
 use crate::query::query;
+use cql_syntax::cursor::{Cursor, Stop};
 use cql_syntax::syntax::Query;
 use cql_syntax::token::{Lexeme, Token};
 use cql_syntax::{Scanned, lexed, text_of};

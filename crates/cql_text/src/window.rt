@@ -1,12 +1,13 @@
 // Reads windows.
 ghost use Rattle.std.specs.Prelude.{◌≡◌, ◌≢◌, ◌≤◌, IfSome};
 ghost use Rattle.cql_text.specs.Meaning as meaning;
-ghost use Rattle.cql_text.specs.Reading.{Reads, token_by, at_head, optional};
+ghost use Rattle.cql_syntax.specs.Cursor.{Reads, token_by, at_head};
+ghost use Rattle.cql_text.specs.Reading.{optional};
 ghost use Rattle.cql_syntax.specs.Tokens.{knows};
 ghost use Rattle.cql_text.specs.Readers as spec;
 
 use crate::constant::name;
-use crate::cursor::{Cursor, Stop};
+use cql_syntax::cursor::{Cursor, Stop};
 use cql_syntax::syntax::WrittenWindow;
 use cql_syntax::token::{Fixed, Token};
 use cql_value::name::is_name;
@@ -16,7 +17,7 @@ use std::alloc::Global;
 const LONGEST: u64 = 0x3fff_ffff_ffff_ffff;
 
 // A number from the least to the longest length.
-#[tactic(auto, unfolding(crate::specs::Reading::token_by))]
+#[tactic(auto, unfolding(cql_syntax::specs::Cursor::token_by))]
 fn number(cursor: &mut Cursor<'_>, least: u64) -> Result<u64, Stop>
     ensures { Reads (token_by (meaning.number_from least) cursor.old) result cursor.new }
 {
@@ -69,7 +70,7 @@ fn unit(cursor: &Cursor<'_>) -> Option<u64>
 }
 
 // So many of the unit that comes next, in ticks, where one comes next.
-#[tactic(auto, using(crate::proofs::Steps::known_next), unfolding(crate::specs::Reading::optional, crate::specs::Reading::token_by))]
+#[tactic(auto, using(crate::proofs::Steps::known_next), unfolding(crate::specs::Reading::optional, cql_syntax::specs::Cursor::token_by))]
 fn unit_if_any(cursor: &mut Cursor<'_>, n: u64) -> Result<Option<u64>, Stop>
     ensures { Reads (optional (knows meaning.unit_of) (token_by (meaning.ticks_of n)) cursor.old) result cursor.new }
 {

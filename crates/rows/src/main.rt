@@ -6,8 +6,8 @@ ghost use Rattle.cql_ops.specs.Bench.{IsBench};
 
 use cql_groups::GroupShape;
 use cql_joins::KeyedJoin;
-use cql_ops::{BenchOf, Operator};
-use cql_plain::{PlainJoin, PlainShape, mixed_bench, plain_bench};
+use cql_ops::{BenchOf, Operator, mixed_bench};
+use cql_plain::{PlainJoin, PlainShape, plain_bench};
 use cql_wire::{Watched, program};
 use std::alloc::{AllocError, Global};
 use std::process::ExitCode;

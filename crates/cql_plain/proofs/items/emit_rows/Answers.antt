@@ -1,7 +1,7 @@
 use Rattle.std.proofs.Common.{◌≡◌, inr, refl, sym, ◌∙◌, subst, arith}
 use Rattle.cql_algebra.specs.Shape.{items_on}
 use Rattle.cql_ops.specs.Linear.{how_many, lacks}
-use Rattle.cql_plain.specs.Passed.{logged_bag, told_image}
+use Rattle.cql_plain.specs.Logs.{logged_bag, told_image}
 use Rattle.cql_plain.specs.Shaped.{TellsShape}
 use Rattle.cql_plain.proofs.Shaped.{rows_fail, rows_told}
 use Rattle.cql_plain.proofs.items.emit_rows.Goals as goal

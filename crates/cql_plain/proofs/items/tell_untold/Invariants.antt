@@ -1,7 +1,7 @@
 use Rattle.std.proofs.Common.{◌≡◌, ◌≤◌, ◌++◌, take}
 use Rattle.cql_algebra.specs.Shape.{items_on}
 use Rattle.cql_ops.specs.Linear.{turned_changes, how_many, lacks}
-use Rattle.cql_plain.specs.Passed.{logged_bag}
+use Rattle.cql_plain.specs.Logs.{logged_bag}
 use Rattle.cql_plain.specs.Made.{AreMade}
 use Rattle.cql_plain.proofs.Lacking.{log_to}
 use Rattle.cql_plain.proofs.items.tell_untold.Given as goal

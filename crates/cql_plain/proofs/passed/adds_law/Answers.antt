@@ -1,4 +1,4 @@
-use Rattle.cql_plain.proofs.Passed.{adds_law}
+use Rattle.cql_plain.proofs.Logs.{adds_law}
 use Rattle.cql_plain.proofs.passed.adds_law.Goals as goal
 
 pub returns : goal.returns

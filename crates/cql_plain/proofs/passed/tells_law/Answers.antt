@@ -1,4 +1,4 @@
-use Rattle.cql_plain.proofs.Passed.{tells_law}
+use Rattle.cql_plain.proofs.Logs.{tells_law}
 use Rattle.cql_plain.proofs.passed.tells_law.Goals as goal
 
 pub returns : goal.returns

@@ -1,5 +1,5 @@
 use Rattle.std.proofs.Common.{◌≡◌, length, ◌+◌, ◌-◌, ◌*◌}
-use Rattle.cql_text.specs.Meaning.{sum_sign, product_sign}
+use Rattle.cql_syntax.specs.Operators.{sum_sign, product_sign}
 use Rattle.cql_text.specs.Reading.{chain}
 use Rattle.cql_text.specs.Readers as spec
 use Rattle.cql_syntax.specs.declared.syntax.Expression.TheVariants.{Binary}

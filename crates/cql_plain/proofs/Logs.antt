@@ -5,7 +5,7 @@ use Rattle.cql_bag.specs.Law.{IsSameCountsLaw, IsPutAllLaw, IsTakeLaw}
 use Rattle.cql_bag.specs.Changes.{changed, changed_by, CanChangeBy}
 use Rattle.cql_bag.specs.declared.change.Change.{Change}
 use Rattle.cql_ops.specs.Linear.{turned_changes, image, how_many}
-use Rattle.cql_plain.specs.Passed.{logged_bag, logged, told_all, told_image, IsTellsLaw, IsAddsLaw}
+use Rattle.cql_plain.specs.Logs.{logged_bag, logged, told_all, told_image, IsTellsLaw, IsAddsLaw}
 use Rattle.cql_ops.proofs.Linear.{IsBag-changed_by, many_changed, size_image, turned-append, image_changed_by, changed_by-append, can_join}
 
 can_split : (xs ys : List Change) (b : Counts) → CanChangeBy (xs ++ ys) b → CanChangeBy xs b × CanChangeBy ys (changed_by xs b)

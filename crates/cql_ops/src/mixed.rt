@@ -2,13 +2,14 @@
 ghost use Rattle.std.specs.Prelude.{◌≡◌};
 ghost use Rattle.cql_plan.specs.declared.node.OperatorKind.TheVariants.{Join as join_kind, Shape as shape_kind};
 ghost use Rattle.cql_ops.specs.Bench.{IsBench};
-ghost use Rattle.cql_plain.specs.Mixed.{seen_of, plain_seen};
+ghost use Rattle.cql_ops.specs.Mixed.{seen_of};
 
-use crate::plain_join::PlainJoin;
-use crate::plain_shape::PlainShape;
+use crate::bench::{BenchOf, BlockOf};
+use crate::distinct::DistinctOp;
+use crate::error::OpError;
+use crate::operator::Operator;
+use crate::set_operation::SetOperation;
 use cql_bag::Change;
-use cql_ops::bench::BlockOf;
-use cql_ops::{BenchOf, DistinctOp, OpError, Operator, SetOperation};
 use cql_plan::{Node, OperatorKind};
 use std::alloc::Global;
 
@@ -96,18 +97,4 @@ pub fn mixed_bench<J: Operator, S: Operator>(
         },
         set_op: Mixed::SetOp(SetOperation::new(alloc)),
     }
-}
-
-/// One of the plain operators.
-pub type Plain = Mixed<PlainJoin, PlainShape>;
-
-/// A bench of the plain operators. Takes no memory.
-pub fn plain_bench(alloc: Global) -> BenchOf<Plain>
-    ensures { IsBench plain_seen result }
-{
-    mixed_bench(
-        alloc,
-        (PlainJoin::new(alloc), PlainJoin::new(alloc)),
-        (PlainShape::new(alloc), PlainShape::new(alloc)),
-    )
 }

@@ -2,13 +2,12 @@
 ghost use Rattle.std.specs.Prelude.{◌≡◌, ◌≢◌, ◌<◌, ◌≤◌, length, slice_get, map};
 ghost use Rattle.std.specs.Option.{option_copied};
 ghost use Rattle.cql_syntax.specs.Tokens as tokens;
-ghost use Rattle.cql_text.specs.Meaning as meaning;
-ghost use Rattle.cql_text.specs.Reading as spec;
-ghost use Rattle.cql_text.specs.Reading.{Reads};
+ghost use Rattle.cql_syntax.specs.Operators as operators;
+ghost use Rattle.cql_syntax.specs.Cursor as spec;
+ghost use Rattle.cql_syntax.specs.Cursor.{Reads};
 
-use cql_syntax::is_same;
-use cql_syntax::syntax::{Comparison, Function, Operation, SetOperator, StreamOperator};
-use cql_syntax::token::{Fixed, Lexeme, Token};
+use crate::syntax::{Comparison, Function, Operation, SetOperator, StreamOperator};
+use crate::token::{Fixed, Lexeme, Token, is_same};
 use std::alloc::AllocError;
 use std::marker::Model;
 
@@ -22,7 +21,7 @@ pub enum Stop {
 
 impl From<AllocError> for Stop {
     ghost use Rattle.std.specs.Prelude.{◌≡◌};
-    ghost use Rattle.cql_text.specs.declared.cursor.Stop.TheVariants.{Memory};
+    ghost use Rattle.cql_syntax.specs.declared.cursor.Stop.TheVariants.{Memory};
 
     ghost from_gives = { λ _ e. e ≡ Memory };
 
@@ -48,21 +47,21 @@ impl<'a> Model for Cursor<'a> {
 }
 
 impl<'a> Cursor<'a> {
-    pub(crate) fn new(rest: &'a [Lexeme]) -> Cursor<'a>
+    pub fn new(rest: &'a [Lexeme]) -> Cursor<'a>
         ensures { result ≡ tokens.tokens_of rest.now }
     {
         Cursor { rest }
     }
 
     /// How many tokens are left.
-    pub(crate) fn left(&self) -> usize
+    pub fn left(&self) -> usize
         ensures { result ≡ length self.now }
     {
         self.rest.len()
     }
 
     /// Whether the word or sign comes next.
-    pub(crate) fn sees(&self, fixed: Fixed) -> bool
+    pub fn sees(&self, fixed: Fixed) -> bool
         ensures { result ≡ spec.sees fixed self.now }
     {
         match self.rest {
@@ -78,8 +77,8 @@ impl<'a> Cursor<'a> {
     }
 
     /// Whether a word that isn't reserved comes next.
-    pub(crate) fn sees_word(&self) -> bool
-        ensures { result ≡ spec.next_is meaning.is_word self.now }
+    pub fn sees_word(&self) -> bool
+        ensures { result ≡ spec.next_is tokens.is_word self.now }
     {
         matches!(
             self.rest,
@@ -93,7 +92,7 @@ impl<'a> Cursor<'a> {
         )
     }
 
-    pub(crate) fn skip(&mut self)
+    pub fn skip(&mut self)
         ensures { self.new ≡ spec.next self.old }
     {
         if let [_, rest @ ..] = self.rest {
@@ -102,8 +101,8 @@ impl<'a> Cursor<'a> {
     }
 
     /// Passes the word or sign, where it comes next, and says whether it did.
-    #[tactic(auto, unfolding(crate::specs::Reading::after))]
-    pub(crate) fn eat(&mut self, fixed: Fixed) -> bool
+    #[tactic(auto, unfolding(crate::specs::Cursor::after))]
+    pub fn eat(&mut self, fixed: Fixed) -> bool
         ensures found { result ≡ spec.sees fixed self.old }
         ensures after { self.new ≡ spec.after fixed self.old }
     {
@@ -115,8 +114,8 @@ impl<'a> Cursor<'a> {
     }
 
     /// Passes the word or sign, which has to come next.
-    #[tactic(auto, unfolding(crate::specs::Reading::token_by, cql_syntax::specs::Tokens::sign))]
-    pub(crate) fn expect(&mut self, fixed: Fixed) -> Result<(), Stop>
+    #[tactic(auto, unfolding(crate::specs::Cursor::token_by, crate::specs::Tokens::sign))]
+    pub fn expect(&mut self, fixed: Fixed) -> Result<(), Stop>
         ensures { Reads (spec.expect fixed self.old) result self.new }
     {
         if self.sees(fixed) {
@@ -128,7 +127,7 @@ impl<'a> Cursor<'a> {
     }
 
     /// The token that comes next, where there is one.
-    pub(crate) fn peek(&self) -> Option<&'a Token>
+    pub fn peek(&self) -> Option<&'a Token>
         ensures { option_copied result ≡ slice_get self.now 0 }
     {
         match self.rest {
@@ -138,8 +137,8 @@ impl<'a> Cursor<'a> {
     }
 
     /// The sign of a sum that comes next.
-    pub(crate) fn sum_sign(&self) -> Option<Operation>
-        ensures { result ≡ spec.at_head meaning.sum_sign self.now }
+    pub fn sum_sign(&self) -> Option<Operation>
+        ensures { result ≡ spec.at_head operators.sum_sign self.now }
     {
         if self.sees(Fixed::Plus) {
             Some(Operation::Add)
@@ -151,8 +150,8 @@ impl<'a> Cursor<'a> {
     }
 
     /// The sign of a product that comes next.
-    pub(crate) fn product_sign(&self) -> Option<Operation>
-        ensures { result ≡ spec.at_head meaning.product_sign self.now }
+    pub fn product_sign(&self) -> Option<Operation>
+        ensures { result ≡ spec.at_head operators.product_sign self.now }
     {
         if self.sees(Fixed::Star) {
             Some(Operation::Multiply)
@@ -162,8 +161,8 @@ impl<'a> Cursor<'a> {
     }
 
     /// The function that comes next.
-    pub(crate) fn function(&self) -> Option<Function>
-        ensures { result ≡ spec.at_head meaning.function_of self.now }
+    pub fn function(&self) -> Option<Function>
+        ensures { result ≡ spec.at_head operators.function_of self.now }
     {
         if self.sees(Fixed::Sum) {
             Some(Function::Sum)
@@ -177,8 +176,8 @@ impl<'a> Cursor<'a> {
     }
 
     /// The sign of a comparison that comes next.
-    pub(crate) fn comparison(&self) -> Option<Comparison>
-        ensures { result ≡ spec.at_head meaning.comparison_of self.now }
+    pub fn comparison(&self) -> Option<Comparison>
+        ensures { result ≡ spec.at_head operators.comparison_of self.now }
     {
         if self.sees(Fixed::Equal) {
             Some(Comparison::Equal)
@@ -198,8 +197,8 @@ impl<'a> Cursor<'a> {
     }
 
     /// The stream operator that comes next.
-    pub(crate) fn stream_operator(&self) -> Option<StreamOperator>
-        ensures { result ≡ spec.at_head meaning.stream_operator_of self.now }
+    pub fn stream_operator(&self) -> Option<StreamOperator>
+        ensures { result ≡ spec.at_head operators.stream_operator_of self.now }
     {
         if self.sees(Fixed::Istream) {
             Some(StreamOperator::Istream)
@@ -213,8 +212,8 @@ impl<'a> Cursor<'a> {
     }
 
     /// The first word of a set operator that comes next.
-    pub(crate) fn set_operator(&self) -> Option<SetOperator>
-        ensures { result ≡ spec.at_head meaning.set_operator_of self.now }
+    pub fn set_operator(&self) -> Option<SetOperator>
+        ensures { result ≡ spec.at_head operators.set_operator_of self.now }
     {
         if self.sees(Fixed::Union) {
             Some(SetOperator::UnionAll)

@@ -1,5 +1,5 @@
 -- How many columns a schema has.
-use Rattle.std.proofs.Common.{◌≡◌, ◌≤◌, Bool, true, false, ◌&&◌, List, length, refl, arith}
+use Rattle.std.proofs.Common.{◌≡◌, ◌≤◌, true, ◌&&◌, List, length, arith}
 use Rattle.std.specs.Prelude.{nat_le}
 use Rattle.std.proofs.lemmas.Bool.Decides.{nat_tests}
 use Rattle.std.proofs.lemmas.Bool.{and_parts}

@@ -1,5 +1,5 @@
-//! The syntax of the continuous query language: tokens, what a query text says, and its canonical
-//! spelling.
+//! The syntax of the continuous query language: tokens and a cursor over them, what a query text
+//! says, and its canonical spelling.
 #![tactic(auto)]
 
 pub mod cursor;

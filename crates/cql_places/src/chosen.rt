@@ -6,7 +6,7 @@ ghost use Rattle.cql_value.specs.Schema.{is_schema};
 ghost use Rattle.cql_places.specs.Places.{at_places};
 ghost use Rattle.cql_places.specs.Chosen.{column_place, are_unlike, is_choice, is_shown, shown_places};
 
-use crate::copies::push_copy;
+use crate::copies::copies_at;
 use crate::places::all_places;
 use cql_value::{Column, Items, Schema, Text};
 use sqlite_items::at;
@@ -96,27 +96,12 @@ pub fn shown_places(
     }
 }
 
-// Copies of the columns at the places.
-fn columns_at(
-    alloc: Global,
-    columns: &[Column],
-    places: &[usize],
-) -> Result<Vec<Column>, AllocError>
-    ensures { IfOk result (λ copies. copies.items ≡ at_places columns.now places.now) }
-{
-    let mut copies = Vec::new(alloc);
-    for place in places {
-        push_copy(alloc, &mut copies, at(columns, *place))?;
-    }
-    Ok(copies)
-}
-
 /// The schema of the columns at the places.
 pub fn schema_at(alloc: Global, schema: &Schema, places: &[usize]) -> Result<Schema, AllocError>
     requires { is_schema (at_places schema.now places.now) ≡ true }
     ensures { IfOk result (λ shown. shown ≡ at_places schema.now places.now) }
 {
-    let columns = columns_at(alloc, schema.columns(), places)?;
+    let columns = copies_at(alloc, schema.columns(), places)?;
     let shown = Schema::new(columns);
     Ok(shown.unwrap())
 }

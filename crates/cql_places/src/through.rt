@@ -4,23 +4,12 @@ ghost use Rattle.std.specs.List.{cons_option};
 ghost use Rattle.cql_places.specs.Places.{at_places};
 ghost use Rattle.cql_places.specs.Windows.{narrowed, wide_window};
 
-use crate::copies::push_copy;
+use crate::copies::copies_at;
 use crate::places::are_all;
-use cql_value::{Items, Row, Timed, Value};
+use cql_value::{Items, Row, Timed};
 use cql_window::Window;
 use sqlite_items::at;
 use std::alloc::{AllocError, Global};
-
-// Copies of the values at the places.
-fn values_at(alloc: Global, values: &[Value], places: &[usize]) -> Result<Vec<Value>, AllocError>
-    ensures { IfOk result (λ copies. copies.items ≡ at_places values.now places.now) }
-{
-    let mut copies = Vec::with_capacity(alloc, places.len())?;
-    for place in places {
-        push_copy(alloc, &mut copies, at(values, *place))?;
-    }
-    Ok(copies)
-}
 
 /// The row of the values at the places. Where these are all of the row, it is the same row with
 /// one more holder, and nothing is copied.
@@ -30,7 +19,7 @@ pub fn row_at(alloc: Global, row: &Row, places: &[usize]) -> Result<Row, AllocEr
     if are_all(places, row.len()) {
         return row.share();
     }
-    let values = values_at(alloc, row.values(), places)?;
+    let values = copies_at(alloc, row.values(), places)?;
     Row::new(alloc, values)
 }
 

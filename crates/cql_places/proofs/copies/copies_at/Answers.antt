@@ -1,9 +1,9 @@
 use Rattle.std.proofs.Common.{[], ◌++◌, ◌∙◌, sym}
 use Rattle.std.specs.List.{cons_option}
 use Rattle.cql_places.proofs.Picks.{at_more}
-use Rattle.cql_places.proofs.chosen.columns_at.Goals as goal
+use Rattle.cql_places.proofs.copies.copies_at.Goals as goal
 
 pub loop-place-preserved : goal.loop-place-preserved
-loop-place-preserved c =
+loop-place-preserved g c =
     c.in_ok-push_copy.ensures ∙ (λ k. c.loop-place.invariant k ++ cons_option (c.at.ensures k) [])
-    ∙ sym (at_more c.args.columns.now c.args.places.now c.loop-place.place-index c.loop-place-test.true)
+    ∙ sym (at_more c.args.values.now c.args.places.now c.loop-place.place-index c.loop-place-test.true)

@@ -47,6 +47,7 @@ impl<'a> Model for Cursor<'a> {
 }
 
 impl<'a> Cursor<'a> {
+    /// A cursor at the first of these tokens.
     pub fn new(rest: &'a [Lexeme]) -> Cursor<'a>
         ensures { result ≡ tokens.tokens_of rest.now }
     {
@@ -92,6 +93,7 @@ impl<'a> Cursor<'a> {
         )
     }
 
+    /// Passes the next token, if there is one.
     pub fn skip(&mut self)
         ensures { self.new ≡ spec.next self.old }
     {

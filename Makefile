@@ -5,7 +5,7 @@ FIRST := examples/first.jsonl
 # from nothing, on four cores
 RUN_TIME := one to three minutes
 BUILD_TIME := a quarter of an hour or more
-TEST_TIME := some 70 minutes on four cores, 15,400 s of processor time
+TEST_TIME := half an hour to 70 minutes on four cores, 5,200 to 15,400 s of processor time
 
 .PHONY: help run build test bench
 

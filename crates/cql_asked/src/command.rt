@@ -3,7 +3,7 @@ ghost use Rattle.std.specs.Prelude.{◌≡◌, map, Some, ok_or, codes};
 ghost use Rattle.serde_json.specs.View.{view, items_view};
 ghost use Rattle.serde_json.specs.Find.{as_str};
 ghost use Rattle.cql_asked.specs.Tree.{text_at, optional_text, all_of};
-ghost use Rattle.cql_asked.specs.Command.{word_of, keys_of, value_of, row_of, column_of, columns_of, stream_of, named_columns_of, grant_of, revoke_of, put_of, beat_of, query_of, fetch_of, ack_of, drop_of, of_word, addressed_of, of_keys, of_object, of_data, command_of};
+ghost use Rattle.cql_asked.specs.Command.{word_of, keys_of, value_of, column_of, stream_of, named_columns_of, grant_of, revoke_of, put_of, beat_of, query_of, fetch_of, ack_of, drop_of, of_word, of_keys, of_data, command_of};
 ghost use Rattle.cql_asked.specs.Fault.{Means};
 
 use crate::fault::LineFault;

@@ -1,9 +1,8 @@
 //! The table of tenants that a line gives.
-ghost use Rattle.std.specs.Prelude.{◌≡◌, map, if◌then◌else◌, Some, None, IfOk, Ok, Err};
+ghost use Rattle.std.specs.Prelude.{◌≡◌, Some, None, IfOk, Err};
 ghost use Rattle.serde_json.specs.View.{view, items_view};
-ghost use Rattle.cql_tenants.specs.Tenants.{is_table};
 ghost use Rattle.cql_asked.specs.Tree.{all_of};
-ghost use Rattle.cql_asked.specs.Table.{quotas_of, name_of, tenant_of, tenants_of, table_of, Gives};
+ghost use Rattle.cql_asked.specs.Table.{quotas_of, name_of, tenant_of, table_of, Gives};
 
 use crate::tree::{array_at, has_only, read_tree, text_at, whole_at};
 use cql_tenants::{BadTenants, Quotas, Tenant, TenantTable};

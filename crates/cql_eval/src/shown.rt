@@ -1,5 +1,5 @@
 // What is shown of a pin.
-ghost use Rattle.std.specs.Prelude.{◌≡◌, ◌≢◌, ◌≤◌, ◌<◌, ℕ, [], IfOk, OnOk};
+ghost use Rattle.std.specs.Prelude.{◌≡◌, ◌≢◌, ◌≤◌, ◌<◌, ℕ, IfOk};
 ghost use Rattle.std.specs.List.Sorted.{IsSorted};
 ghost use Rattle.cql_value.specs.Order.{row_cmp};
 ghost use Rattle.cql_bag.specs.Bag.{Counts, IsBag, bag_of};

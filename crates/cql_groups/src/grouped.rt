@@ -1,11 +1,9 @@
 // The groups of a shape, each with what its row needs.
-ghost use Rattle.std.specs.Prelude.{◌≡◌, ◌<◌, ◌≤◌, ◌^◌, ◌⊎◌, ◌++◌, [], ◌∷◌, None, Some, map, true, false, if◌then◌else◌, IfOk, IfErr, OnOk, OnErr};
+ghost use Rattle.std.specs.Prelude.{◌≡◌, ◌<◌, ◌≤◌, ◌^◌, ◌⊎◌, ◌++◌, [], ◌∷◌, Some, true, false, if◌then◌else◌, IfOk, IfErr, OnOk, OnErr};
 ghost use Rattle.cql_bag.specs.Changes.{changed, changed_by, change_of, CanChange, Grows};
 ghost use Rattle.std.specs.BTreeMap.{insert_entry, Updates};
 ghost use Rattle.cql_value.specs.Order.{row_cmp};
 ghost use Rattle.cql_value.specs.Schema.{HasTypes};
-ghost use Rattle.cql_algebra.specs.Shape.{shape_value};
-ghost use Rattle.cql_groups.specs.Cells.{IsKeyed, cell_of};
 ghost use Rattle.cql_groups.specs.Grouped.{IsNew, at_key, IsChangedGroup, CanChangeAt, IsChangedAt, IsDue, IsLacking, IsGrouping, TellsGroups};
 ghost use Rattle.cql_groups.specs.GroupLaws.{Laws};
 ghost use Rattle.cql_ops.specs.Linear.{with_change};

@@ -1,6 +1,5 @@
 // Whether what one tenant was told is what a journal tells it alone.
-ghost use Rattle.std.specs.Prelude.{◌≡◌, [], ℕ, ◌<◌, map, option_map, length, true, Some, All, IfOk, IfErr};
-ghost use Rattle.std.specs.Bool.{Decides};
+ghost use Rattle.std.specs.Prelude.{◌≡◌, [], ◌<◌, map, option_map, length, All, IfOk, IfErr};
 ghost use Rattle.cql_core.specs.Steps.{stepped_of};
 ghost use Rattle.cql_hall.specs.Entering.{noted};
 ghost use Rattle.cql_hall.specs.Audit.{in_order, AllAgree};

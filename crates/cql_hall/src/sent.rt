@@ -1,5 +1,5 @@
 // The receipts of one tenant, each under its number in their order, and which of them have a place.
-ghost use Rattle.std.specs.Prelude.{◌≡◌, ℕ, ◌<◌, ◌++◌, ◌∷◌, [], map, length, vec_len, MatchOption, IfOk, IfErr, OnOk, Some, slice_index_or, if◌then◌else◌};
+ghost use Rattle.std.specs.Prelude.{◌≡◌, ℕ, ◌<◌, ◌++◌, ◌∷◌, [], map, vec_len, MatchOption, IfOk, IfErr, OnOk, Some, slice_index_or, if◌then◌else◌};
 ghost use Rattle.cql_hall.specs.Audit.{called, heard, in_order};
 ghost use Rattle.cql_hall.specs.Tracks.{is_at};
 ghost use Rattle.cql_hall.specs.Sent.{sent_as, is_sent, sent_by, IsWithin, MissesFirst, AreNumbers};

@@ -1,5 +1,5 @@
 //! The lines of a reader.
-ghost use Rattle.std.specs.Prelude.{Ok, IsErr, is_err, is_some, ◌≡◌, ℕ, List, ◌++◌, ◌≤◌, ◌<◌, ◌+◌, ◌^◌, ◌⊎◌, ◌∷◌, [], true, false, take, drop, length, is_ok, Some, None, IfOk, OnOk, OnErr, IsTrue, MatchOption, vec_capacity};
+ghost use Rattle.std.specs.Prelude.{Ok, IsErr, is_err, is_some, ◌≡◌, ◌≤◌, ◌<◌, ◌^◌, ◌⊎◌, [], true, false, length, Some, None, IfOk, OnOk, OnErr};
 ghost use Rattle.std.specs.List.{position, list_all};
 ghost use Rattle.std.specs.Io.KnownBytes.{Consumes, Keeps, IsAtEnd, prepend_known};
 ghost use Rattle.cql_lines.specs.Watched.{inner_of, has_failed, calls_of};

@@ -2,7 +2,7 @@
 //!
 //! Each `Err` of the reader or writer is a fault, an interrupted call too, and a faulty one is
 //! never called again.
-ghost use Rattle.std.specs.Prelude.{◌≡◌, ◌≤◌, ◌+◌, ◌||◌, ℕ, List, length, true, false, is_err, IfOk, IsErr, OnOk, OnErr, if◌then◌else◌};
+ghost use Rattle.std.specs.Prelude.{◌≡◌, ◌≤◌, ◌+◌, ◌||◌, length, true, false, is_err, IfOk, IsErr, OnOk, OnErr, if◌then◌else◌};
 ghost use Rattle.std.specs.Io.KnownBytes.{Appends, ReadConsumes};
 ghost use Rattle.cql_lines.specs.Watched.{inner_of, has_failed, calls_of, count_after, Grows};
 

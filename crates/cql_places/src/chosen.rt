@@ -1,5 +1,5 @@
 // The columns of a stream that a grant shows.
-ghost use Rattle.std.specs.Prelude.{◌≡◌, true, IfOk, is_some, length, map, unwrap_or, option_copied};
+ghost use Rattle.std.specs.Prelude.{◌≡◌, true, IfOk, is_some, map, unwrap_or, option_copied};
 ghost use Rattle.std.specs.List.{list_all, list_any};
 ghost use Rattle.std.specs.Str.{bytes_eq};
 ghost use Rattle.cql_value.specs.Schema.{is_schema};

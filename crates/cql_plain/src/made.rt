@@ -1,5 +1,5 @@
 // Rows that items made of rows of a port, kept for when these leave.
-ghost use Rattle.std.specs.Prelude.{◌≡◌, ◌++◌, [], ◌∷◌, List, Some, IfSome, OnOk};
+ghost use Rattle.std.specs.Prelude.{◌≡◌, List, Some, IfSome, OnOk};
 ghost use Rattle.cql_plan.specs.declared.node.Item.{Item};
 ghost use Rattle.cql_algebra.specs.Shape.{items_on};
 ghost use Rattle.cql_plain.specs.Made.{AreMade};

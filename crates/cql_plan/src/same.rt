@@ -1,5 +1,4 @@
 // Whether two plans say the same.
-ghost use Rattle.std.specs.Prelude.{◌≡◌, ◌↔◌, IsTrue};
 
 use crate::condition::{Condition, Operand};
 use crate::expr::Expr;

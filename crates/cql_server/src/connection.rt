@@ -1,5 +1,5 @@
 // A caller's connection, and how long a session waits at it.
-ghost use Rattle.std.specs.Prelude.{◌≡◌, ◌*◌, None, MatchOption};
+ghost use Rattle.std.specs.Prelude.{◌≡◌, ◌*◌, MatchOption};
 ghost use Rattle.std.specs.Duration.{as_nanos};
 
 use std::cell::Cell;

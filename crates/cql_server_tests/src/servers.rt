@@ -1,11 +1,11 @@
 // Sessions of callers at sockets of this process.
-ghost use Rattle.std.specs.Prelude.{◌≡◌, All, IfOk};
+ghost use Rattle.std.specs.Prelude.{All, IfOk};
 ghost use Rattle.cql_ops.specs.Bench.{IsBench};
 
-use crate::holding::Holding;
-use crate::made::table;
 use cql_core::TenantTable;
 use cql_hall::{Gate, OpenGate};
+use cql_hall_tests::holding::Holding;
+use cql_hall_tests::made::table;
 use cql_ops::{Bench, DistinctOp, Operator, SetOperation};
 use cql_plain::{PlainJoin, PlainShape};
 use cql_server::{Failure, Limits, serve};

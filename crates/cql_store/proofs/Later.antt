@@ -1,5 +1,5 @@
 -- A stub's places at a later cursor.
-use Rattle.std.proofs.Common.{◌≡◌, ℕ, ◌+◌, ◌-◌, ◌≤◌, Bool, false, List, [], ◌++◌, length, take, drop, nat_lt, nat_le, refl, subst, sym, ap, ◌∙◌, arith, cond, length-append, length-drop, append_assoc, ◌⊎◌, inl, inr}
+use Rattle.std.proofs.Common.{◌≡◌, ℕ, ◌+◌, ◌-◌, ◌≤◌, Bool, false, List, [], ◌++◌, length, take, drop, nat_lt, nat_le, subst, sym, ap, ◌∙◌, arith, cond, length-append, length-drop, append_assoc, ◌⊎◌, inl, inr}
 use Rattle.std.specs.List.{filter, prefix_len}
 use Rattle.std.proofs.Math.Seq.{take-add}
 use Rattle.std.proofs.lemmas.List.{drop-drop, drop-take, length-take, take-append-drop, append-nil, take_all}
@@ -9,9 +9,9 @@ use Rattle.cql_window.specs.declared.window.Window.{Window}
 use Rattle.cql_window.specs.declared.window.Window.TheVariants.{Range, Rows, All as all, Parts}
 use Rattle.cql_window.specs.Laws.{HasNoParts}
 use Rattle.cql_window.specs.Pin.{AreRows}
-use Rattle.cql_window.specs.Places.{end_in, whole_slides}
+use Rattle.cql_window.specs.Places.{end_in}
 use Rattle.cql_window.specs.Window.{AreAscending, front_len, kept, content, beyond, count_before}
-use Rattle.cql_window.proofs.Ends.{before_mono, before_rest, end_mono}
+use Rattle.cql_window.proofs.Ends.{before_mono, before_rest}
 use Rattle.cql_window.proofs.Law.{kept_le}
 use Rattle.cql_window.proofs.Places.{range_between}
 use Rattle.cql_store.proofs.Fit.{asc_take, fit_drop, fit_behind, fit_front, fit_newest}

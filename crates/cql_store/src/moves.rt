@@ -1,5 +1,5 @@
 // A stub goes to a later cursor.
-ghost use Rattle.std.specs.Prelude.{◌≡◌, ◌≤◌, ◌<◌, ◌+◌, ◌-◌, ◌^◌, ◌++◌, ℕ, IfOk, OnErr, length, drop, take, nat_le, false};
+ghost use Rattle.std.specs.Prelude.{◌≡◌, ◌≤◌, ◌<◌, ◌+◌, ◌-◌, ◌^◌, ◌++◌, IfOk, OnErr, length, drop, take, nat_le, false};
 ghost use Rattle.std.specs.List.{prefix_len};
 ghost use Rattle.cql_window.specs.Laws.{HasNoParts};
 ghost use Rattle.cql_window.specs.Places.{end_in};

@@ -1,5 +1,5 @@
 // What the stubs need of the store's rows, without a look at them.
-ghost use Rattle.std.specs.Prelude.{◌≡◌, ◌≤◌, ◌<◌, ◌+◌, ℕ, [], IfSome, IfNone, OnOk, length, set, slice_index, map, drop};
+ghost use Rattle.std.specs.Prelude.{◌≡◌, ◌≤◌, ◌<◌, ◌+◌, [], IfSome, IfNone, OnOk, length, set, slice_index, map, drop};
 ghost use Rattle.std.specs.List.{All, Contains};
 ghost use Rattle.cql_store.specs.Places.{greatest, AreLonger, AreKnown, AreWithin, IsKnown, IsStore, Slots, all_shown, at_some, marked, live_count};
 

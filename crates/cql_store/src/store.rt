@@ -1,5 +1,5 @@
 // The store of a stream.
-ghost use Rattle.std.specs.Prelude.{◌≡◌, ◌≤◌, ◌↔◌, ◌+◌, IsSomeAnd, IsTrue, false, [], map, IsSome, OnOk, OnErr, IfOk, IfSome, None, Some, length};
+ghost use Rattle.std.specs.Prelude.{◌≡◌, ◌↔◌, IsSomeAnd, IsTrue, false, [], map, IsSome, OnOk, OnErr, IfOk, IfSome, None, Some};
 ghost use Rattle.cql_store.specs.Held.{Updates, stub_of, opened, fed_at, CanAppend, CanAdvance, IsReady, HasParts, pinned, advanced, IsRowsHeld};
 ghost use Rattle.cql_store.specs.Places.{all_shown, shown, shifted, slot_of, IsKnown};
 

@@ -1,5 +1,5 @@
 // A cursor over tokens.
-ghost use Rattle.std.specs.Prelude.{◌≡◌, ◌≢◌, ◌<◌, ◌≤◌, length, slice_get, map};
+ghost use Rattle.std.specs.Prelude.{◌≡◌, length, slice_get};
 ghost use Rattle.std.specs.Option.{option_copied};
 ghost use Rattle.cql_syntax.specs.Tokens as tokens;
 ghost use Rattle.cql_syntax.specs.Operators as operators;

@@ -1,5 +1,5 @@
 // Prints a query in its canonical spelling.
-ghost use Rattle.std.specs.Prelude.{◌≡◌, ◌++◌, ◌==◌, ◌&&◌, OnOk, OnErr, IfOk, List, string_bytes};
+ghost use Rattle.std.specs.Prelude.{◌≡◌, ◌==◌, ◌&&◌, OnOk, IfOk, string_bytes};
 ghost use Rattle.cql_syntax.specs.Spelling as spec;
 
 use crate::printer::Printer;

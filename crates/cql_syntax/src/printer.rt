@@ -1,6 +1,5 @@
 // Writes the pieces of a spelling, with spaces between.
-ghost use Rattle.std.specs.Prelude.{◌≡◌, ◌++◌, ℕ, ℤ, pos, OnOk, List, string_bytes, codes, true};
-ghost use Rattle.std.specs.Fmt.{decimal, signed_decimal};
+ghost use Rattle.std.specs.Prelude.{◌≡◌, ◌++◌, pos, OnOk, string_bytes, true};
 ghost use Rattle.cql_syntax.specs.Spelling as spec;
 
 use crate::token::Fixed;

@@ -1,5 +1,5 @@
 // What there is of one tenant.
-ghost use Rattle.std.specs.Prelude.{◌≡◌, ◌≤◌, ◌^◌, ◌&&◌, ◌==◌, not, true, IfOk, IfSome, OnOk, OnErr, option_copied, slice_get, Some, None};
+ghost use Rattle.std.specs.Prelude.{◌≡◌, ◌≤◌, ◌^◌, not, true, IfOk, IfSome, OnOk, OnErr, option_copied, slice_get, Some, None};
 ghost use Rattle.std.specs.Result.{result_err};
 ghost use Rattle.std.specs.List.{filter};
 ghost use Rattle.cql_places.specs.Chosen.{is_shown};

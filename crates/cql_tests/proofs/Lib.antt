@@ -1,3 +1,1 @@
 mod Fitting
-pub mod Numbers
-pub mod Pairs

@@ -1,3 +1,1 @@
 pub mod Pins
-pub mod Numbers
-pub mod Pairs

@@ -5,29 +5,17 @@
 #[cfg(test)]
 mod answers;
 #[cfg(test)]
-mod benches;
-#[cfg(test)]
-mod groups;
-#[cfg(test)]
-mod joins;
-#[cfg(test)]
 mod laws;
 #[cfg(test)]
 mod memory;
 #[cfg(test)]
 mod outputs;
 #[cfg(test)]
-mod parts;
-#[cfg(test)]
 mod pins;
 #[cfg(test)]
 mod runs;
 #[cfg(test)]
 mod scripts;
-#[cfg(test)]
-mod splits;
-#[cfg(test)]
-mod stores;
 #[cfg(test)]
 mod tenants;
 #[cfg(test)]

@@ -1,7 +1,9 @@
-// Tables of tenants, and the one refusal that no command can be brought to.
-use cql_core::{BadTenants, Quotas, Refusal, Tenant, TenantTable};
-use cql_value::{Name, NameError, Text};
+// Tables of tenants, what each of them reads, and the one refusal that no command can be brought to.
+use cql_core::{BadTenants, Quotas, Refusal, Tenant, TenantId, TenantTable};
+use cql_tenants::Directory;
+use cql_value::{Column, ColumnType, Name, NameError, Schema, Text};
 use std::alloc::{AllocError, AllocFailed, Global};
+use std::test::Fail;
 
 pub(crate) const USUAL: Quotas = Quotas {
     streams: 8,
@@ -67,4 +69,36 @@ pub(crate) fn table(alloc: Global, names: &[&str]) -> Result<TenantTable, Unmade
 fn no_memory(rt: HostRuntime) {
     assert_eq!(rt; Refusal::NoMemory.number(), 70);
     assert_eq!(rt; Refusal::NoMemory.name(), "NoMemory");
+}
+
+fn schema(alloc: Global) -> Result<Schema, Fail> {
+    let name = Name::read(alloc, "v")?;
+    let kind = ColumnType::Number;
+    Ok(Schema::new(vec![in alloc; Column { name, kind }]?)?)
+}
+
+fn place(table: &TenantTable, name: &str) -> Result<TenantId, Fail> {
+    match table.find(name) {
+        Some(place) => Ok(place),
+        None => Err(Fail::new("no such tenant")),
+    }
+}
+
+// What each of two tenants reads, of which the first has granted its stream to the second, and a
+// tenant of another table.
+#[test]
+fn readable_streams(rt: HostRuntime) -> Result<(), Fail> {
+    let alloc = rt.alloc();
+    let table = table(alloc, &["a", "b"])?;
+    let (a, b) = (place(&table, "a")?, place(&table, "b")?);
+    let stranger = place(&self::table(alloc, &["a", "b", "c"])?, "c")?;
+    let mut directory = Directory::new(alloc, &table)?;
+    let schema = schema(alloc)?;
+    let schema = directory.may_make(a, "s", Some(&schema))?;
+    directory.make_stream(alloc, a, "s", schema)?;
+    directory.grant(alloc, a, "s", None, "b")??;
+    assert_eq!(rt; directory.readable(alloc, a)??.len(), 1);
+    assert_eq!(rt; directory.readable(alloc, b)??.len(), 1);
+    assert!(rt; directory.readable(alloc, stranger)?.is_err());
+    Ok(())
 }

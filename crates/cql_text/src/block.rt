@@ -1,5 +1,5 @@
 // Reads blocks.
-ghost use Rattle.std.specs.Prelude.{◌≡◌, ◌≤◌, ◌++◌, ◌∷◌, [], length, IfOk};
+ghost use Rattle.std.specs.Prelude.{◌≡◌};
 ghost use Rattle.cql_syntax.specs.Cursor.{Reads};
 ghost use Rattle.cql_text.specs.Readers as spec;
 

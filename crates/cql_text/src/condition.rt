@@ -1,5 +1,5 @@
 // Reads conditions.
-ghost use Rattle.std.specs.Prelude.{◌≡◌, ◌≤◌, length, IfOk};
+ghost use Rattle.std.specs.Prelude.{◌≡◌, length, IfOk};
 ghost use Rattle.cql_syntax.specs.Tokens.{sign};
 ghost use Rattle.cql_syntax.specs.Operators as operators;
 ghost use Rattle.cql_syntax.specs.Cursor.{Reads, token_by};

@@ -1,5 +1,5 @@
 // Reads expressions.
-ghost use Rattle.std.specs.Prelude.{◌≡◌, ◌≤◌, length, IfOk};
+ghost use Rattle.std.specs.Prelude.{◌≡◌, length, IfOk};
 ghost use Rattle.cql_syntax.specs.Operators.{product_sign, sum_sign};
 ghost use Rattle.cql_syntax.specs.Cursor.{Reads};
 ghost use Rattle.cql_text.specs.Reading.{chain};

@@ -1,5 +1,4 @@
 // Reads queries.
-ghost use Rattle.std.specs.Prelude.{◌≡◌};
 ghost use Rattle.cql_syntax.specs.Operators as operators;
 ghost use Rattle.cql_syntax.specs.Cursor.{Reads, token_by};
 ghost use Rattle.cql_text.specs.Readers as spec;

@@ -1,5 +1,5 @@
 // Reads windows.
-ghost use Rattle.std.specs.Prelude.{◌≡◌, ◌≢◌, ◌≤◌, IfSome};
+ghost use Rattle.std.specs.Prelude.{◌≡◌, ◌≤◌, IfSome};
 ghost use Rattle.cql_text.specs.Meaning as meaning;
 ghost use Rattle.cql_syntax.specs.Cursor.{Reads, token_by, at_head};
 ghost use Rattle.cql_text.specs.Reading.{optional};

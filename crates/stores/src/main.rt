@@ -10,7 +10,7 @@
 //! Without words it is 1 stub and 1000 rows.
 #![tactic(auto)]
 
-ghost use Rattle.std.specs.Prelude.{◌≡◌, [], ◌∷◌, IfOk};
+ghost use Rattle.std.specs.Prelude.{[], ◌∷◌, IfOk};
 ghost use Rattle.cql_value.specs.Schema.{HasTypes};
 ghost use Rattle.cql_store.specs.Next.{FitsWindow};
 ghost use Rattle.cql_value.specs.declared.schema.ColumnType.TheVariants.{Number};

@@ -1,0 +1,168 @@
+// Shapes whose groups are kept by their keys. Under `rt try --test --fail-alloc` an operator that
+// had no memory must be spent, and its next start must answer rightly.
+ghost use Rattle.std.specs.Prelude.{◌≡◌, false, IfOk, OnOk, OnErr};
+ghost use Rattle.std.specs.List.{All};
+ghost use Rattle.cql_plan.specs.declared.node.OperatorKind.TheVariants.{Shape as shape_kind};
+ghost use Rattle.cql_part_tests.specs.Numbers.{IsOfNumbers, HasNumbers, IsNumber};
+
+use cql_bag::Change;
+use cql_groups::GroupShape;
+use cql_ops::{OpError, Operator};
+use cql_plan::{Expr, Item, Node, Shape};
+use cql_value::{ColumnType, Items, Row, Value};
+use std::alloc::{AllocError, Global};
+use std::test::Fail;
+
+// The node of `Select v, Count(*) From s Group By v`.
+fn counts_by_number(alloc: Global) -> Result<Node, AllocError>
+    ensures { IfOk result IsOfNumbers }
+{
+    let columns = Items::from_slice(alloc, &[ColumnType::Number])?;
+    let items = vec![in alloc; Item::Value(Expr::Column(0)), Item::Count]?;
+    let groups = Items::from_slice(alloc, &[0])?;
+    Ok(Node::Shape(Shape {
+        columns,
+        items: Items::from_vec(items),
+        groups,
+    }))
+}
+
+// A row of one number comes.
+fn number(alloc: Global, n: i64) -> Result<Change, AllocError>
+    ensures { IfOk result IsNumber }
+{
+    let row = Row::new(alloc, vec![in alloc; Value::Number(n)]?)?;
+    Ok(Change { plus: true, row })
+}
+
+// Rows of these numbers come.
+fn numbers(alloc: Global, from: i64, to: i64) -> Result<Vec<Change>, AllocError>
+    ensures { IfOk result (λ changes. All IsNumber changes.items) }
+{
+    let mut changes = Vec::new(alloc);
+    for n in from..to {
+        changes.push(number(alloc, n)?)?;
+    }
+    Ok(changes)
+}
+
+// The rows come one after another.
+#[tactic(auto, using(crate::proofs::Numbers::can_push, crate::proofs::Numbers::has_pushed))]
+fn push_all<O: Operator>(op: &mut O, changes: &[Change]) -> Result<(), OpError>
+    requires held { HasNumbers (O.seen_in op.old) }
+    requires rows { All IsNumber changes.now }
+    ensures held { OnOk result (HasNumbers (O.seen_in op.new)) }
+    ensures kind { (O.seen_in op.new).kind ≡ shape_kind }
+    ensures stopped { OnErr result ((O.seen_in op.new).running ≡ false) }
+{
+    for change in changes {
+        op.push(0, change)?;
+    }
+    Ok(())
+}
+
+// Started anew, the operator tells of some rows, and then of one more.
+#[tactic(auto, using(crate::proofs::Numbers::can_push, crate::proofs::Numbers::has_started, crate::proofs::Numbers::has_emitted))]
+fn tell_twice<O: Operator>(
+    op: &mut O,
+    node: &Node,
+    changes: &[Change],
+    more: &Change,
+    out: &mut Vec<Change>,
+) -> Result<(), OpError>
+    requires kind { (O.seen_in op.old).kind ≡ shape_kind }
+    requires node { IsOfNumbers node.now }
+    requires rows { All IsNumber changes.now }
+    requires more { IsNumber more.now }
+    ensures kind { (O.seen_in op.new).kind ≡ shape_kind }
+    ensures stopped { OnErr result ((O.seen_in op.new).running ≡ false) }
+{
+    op.start(node, 1000)?;
+    push_all(op, changes)?;
+    op.emit(out)?;
+    op.push(0, more)?;
+    op.emit(out)
+}
+
+// Whether it answers that it has to be started.
+fn is_spent<O: Operator>(op: &mut O, change: &Change, out: &mut Vec<Change>) -> bool
+    requires { (O.seen_in op.old).running ≡ false }
+    ensures { (O.seen_in op.new).kind ≡ (O.seen_in op.old).kind }
+{
+    op.push(0, change) == Err(OpError::Spent) && op.emit(out) == Err(OpError::Spent)
+}
+
+fn number_at_last(alloc: Global, n: i64) -> Result<Change, AllocError>
+    ensures { IfOk result IsNumber }
+{
+    match number(alloc, n) {
+        Ok(change) => Ok(change),
+        Err(_why) => number(alloc, n),
+    }
+}
+
+fn node_at_last(alloc: Global) -> Result<Node, AllocError>
+    ensures { IfOk result IsOfNumbers }
+{
+    match counts_by_number(alloc) {
+        Ok(node) => Ok(node),
+        Err(_why) => counts_by_number(alloc),
+    }
+}
+
+fn numbers_at_last(alloc: Global, from: i64, to: i64) -> Result<Vec<Change>, AllocError>
+    ensures { IfOk result (λ changes. All IsNumber changes.items) }
+{
+    match numbers(alloc, from, to) {
+        Ok(changes) => Ok(changes),
+        Err(_why) => numbers(alloc, from, to),
+    }
+}
+
+// Whether it is a change of the row of these two numbers.
+fn is_of(change: &Change, plus: bool, key: i64, times: i64) -> bool {
+    match change.row.values() {
+        [Value::Number(k), Value::Number(n)] => change.plus == plus && *k == key && *n == times,
+        _ => false,
+    }
+}
+
+// Whether each number from 1 to 100 was told once, and then the 1 anew.
+fn are_told(out: &[Change]) -> bool {
+    let mut key = 0i64;
+    let mut left = out;
+    while let Some((change, rest)) = left.split_first() {
+        if key == 100 {
+            break;
+        }
+        key += 1;
+        if !is_of(change, true, key, 1) {
+            return false;
+        }
+        left = rest;
+    }
+    match left {
+        [old, new] => is_of(old, false, 1, 1) && is_of(new, true, 1, 2),
+        _ => false,
+    }
+}
+
+#[test]
+fn one_group_is_computed_anew(rt: HostRuntime) -> Result<(), Fail> {
+    let alloc = rt.alloc();
+    let node = node_at_last(alloc)?;
+    let hundred = numbers_at_last(alloc, 1, 101)?;
+    let one = number_at_last(alloc, 1)?;
+    let mut out = Vec::new(alloc);
+    let mut shape = GroupShape::new(alloc);
+    assert!(rt; shape.remade() == 0);
+    if let Err(why) = tell_twice(&mut shape, &node, &hundred, &one, &mut out) {
+        assert!(rt; why == OpError::NoMemory);
+        assert!(rt; is_spent(&mut shape, &one, &mut out));
+        out.clear();
+        tell_twice(&mut shape, &node, &hundred, &one, &mut out)?;
+    }
+    assert!(rt; shape.remade() == 101);
+    assert!(rt; are_told(&out));
+    Ok(())
+}

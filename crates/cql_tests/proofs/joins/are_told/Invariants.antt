@@ -1,6 +1,0 @@
-use Rattle.std.proofs.Common.{◌≤ℤ◌, pos}
-use Rattle.cql_tests.proofs.joins.are_told.Given as goal
-
--- the number stays small
-abbrev pub invariant-loop-change : goal.invariant-loop-change
-invariant-loop-change l = (pos 0 ≤ℤ l.n) × (l.n ≤ℤ pos 100)

@@ -1,5 +1,5 @@
-//! Tests of the reader, the typing, the core and runs of scripts through their public items: what no
-//! script of lines can show.
+//! Tests of the reader, the typing, answers and the core through their public items: what no script
+//! of lines can show.
 #![tactic(auto)]
 
 #[cfg(test)]
@@ -12,8 +12,6 @@ mod memory;
 mod outputs;
 #[cfg(test)]
 mod pins;
-#[cfg(test)]
-mod runs;
 #[cfg(test)]
 mod scripts;
 #[cfg(test)]

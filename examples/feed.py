@@ -15,9 +15,11 @@ too old for windows that look back so many ticks from where the slowest consumer
 acknowledged up to the place of its consumer (examples/consume.py), the `next` of FOLDER/QUERY; so
 each consumer goes on where it was, and is told what it would have been told without the stop.
 
-The feeder is at most ROWS rows ahead of the slowest consumer, but for rows of one instant, so that
-no query is overrun: the quota `hold` has to be as large as ROWS and a window's rows together. Each
-query needs a consumer, and each stream lines in the log.
+The feeder is at most ROWS rows ahead of the slowest consumer, but for rows of one instant, and for
+those that stand before the next line of the stream that is furthest behind, since a query of both
+is final no further. So no query is overrun where the quota `hold` is as large as ROWS, a window's
+rows and those together: each query needs a consumer, and each stream lines in the log that go on,
+heartbeats if no rows.
 
 A connection may be lost while the server goes on. Then the times that the streams still take say
 which lines came in; where they fit two places of the log, as with several rows at one instant, the

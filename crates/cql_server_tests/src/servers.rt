@@ -173,19 +173,20 @@ fn one_after_another<R: Net<Stream = TcpStream>>(
     call(rt, alloc, addr, OF_B)
 }
 
-// What a server of two audited sessions gave and wrote.
+// What a server of audited sessions gave and wrote.
 #[derive(Drop)]
 struct Served {
     result: Result<(), Failure>,
     out: Vec<u8>,
 }
 
-fn serve_two<R: Threads + Wait + Clock + Sync, G: Gate>(
+fn serve_audited<R: Threads + Wait + Clock + Sync, G: Gate>(
     rt: &R,
     alloc: Global,
     listener: &TcpListener,
     table: &TenantTable,
     benches: Vec<Bench>,
+    sessions: u16,
     gate: &G,
 ) -> Served
     requires { All (IsBench seen_in) benches.items }
@@ -193,7 +194,7 @@ fn serve_two<R: Threads + Wait + Clock + Sync, G: Gate>(
     let mut out = Vec::new(alloc);
     let limits = Limits::of_seconds(10, 0);
     let result = serve(
-        rt, alloc, listener, limits, &mut out, table, benches, 2, true, gate,
+        rt, alloc, listener, limits, &mut out, table, benches, sessions, true, gate,
     );
     Served { result, out }
 }
@@ -214,7 +215,7 @@ fn two_sessions(rt: HostRuntime) -> Result<(), Fail> {
         },
         ||
             requires { All (IsBench seen_in) benches.items }
-        { serve_two(&rt, alloc, &listener, &table, benches, &OpenGate) },
+        { serve_audited(&rt, alloc, &listener, &table, benches, 2, &OpenGate) },
     );
     done?;
     assert!(rt; served.result.is_ok());
@@ -255,11 +256,23 @@ fn two_at_once(rt: HostRuntime) -> Result<(), Fail> {
         },
         ||
             requires { All (IsBench seen_in) benches.items }
-        { serve_two(&rt, alloc, &listener, &table, benches, &gate) },
+        { serve_audited(&rt, alloc, &listener, &table, benches, 2, &gate) },
     );
     done?;
     assert!(rt; !gate.is_expired());
     assert!(rt; served.result.is_ok());
     assert!(rt; served.out.as_slice() == b"audit: 4 entries, 4 receipts, agreed\n".as_slice());
+    Ok(())
+}
+
+#[test]
+fn an_audit_of_no_sessions(rt: HostRuntime) -> Result<(), Fail> {
+    let alloc = rt.alloc();
+    let listener = TcpListener::bind(&rt, "127.0.0.1:0")?;
+    let table = table(alloc)?;
+    let benches = one_bench(alloc)?;
+    let served = serve_audited(&rt, alloc, &listener, &table, benches, 0, &OpenGate);
+    assert!(rt; served.result == Err(Failure::NoSessions));
+    assert!(rt; served.out.is_empty());
     Ok(())
 }

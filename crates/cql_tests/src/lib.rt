@@ -1,5 +1,5 @@
-//! Tests of the reader, the typing, answers and the core through their public items: what no script
-//! of lines can show.
+//! Tests of answers, of the directory and of the core through their public items: what no script of
+//! lines can show. The laws are called once each.
 #![tactic(auto)]
 
 #[cfg(test)]

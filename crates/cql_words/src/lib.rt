@@ -6,7 +6,7 @@ ghost use Rattle.std.specs.Prelude.{◌≤◌, IfOk};
 use clap::{Arg, ArgAction, Command, Error};
 use std::alloc::Global;
 
-/// The version, which is that of the top entry of CHANGELOG.md.
+/// The version, which is that of the top entry of CHANGELOG.md that has a number.
 pub const VERSION: &str = "0.1.0";
 
 const JOIN_FORMS: &[&str] = &["plain", "keyed"];

@@ -18,7 +18,7 @@ pub data StreamCommand : Type 0 where
   Put : (stream : List ℕ) → (at : ℕ) → (row : List Value) → StreamCommand
   Beat : (stream : List ℕ) → (at : ℕ) → StreamCommand
 
--- why a command of the tenant at a place is refused, if it is; 31 comes before all else
+-- why a command of a tenant of the table is refused, if it is
 abbrev pub refused_at : List Home → ℕ → StreamCommand → Option StreamRefusal
 refused_at homes user (Make name schema) = make_refused (home_at homes user) name schema
 refused_at homes user (Share stream to columns) = grant_refused homes user stream (stream_at homes user stream) columns to
@@ -26,6 +26,7 @@ refused_at homes user (Revoke stream to) = revoke_refused homes user stream to
 refused_at homes user (Put stream at row) = put_refused (stream_at homes user stream) at row
 refused_at homes user (Beat stream at) = beat_refused (stream_at homes user stream) at
 
+-- 31 of a place outside the table comes before all else
 abbrev pub refused : List Home → ℕ → StreamCommand → Option StreamRefusal
 refused homes user command = if is_place homes user then refused_at homes user command else Some UnknownTenant
 

@@ -1,5 +1,4 @@
 // Whether two plans say the same.
-
 use crate::condition::{Condition, Operand};
 use crate::expr::Expr;
 use crate::node::{Item, Join, Node, SetOp, Shape};

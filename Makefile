@@ -14,7 +14,7 @@ help:
 	@echo 'make run     the replies to $(FIRST), from a run that is checked and not proved ($(RUN_TIME))'
 	@echo 'make build   proves and builds $(RUNNER) and $(SERVER) ($(BUILD_TIME))'
 	@echo 'make test    the gate, and then the built programs as users run them ($(TEST_TIME))'
-	@echo 'make bench   builds the programs, and times puts, query texts, fetches, shared streams, a store and the server, and counts instructions (an hour)'
+	@echo 'make bench   builds the programs, and times puts, query texts, fetches, rounds of them, shared streams, a store and the server, and counts instructions (an hour)'
 
 # runs the first script with no proof
 run:
@@ -41,9 +41,11 @@ bench: build
 	bench/fetches $(RUNNER)
 	bench/shared $(RUNNER)
 	bench/rows $(RUNNER)
+	bench/rounds $(RUNNER) $(SERVER)
 	bench/joins $(SERVER)
 	@cd crates/stores && rt run > /dev/null
 	bench/stores crates/stores/out/stores
 	bench/server $(SERVER)
 	bench/hall $(SERVER)
 	bench/memory $(SERVER)
+	bench/neighbours $(SERVER)

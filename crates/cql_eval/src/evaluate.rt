@@ -1,5 +1,5 @@
 // The answer to a fetch.
-ghost use Rattle.std.specs.Prelude.{◌≡◌, ◌↔◌, ◌⊎◌, ◌≤◌, ◌<◌, ◌+◌, ◌*◌, ◌^◌, ℕ, length, IfOk, OnOk, IsTrue};
+ghost use Rattle.std.specs.Prelude.{◌≡◌, ◌↔◌, ◌⊎◌, ◌≤◌, ◌<◌, ◌+◌, ◌*◌, ◌^◌, ℕ, length, IfOk, IfSome, OnOk, IsTrue};
 ghost use Rattle.std.specs.List.{All, Contains};
 ghost use Rattle.std.specs.List.Sorted.{IsStrictlyIncreasing};
 ghost use Rattle.cql_ops.specs.Bench.{IsBench, bench_seen};
@@ -8,16 +8,19 @@ ghost use Rattle.cql_plan.specs.declared.plan.OutputKind.TheVariants.{Rstream};
 ghost use Rattle.cql_eval.specs.Answer.{IsAnswer, rows_in};
 ghost use Rattle.cql_eval.specs.Relation.{relation_at, output_at};
 ghost use Rattle.cql_eval.specs.Shown.{StandsFor, Tells, IsShown, IsTallied, AreSame, IsQuiet, IsQuietUntil, first_change, next_of};
+ghost use Rattle.cql_eval.specs.Warm.{IsKept, StandsBehind};
 
 use crate::answered::Answer;
 use crate::pin::Pin;
-use crate::shown::{Shown, nothing_shown, same_output, step};
+use crate::shown::{Shown, nothing_shown, open, same_output, step};
+use crate::warm::{Kept, remember, resume};
 use cql_ops::{BenchOf, Operator};
 use cql_out::{Block, Output, Relation, Runs};
 use cql_plan::OutputKind;
 use cql_value::Items;
 use cql_window::changes;
 use std::alloc::{AllocError, Global};
+use std::sync::Arc;
 
 /// The blocks of a pin, in one walk over its rows: the bench is started anew, and the relation is
 /// computed at one instant and where it may change, by the rows that come into the windows and
@@ -31,27 +34,48 @@ pub fn answer<O: Operator>(
     ensures bench { IsBench O.seen_in bench.new }
     ensures pin { IfOk result (λ a. a.pin ≡ pin) }
 {
-    let (blocks, turns) = evaluate(alloc, bench, &pin)?;
+    let pin = Arc::new(alloc, pin)?;
+    let (blocks, turns, _) = evaluate(alloc, bench, &pin, None)?;
     Ok(Answer::new(pin, Items::from_vec(blocks), turns))
 }
 
-// The blocks, and at how many instants the relation was computed.
-fn evaluate<O: Operator>(
+/// The blocks of a pin that asks for no instant.
+pub(crate) fn nothing_asked(alloc: Global, pin: &Pin) -> Vec<Block>
+    requires { pin.now.from ≡ pin.now.next }
+    ensures { IsAnswer (record { pin = pin.now; blocks = result.items; turns = 0 }) }
+{
+    let _ = pin.windows();
+    Runs::new(alloc, pin.from()).finish()
+}
+
+/// The blocks, at how many instants the relation was computed, and what is kept of it for a later
+/// pin. The bench stands for what was kept of an earlier one, if anything was.
+pub(crate) fn evaluate<O: Operator>(
     alloc: Global,
     bench: &mut BenchOf<O>,
     pin: &Pin,
-) -> Result<(Vec<Block>, u64), AllocError>
-    requires { IsBench O.seen_in bench.old }
+    kept: Option<Kept>,
+) -> Result<(Vec<Block>, u64, Option<Relation>), AllocError>
+    requires bench { IsBench O.seen_in bench.old }
+    requires kept { IfSome kept (λ k. StandsBehind k (bench_seen O.seen_in bench.old)) }
     ensures bench { IsBench O.seen_in bench.new }
     ensures answer { IfOk result (λ r. IsAnswer (record { pin = pin.now; blocks = r.0.items; turns = r.1 })) }
+    ensures kept { IfOk result (λ r. IfSome r.2 (λ relation. IsKept pin.now relation (bench_seen O.seen_in bench.new))) }
 {
-    let mut runs = Runs::new(alloc, pin.from());
     if pin.from() == pin.next() {
-        return Ok((runs.finish(), 0));
+        return Ok((nothing_asked(alloc, pin), 0, None));
     }
+    let mut runs = Runs::new(alloc, pin.from());
     let instants = later_changes(alloc, pin)?;
     let mut left = instants.as_slice();
-    let mut shown = begin(alloc, bench, pin, &mut runs, next_of(left, pin.next()))?;
+    let mut shown = begin(
+        alloc,
+        bench,
+        pin,
+        kept,
+        &mut runs,
+        next_of(left, pin.next()),
+    )?;
     let mut turns = 1;
     while let Some((_, later)) = left.split_first() {
         left = later;
@@ -65,7 +89,8 @@ fn evaluate<O: Operator>(
         )?;
         turns += 1;
     }
-    Ok((runs.finish(), turns))
+    let relation = remember(alloc, bench, pin, shown);
+    Ok((runs.finish(), turns, relation))
 }
 
 // The instants from the first one at which a window's content may change, in whatever order.
@@ -198,16 +223,19 @@ fn change<'a, O: Operator>(
     Ok(shown)
 }
 
-// The relation before the first instant that is asked for, which stays up to a later one. At the
-// base there is none, and the base itself comes first.
+// The relation before the first instant that is asked for, which stays up to a later one: the bench
+// goes on where it stands for that relation, and is started anew else. At the base there is none,
+// and the base itself comes first.
 fn begin<'a, O: Operator>(
     alloc: Global,
     bench: &mut BenchOf<O>,
     pin: &'a Pin,
+    kept: Option<Kept>,
     runs: &mut Runs,
     until: u64,
 ) -> Result<Shown<'a>, AllocError>
     requires bench { IsBench O.seen_in bench.old }
+    requires kept { IfSome kept (λ k. StandsBehind k (bench_seen O.seen_in bench.old)) }
     requires next { runs.old.next ≡ pin.now.from }
     requires forward { first_change pin.now ≤ until }
     requires bound { until ≤ 2 ^ 62 }
@@ -219,9 +247,15 @@ fn begin<'a, O: Operator>(
     ensures next { OnOk result (runs.new.next ≡ until) }
     ensures stand { OnOk result (StandFor (output_at pin.now) pin.now.from runs.new) }
 {
+    if let Some(kept) = kept {
+        if let Some(resumed) = resume(alloc, pin, kept)? {
+            hold(alloc, pin, &resumed.relation, runs, until)?;
+            return Ok(resumed);
+        }
+    }
     let shown = nothing_shown(alloc, bench, pin)?;
     if pin.base() < pin.from() {
-        let (shown, _) = step(alloc, bench, pin, shown, pin.from())?;
+        let shown = open(alloc, bench, pin, shown, pin.from())?;
         hold(alloc, pin, &shown.relation, runs, until)?;
         return Ok(shown);
     }

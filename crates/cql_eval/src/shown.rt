@@ -45,7 +45,7 @@ impl<'a> Drop for Shown<'a> {
 }
 
 impl<'a> Shown<'a> {
-    fn into_parts(self) -> (Vec<SeenWalk<'a>>, Tally, Relation)
+    pub(crate) fn into_parts(self) -> (Vec<SeenWalk<'a>>, Tally, Relation)
         ensures walks { result.0.items ≡ self.entry.walks.items }
         ensures tally { result.1 ≡ self.entry.tally }
         ensures relation { result.2 ≡ self.entry.relation }
@@ -188,6 +188,72 @@ fn tell(
         Outcome::Changed(changes) => tell_all(alloc, kind, kept, changes),
         Outcome::Faulty(fault) => Ok((Relation::Fault(fault), Some(Output::Fault(fault)))),
     }
+}
+
+// What is kept after changes, where nothing is told.
+fn keep_changes(
+    alloc: Global,
+    kind: OutputKind,
+    kept: Relation,
+    changes: Vec<Change>,
+) -> Result<Relation, AllocError>
+    ensures { IfOk result (λ r. (before : relation) → StandsFor kind kept before → CanChangeBy changes.items (told_before before) → StandsFor kind r (bag (changed_by changes.items (told_before before)))) }
+{
+    put_all_counts();
+    take_counts();
+    match kind {
+        OutputKind::Rstream => {
+            let (kept, _) = list_changes(alloc, kept, changes)?;
+            Ok(kept)
+        }
+        _ => Ok(Relation::Bag(Bag::new(alloc))),
+    }
+}
+
+// What is kept after a bench answered, where nothing is told.
+fn keep(
+    alloc: Global,
+    kind: OutputKind,
+    kept: Relation,
+    outcome: Outcome,
+) -> Result<Relation, AllocError>
+    ensures { IfOk result (λ r. (before now : relation) → StandsFor kind kept before → LeadsTo outcome before now → StandsFor kind r now) }
+{
+    match outcome {
+        Outcome::Changed(changes) => keep_changes(alloc, kind, kept, changes),
+        Outcome::Faulty(fault) => Ok(Relation::Fault(fault)),
+    }
+}
+
+/// What is shown at a later cursor, where nothing is told: the opening of an answer.
+pub(crate) fn open<'a, O: Operator>(
+    alloc: Global,
+    bench: &mut BenchOf<O>,
+    pin: &'a Pin,
+    shown: Shown<'a>,
+    cursor: u64,
+) -> Result<Shown<'a>, AllocError>
+    requires bench { IsBench O.seen_in bench.old }
+    requires based { pin.now.base < cursor }
+    requires shown { (c : ℕ) × (c ≤ cursor) × IsShown pin.now c shown.walks.items shown.relation (bench_seen O.seen_in bench.old) }
+    requires tally { IsTallied pin.now (bench_seen O.seen_in bench.old) shown.tally }
+    ensures bench { IsBench O.seen_in bench.new }
+    ensures shown { IfOk result (λ r. IsShown pin.now cursor r.walks.items r.relation (bench_seen O.seen_in bench.new)) }
+    ensures tally { IfOk result (λ r. IsTallied pin.now (bench_seen O.seen_in bench.new) r.tally) }
+{
+    let (walks, mut tally, relation) = shown.into_parts();
+    let walks = advance(alloc, bench, &mut tally, pin, walks, cursor)?;
+    let outcome = bench.emit(alloc, pin.plan(), pin.limit())?;
+    let tally = match &outcome {
+        Outcome::Changed(_) => tally,
+        Outcome::Faulty(_) => restart(alloc, bench, pin, &walks)?,
+    };
+    let relation = keep(alloc, pin.plan().output(), relation, outcome)?;
+    Ok(Shown {
+        walks,
+        tally,
+        relation,
+    })
 }
 
 /// What is shown at a later cursor, and the output from the one to the other, or none where the

@@ -36,6 +36,11 @@ pub struct Config {
     pub idle: u32,
     /// How joins and groups are computed.
     pub join: JoinForm,
+    /// How many benches go on with the queries that they answered last, up to 1,024; at 0 each
+    /// answer begins anew.
+    pub warm: u16,
+    /// Every how many seconds what was done is told, up to 86,400; at 0 never.
+    pub log: u32,
     /// Whether each call is kept, and checked after the last session.
     pub audit: bool,
 }
@@ -45,6 +50,8 @@ pub fn read_words(alloc: Global, words: &[String]) -> Result<Config, Error>
     ensures workers { IfOk result (λ c. (1 ≤ c.workers) × (c.workers ≤ 64)) }
     ensures login { IfOk result (λ c. c.login ≤ 3600) }
     ensures idle { IfOk result (λ c. c.idle ≤ 86400) }
+    ensures warm { IfOk result (λ c. c.warm ≤ 1024) }
+    ensures log { IfOk result (λ c. c.log ≤ 86400) }
 {
     let matches = command(alloc)?.try_get_matches_from(words)?;
     Ok(Config {
@@ -54,6 +61,8 @@ pub fn read_words(alloc: Global, words: &[String]) -> Result<Config, Error>
         login: matches.get_one::<u16>("login").unwrap_or(10).min(3600),
         idle: matches.get_one::<u32>("idle").unwrap_or(0).min(86_400),
         join: join_form(matches.get_str("join")),
+        warm: matches.get_one::<u16>("warm").unwrap_or(64).min(1024),
+        log: matches.get_one::<u32>("log").unwrap_or(0).min(86_400),
         audit: matches.get_flag("audit"),
     })
 }
@@ -76,6 +85,8 @@ fn command<'a>(alloc: Global) -> Result<Command<'a>, Error> {
     let command = command.arg(login(alloc))?;
     let command = command.arg(idle(alloc))?;
     let command = command.arg(join(alloc))?;
+    let command = command.arg(warm(alloc))?;
+    let command = command.arg(log(alloc))?;
     Ok(command.arg(audit(alloc))?)
 }
 
@@ -131,6 +142,24 @@ fn join<'a>(alloc: Global) -> Arg<'a> {
         .value_parser(JOIN_FORMS)
         .default_value("keyed")
         .help("How joins and groups are computed: plain, all rows anew, or keyed, what changes")
+}
+
+fn log<'a>(alloc: Global) -> Arg<'a> {
+    Arg::new(alloc, "log")
+        .long("log")
+        .value_name("SECONDS")
+        .value_parser(clap::value_parser!(u32).range(0..=86_400))
+        .default_value("0")
+        .help("How often counts are told on standard error, or 0 for never")
+}
+
+fn warm<'a>(alloc: Global) -> Arg<'a> {
+    Arg::new(alloc, "warm")
+        .long("warm")
+        .value_name("N")
+        .value_parser(clap::value_parser!(u16).range(0..=1024))
+        .default_value("64")
+        .help("How many answers are kept to go on from, or 0 for none")
 }
 
 fn audit<'a>(alloc: Global) -> Arg<'a> {

@@ -1,5 +1,4 @@
 use Rattle.std.proofs.Common.{◌≡◌, false}
-use Rattle.cql_ops.specs.Bench.{IsBench}
 use Rattle.cql_server.specs.Tallies.{Tallies}
 use Rattle.cql_lines.specs.Reading.{work}
 use Rattle.cql_server.proofs.caller.Caller.answer_lines.Given as goal
@@ -7,7 +6,7 @@ use Rattle.cql_server.proofs.caller.Caller.answer_lines.Given as goal
 abbrev pub invariant-loop-self : goal.invariant-loop-self
 invariant-loop-self g l = record {
   failed : l.lines.failed ≡ false;
-  bench : IsBench g.O.Operator.seen_in l.bench;
+  bench : g.E.Evaluator.is_ready l.bench;
   tallies : Tallies g.J.Journal.keeps l.self.seat l.self.receipts.items;
 }
 

@@ -10,6 +10,8 @@
 //! - `walks`: the same, and a walk goes over all rows of the pin.
 //! - `parts`: one stub of a window of parts, which has a row of as many parts as there would be stubs;
 //!   then so many times some rows of them come, as many as the fourth word says, and the stub goes on.
+//! - `slides`: one stub of the last row at each slide of as many rows as there would be stubs, of which
+//!   half wait; then a row comes, and the stub goes on.
 //! - `detach`: a stub goes, and another comes; the stubs go in turn.
 //!
 //! Without words it is 1 stub and 1000 rows.
@@ -277,6 +279,22 @@ fn parts(
     Ok(())
 }
 
+fn slides(alloc: Global, fed: &mut Fed, slide: u64, times: u64) -> Result<(), AllocError> {
+    let (Some(count), Some(slide)) = (Count::new(1), Count::new(slide)) else {
+        return Ok(());
+    };
+    let id = fed.attach(Window::Rows { count, slide }, GREATEST)?;
+    let waiting = slide.get() / 2;
+    put_all(alloc, fed, waiting)?;
+    fed.go(id, waiting)?;
+    let row = numbered(alloc, 7)?;
+    for at in waiting..waiting.saturating_add(times) {
+        fed.put(Timed::new(at, row.share()?))?;
+        fed.go(id, at.saturating_add(1))?;
+    }
+    Ok(())
+}
+
 fn pins(alloc: Global, fed: &mut Fed, rows: u64, times: u64) -> Result<(), AllocError> {
     let id = lag(fed)?;
     put_all(alloc, fed, rows)?;
@@ -316,6 +334,7 @@ enum Work {
     Scans,
     Walks,
     Parts,
+    Slides,
 }
 
 // The work of a word, if it names one.
@@ -330,6 +349,7 @@ fn work_of(word: &str) -> Option<Work> {
         "scans" => Some(Work::Scans),
         "walks" => Some(Work::Walks),
         "parts" => Some(Work::Parts),
+        "slides" => Some(Work::Slides),
         _ => None,
     }
 }
@@ -353,6 +373,7 @@ fn held_after(
         Work::Scans => scans(alloc, &mut fed, stubs, times)?,
         Work::Walks => walks(alloc, &mut fed, stubs, times)?,
         Work::Parts => parts(alloc, &mut fed, stubs, times, more)?,
+        Work::Slides => slides(alloc, &mut fed, stubs, times)?,
     }
     Ok(fed.store.rows_held())
 }
@@ -376,7 +397,7 @@ fn main(rt: HostRuntime) -> io::Result<ExitCode> {
     };
     let Some(work) = work else {
         eprintln!(rt;
-            "stores STUBS TIMES [rows|near|overrun|rounds|detach|pins|scans|walks|parts] [ROWS]"
+            "stores STUBS TIMES [rows|near|overrun|rounds|detach|pins|scans|walks|parts|slides] [ROWS]"
         )?;
         return Ok(ExitCode::FAILURE);
     };

@@ -7,5 +7,5 @@ use Rattle.cql_seq.proofs.seq.Seq.+insert.Goals as goal
 pub returns : goal.returns
 returns t c =
     let whole = sym c.in_ok-cut.ensures.list ∙ ap listed_of c.in-Fork.is in
-    let split = insert_right (arc_value c.in-Fork.left) (arc_value c.in-Fork.right) c.in-Fork.own c.args.entry c.args.place (c.args.place - c.len-here.result - 1) (omega (arith, ap length c.deref.ensures, c.len-here.ensures, c.if-place-here.false)) in
+    let split = insert_right (arc_value c.in-Fork.field-0.left) (arc_value c.in-Fork.field-0.right) c.in-Fork.field-0.own c.args.entry c.args.place (c.args.place - c.len-here.result - 1) (omega (arith, ap length c.deref.ensures, c.len-here.ensures, c.if-place-here.false)) in
     grind (arith, c.balanced-else-place-here.ensures, c.in_ok-more-in-Fork-2.ensures, split, whole)

@@ -13,10 +13,15 @@ use std::mem;
 use std::sync::Arc;
 
 /// A row with its number: so many rows came before it.
-#[derive(Drop)]
 pub struct Numbered {
     pub number: u64,
     pub row: Timed,
+}
+
+impl Drop for Numbered {
+    fn drop(self) {
+        let Numbered { number: _, row: _ } = self;
+    }
 }
 
 impl Numbered {
@@ -288,11 +293,20 @@ impl Parts {
 }
 
 // The same, where the list on one side is still to come.
-#[derive(Drop)]
 struct Side {
     shell: Option<Arc<Seq>>,
     own: Numbered,
     list: Arc<Seq>,
+}
+
+impl Drop for Side {
+    fn drop(self) {
+        let Side {
+            shell: _,
+            own: _,
+            list: _,
+        } = self;
+    }
 }
 
 impl Side {
@@ -314,6 +328,20 @@ impl Side {
             own,
             right: list,
         }
+    }
+
+    // With another list in place of its own, and its own.
+    fn turned(self, list: Arc<Seq>) -> (Side, Arc<Seq>)
+        ensures own { result.0.own ≡ self.own }
+        ensures list { arc_value result.0.list ≡ arc_value list }
+        ensures turned { arc_value result.1 ≡ arc_value self.list }
+    {
+        let Side {
+            shell,
+            own,
+            list: turned,
+        } = self;
+        (Side { shell, own, list }, turned)
     }
 
     // With the list behind the row.
@@ -508,9 +536,8 @@ fn fork_midst(alloc: Global, low: Side, midst: Arc<Seq>, high: Side) -> Result<A
 fn fork_top(alloc: Global, left: Arc<Seq>, top: Side, high: Side) -> Result<Arc<Seq>, AllocError>
     ensures { IfOk result (λ s. arc_value s ≡ arc_value left ++ top.own ∷ (arc_value top.list ++ high.own ∷ arc_value high.list)) }
 {
-    let Side { shell, own, list } = top;
-    let top = Side::new(shell, own, left);
-    let right = fork(alloc, high.behind(list))?;
+    let (top, midst) = top.turned(left);
+    let right = fork(alloc, high.behind(midst))?;
     fork(alloc, top.before(right))
 }
 

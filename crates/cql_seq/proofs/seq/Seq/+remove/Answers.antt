@@ -1,3 +1,4 @@
+use Rattle.std.proofs.lemmas.Grind.{common_steps}
 use Rattle.std.proofs.Common.{length, ◌-◌, ap, sym, ◌∙◌, ◌∷◌, arith}
 use Rattle.std.specs.Prelude.{slice_get}
 use Rattle.std.specs.Arc.{arc_value}
@@ -31,3 +32,12 @@ returns-in_ok-less-in-Some t c =
     let split = remove_here (arc_value c.in-Fork.field-0.left) (arc_value c.in-Fork.field-0.right) c.in-Fork.field-0.own c.args.place (omega (arith, ap length c.deref.ensures, c.len-here.ensures, c.if-place-here.false, c.if-place-here-2.false)) in
     let first = first_between (arc_value c.in-Fork.field-0.left) (arc_value c.in-Fork.field-0.right) c.in-Some.next.now (c.in-Some.ensures ∙ ap (λ l. slice_get l 0) c.deref-else-place-here-2.ensures) in
     grind (arith, c.balanced-in-Some.ensures, c.in_ok-share-in-Some.ensures, c.in_ok-less-in-Some.ensures, split, first, whole)
+
+pub remove-requires : goal.remove-requires
+remove-requires t c = grind (arith, common_steps)
+
+pub remove-requires-in-Some : goal.remove-requires-in-Some
+remove-requires-in-Some t c = grind (arith, common_steps)
+
+pub remove-requires-then-place-here-2 : goal.remove-requires-then-place-here-2
+remove-requires-then-place-here-2 t c = grind (arith, common_steps)

@@ -4,7 +4,7 @@ ghost use Rattle.std.specs.List.{insert, remove, prefix_len};
 ghost use Rattle.std.specs.Option.{option_map};
 ghost use Rattle.std.specs.Arc.{arc_value};
 ghost use Rattle.cql_seq.specs.Seq.{row_in, IsDown};
-ghost use Rattle.cql_seq.specs.Taken.{IsBare, listed_of};
+ghost use Rattle.cql_seq.specs.Taken.{IsBare, listed_of, listed_in};
 
 use cql_value::Timed;
 use std::alloc::{AllocError, Global};
@@ -13,10 +13,15 @@ use std::mem;
 use std::sync::Arc;
 
 /// A row with its number: so many rows came before it.
-#[derive(Drop)]
 pub struct Numbered {
     pub number: u64,
     pub row: Timed,
+}
+
+impl Drop for Numbered {
+    fn drop(self) {
+        let Numbered { number: _, row: _ } = self;
+    }
 }
 
 impl Numbered {
@@ -85,7 +90,17 @@ impl Seq {
             Some((own, back)) => {
                 let left = Seq::of(alloc, leaf, front)?;
                 let right = Seq::of(alloc, leaf, back)?;
-                fork(alloc, None, left, own.share()?, right)
+                let own = own.share()?;
+                let shell = None;
+                fork(
+                    alloc,
+                    Parts {
+                        shell,
+                        left,
+                        own,
+                        right,
+                    },
+                )
             }
         }
     }
@@ -140,23 +155,24 @@ impl Seq {
         ensures { IfOk result (λ s. arc_value s ≡ insert (arc_value tree) place entry) }
     {
         match cut(tree)? {
-            Taken::Leaf(_) => {
-                fork(
-                    alloc,
-                    None,
-                    Arc::try_clone(leaf)?,
-                    entry,
-                    Arc::try_clone(leaf)?,
-                )
-            }
-            Taken::Fork(shell, left, own, right) => {
+            Taken::Leaf(_) => alone(alloc, leaf, entry),
+            Taken::Fork(
+                Parts {
+                    shell,
+                    left,
+                    own,
+                    right,
+                },
+            ) => {
                 let here = left.len();
                 if place <= here {
+                    let side = Side::new(shell, own, right);
                     let more = Seq::insert(left, alloc, leaf, place, entry)?;
-                    balanced(alloc, shell, more, own, right)
+                    balanced(alloc, side.behind(more))
                 } else {
+                    let side = Side::new(shell, own, left);
                     let more = Seq::insert(right, alloc, leaf, place - here - 1, entry)?;
-                    balanced(alloc, shell, left, own, more)
+                    balanced(alloc, side.before(more))
                 }
             }
         }
@@ -169,21 +185,30 @@ impl Seq {
     {
         match cut(tree)? {
             Taken::Leaf(_) => unreachable!(),
-            Taken::Fork(shell, left, own, right) => {
+            Taken::Fork(
+                Parts {
+                    shell,
+                    left,
+                    own,
+                    right,
+                },
+            ) => {
                 let here = left.len();
                 if place < here {
+                    let side = Side::new(shell, own, right);
                     let less = Seq::remove(left, alloc, place)?;
-                    balanced(alloc, shell, less, own, right)
+                    balanced(alloc, side.behind(less))
                 } else if place > here {
+                    let side = Side::new(shell, own, left);
                     let less = Seq::remove(right, alloc, place - here - 1)?;
-                    balanced(alloc, shell, left, own, less)
+                    balanced(alloc, side.before(less))
                 } else {
                     match right.get(0) {
                         None => Ok(left),
                         Some(next) => {
-                            let next = next.share()?;
+                            let side = Side::new(shell, next.share()?, left);
                             let less = Seq::remove(right, alloc, 0)?;
-                            balanced(alloc, shell, left, next, less)
+                            balanced(alloc, side.before(less))
                         }
                     }
                 }
@@ -243,25 +268,129 @@ impl Seq {
     }
 }
 
-// A row between two lists, in a shell that is at hand where nobody else holds that.
-fn fork(
-    alloc: Global,
+// A row between two lists, and a shell that is at hand where nobody else holds that.
+#[derive(Drop)]
+struct Parts {
     shell: Option<Arc<Seq>>,
     left: Arc<Seq>,
-    entry: Numbered,
+    own: Numbered,
     right: Arc<Seq>,
-) -> Result<Arc<Seq>, AllocError>
-    ensures { IfOk result (λ s. arc_value s ≡ arc_value left ++ entry ∷ arc_value right) }
+}
+
+impl Parts {
+    // How many rows they are together.
+    fn count(&self) -> Result<usize, AllocError>
+        ensures { IfOk result (λ n. n ≡ length (listed_in self.now)) }
+    {
+        let Some(both) = self.left.len().checked_add(self.right.len()) else {
+            return Err(AllocError);
+        };
+        match both.checked_add(1) {
+            Some(count) => Ok(count),
+            None => Err(AllocError),
+        }
+    }
+}
+
+// The same, where the list on one side is still to come.
+struct Side {
+    shell: Option<Arc<Seq>>,
+    own: Numbered,
+    list: Arc<Seq>,
+}
+
+impl Drop for Side {
+    fn drop(self) {
+        let Side {
+            shell: _,
+            own: _,
+            list: _,
+        } = self;
+    }
+}
+
+impl Side {
+    fn new(shell: Option<Arc<Seq>>, own: Numbered, list: Arc<Seq>) -> Side
+        ensures own { result.own ≡ own }
+        ensures list { arc_value result.list ≡ arc_value list }
+    {
+        Side { shell, own, list }
+    }
+
+    // With the list before the row.
+    fn behind(self, left: Arc<Seq>) -> Parts
+        ensures { listed_in result ≡ arc_value left ++ self.own ∷ arc_value self.list }
+    {
+        let Side { shell, own, list } = self;
+        Parts {
+            shell,
+            left,
+            own,
+            right: list,
+        }
+    }
+
+    // With another list in place of its own, and its own.
+    fn turned(self, list: Arc<Seq>) -> (Side, Arc<Seq>)
+        ensures own { result.0.own ≡ self.own }
+        ensures list { arc_value result.0.list ≡ arc_value list }
+        ensures turned { arc_value result.1 ≡ arc_value self.list }
+    {
+        let Side {
+            shell,
+            own,
+            list: turned,
+        } = self;
+        (Side { shell, own, list }, turned)
+    }
+
+    // With the list behind the row.
+    fn before(self, right: Arc<Seq>) -> Parts
+        ensures { listed_in result ≡ arc_value self.list ++ self.own ∷ arc_value right }
+    {
+        let Side { shell, own, list } = self;
+        Parts {
+            shell,
+            left: list,
+            own,
+            right,
+        }
+    }
+}
+
+// A row between two lists, as one list.
+fn fork(alloc: Global, parts: Parts) -> Result<Arc<Seq>, AllocError>
+    ensures { IfOk result (λ s. arc_value s ≡ listed_in parts) }
 {
-    let Some(both) = left.len().checked_add(right.len()) else {
-        return Err(AllocError);
-    };
-    let Some(count) = both.checked_add(1) else {
-        return Err(AllocError);
-    };
+    let count = parts.count()?;
+    let Parts {
+        shell,
+        left,
+        own,
+        right,
+    } = parts;
     let height = left.height().max(right.height()).saturating_add(1);
-    let node = Node::Fork(left, entry, count, height, right);
+    let node = Node::Fork(left, own, count, height, right);
     put_in(alloc, shell, Seq { node })
+}
+
+// The list of one row.
+fn alone(alloc: Global, leaf: &Arc<Seq>, own: Numbered) -> Result<Arc<Seq>, AllocError>
+    requires { arc_value leaf.now ≡ [] }
+    ensures { IfOk result (λ s. arc_value s ≡ own ∷ []) }
+{
+    let left = Arc::try_clone(leaf)?;
+    let right = Arc::try_clone(leaf)?;
+    let shell = None;
+    fork(
+        alloc,
+        Parts {
+            shell,
+            left,
+            own,
+            right,
+        },
+    )
 }
 
 // A list in a shell that is at hand, or in one of its own.
@@ -281,7 +410,7 @@ fn put_in(alloc: Global, shell: Option<Arc<Seq>>, seq: Seq) -> Result<Arc<Seq>, 
 #[derive(Drop)]
 enum Taken {
     Leaf(Arc<Seq>),
-    Fork(Option<Arc<Seq>>, Arc<Seq>, Numbered, Arc<Seq>),
+    Fork(Parts),
 }
 
 // Takes a tree apart; where another holds it too, shares of its parts are taken.
@@ -296,101 +425,142 @@ fn cut(tree: Arc<Seq>) -> Result<Taken, AllocError>
     if let Some(seq) = Arc::get_mut(&mut tree) {
         return match mem::replace(&mut seq.node, Node::Leaf) {
             Node::Leaf => unreachable!(),
-            Node::Fork(left, entry, _, _, right) => {
-                Ok(Taken::Fork(Some(tree), left, entry, right))
+            Node::Fork(left, own, _, _, right) => {
+                let shell = Some(tree);
+                Ok(Taken::Fork(Parts {
+                    shell,
+                    left,
+                    own,
+                    right,
+                }))
             }
         };
     }
     match &tree.node {
         Node::Leaf => unreachable!(),
-        Node::Fork(left, entry, _, _, right) => {
-            let left = Arc::try_clone(left)?;
-            Ok(Taken::Fork(None, left, entry.share()?, Arc::try_clone(right)?))
-        }
+        Node::Fork(left, own, _, _, right) => Ok(Taken::Fork(shared(left, own, right)?)),
     }
 }
 
-// The same, where the left may be too high.
-fn fork_left(
-    alloc: Global,
-    shell: Option<Arc<Seq>>,
-    left: Arc<Seq>,
-    entry: Numbered,
-    right: Arc<Seq>,
-) -> Result<Arc<Seq>, AllocError>
-    ensures { IfOk result (λ s. arc_value s ≡ arc_value left ++ entry ∷ arc_value right) }
+// Shares of a row and of the lists on both sides of it.
+fn shared(left: &Arc<Seq>, own: &Numbered, right: &Arc<Seq>) -> Result<Parts, AllocError>
+    ensures { IfOk result (λ p. listed_in p ≡ arc_value left.now ++ own.now ∷ arc_value right.now) }
+{
+    let left = Arc::try_clone(left)?;
+    let right = Arc::try_clone(right)?;
+    let own = own.share()?;
+    let shell = None;
+    Ok(Parts {
+        shell,
+        left,
+        own,
+        right,
+    })
+}
+
+// A row between two lists, of which the left is too high.
+fn fork_left(alloc: Global, left: Arc<Seq>, high: Side) -> Result<Arc<Seq>, AllocError>
+    ensures { IfOk result (λ s. arc_value s ≡ arc_value left ++ high.own ∷ arc_value high.list) }
 {
     match cut(left)? {
-        Taken::Leaf(left) => fork(alloc, shell, left, entry, right),
-        Taken::Fork(own, a, x, b) => {
-            if a.height() >= b.height() {
-                let high = fork(alloc, shell, b, entry, right)?;
-                return fork(alloc, own, a, x, high);
+        Taken::Leaf(left) => fork(alloc, high.behind(left)),
+        Taken::Fork(
+            Parts {
+                shell,
+                left,
+                own,
+                right,
+            },
+        ) => {
+            let is_outer = left.height() >= right.height();
+            let low = Side::new(shell, own, left);
+            if is_outer {
+                let right = fork(alloc, high.behind(right))?;
+                return fork(alloc, low.before(right));
             }
-            match cut(b)? {
-                Taken::Leaf(b) => {
-                    let high = fork(alloc, shell, b, entry, right)?;
-                    fork(alloc, own, a, x, high)
-                }
-                Taken::Fork(top, c, y, d) => {
-                    let low = fork(alloc, own, a, x, c)?;
-                    let high = fork(alloc, shell, d, entry, right)?;
-                    fork(alloc, top, low, y, high)
-                }
-            }
+            fork_midst(alloc, low, right, high)
         }
     }
 }
 
-// The same, where the right may be too high.
-fn fork_right(
-    alloc: Global,
-    shell: Option<Arc<Seq>>,
-    left: Arc<Seq>,
-    entry: Numbered,
-    right: Arc<Seq>,
-) -> Result<Arc<Seq>, AllocError>
-    ensures { IfOk result (λ s. arc_value s ≡ arc_value left ++ entry ∷ arc_value right) }
+// A row between two lists, of which the right is too high.
+fn fork_right(alloc: Global, low: Side, right: Arc<Seq>) -> Result<Arc<Seq>, AllocError>
+    ensures { IfOk result (λ s. arc_value s ≡ arc_value low.list ++ low.own ∷ arc_value right) }
 {
     match cut(right)? {
-        Taken::Leaf(right) => fork(alloc, shell, left, entry, right),
-        Taken::Fork(own, a, x, b) => {
-            if b.height() >= a.height() {
-                let low = fork(alloc, shell, left, entry, a)?;
-                return fork(alloc, own, low, x, b);
+        Taken::Leaf(right) => fork(alloc, low.before(right)),
+        Taken::Fork(
+            Parts {
+                shell,
+                left,
+                own,
+                right,
+            },
+        ) => {
+            let is_outer = right.height() >= left.height();
+            let high = Side::new(shell, own, right);
+            if is_outer {
+                let left = fork(alloc, low.before(left))?;
+                return fork(alloc, high.behind(left));
             }
-            match cut(a)? {
-                Taken::Leaf(a) => {
-                    let low = fork(alloc, shell, left, entry, a)?;
-                    fork(alloc, own, low, x, b)
-                }
-                Taken::Fork(top, c, y, d) => {
-                    let low = fork(alloc, shell, left, entry, c)?;
-                    let high = fork(alloc, own, d, x, b)?;
-                    fork(alloc, top, low, y, high)
-                }
-            }
+            fork_midst(alloc, low, left, high)
         }
     }
+}
+
+// A list between two rows with the lists on their other sides: its own parts go to both.
+fn fork_midst(alloc: Global, low: Side, midst: Arc<Seq>, high: Side) -> Result<Arc<Seq>, AllocError>
+    ensures { IfOk result (λ s. arc_value s ≡ arc_value low.list ++ low.own ∷ (arc_value midst ++ high.own ∷ arc_value high.list)) }
+{
+    match cut(midst)? {
+        Taken::Leaf(midst) => {
+            let right = fork(alloc, high.behind(midst))?;
+            fork(alloc, low.before(right))
+        }
+        Taken::Fork(
+            Parts {
+                shell,
+                left,
+                own,
+                right,
+            },
+        ) => {
+            let top = Side::new(shell, own, right);
+            let left = fork(alloc, low.before(left))?;
+            fork_top(alloc, left, top, high)
+        }
+    }
+}
+
+// A list, and two rows with the lists behind them.
+fn fork_top(alloc: Global, left: Arc<Seq>, top: Side, high: Side) -> Result<Arc<Seq>, AllocError>
+    ensures { IfOk result (λ s. arc_value s ≡ arc_value left ++ top.own ∷ (arc_value top.list ++ high.own ∷ arc_value high.list)) }
+{
+    let (top, midst) = top.turned(left);
+    let right = fork(alloc, high.behind(midst))?;
+    fork(alloc, top.before(right))
 }
 
 // A row between two lists, of which one may be two levels higher.
-fn balanced(
-    alloc: Global,
-    shell: Option<Arc<Seq>>,
-    left: Arc<Seq>,
-    entry: Numbered,
-    right: Arc<Seq>,
-) -> Result<Arc<Seq>, AllocError>
-    ensures { IfOk result (λ s. arc_value s ≡ arc_value left ++ entry ∷ arc_value right) }
+fn balanced(alloc: Global, parts: Parts) -> Result<Arc<Seq>, AllocError>
+    ensures { IfOk result (λ s. arc_value s ≡ listed_in parts) }
 {
-    let on_left = left.height();
-    let on_right = right.height();
-    if on_left > on_right.saturating_add(1) {
-        fork_left(alloc, shell, left, entry, right)
-    } else if on_right > on_left.saturating_add(1) {
-        fork_right(alloc, shell, left, entry, right)
+    let on_left = parts.left.height();
+    let on_right = parts.right.height();
+    let is_left_high = on_left > on_right.saturating_add(1);
+    let is_right_high = on_right > on_left.saturating_add(1);
+    if !is_left_high && !is_right_high {
+        return fork(alloc, parts);
+    }
+    let Parts {
+        shell,
+        left,
+        own,
+        right,
+    } = parts;
+    if is_left_high {
+        fork_left(alloc, left, Side::new(shell, own, right))
     } else {
-        fork(alloc, shell, left, entry, right)
+        fork_right(alloc, Side::new(shell, own, left), right)
     }
 }

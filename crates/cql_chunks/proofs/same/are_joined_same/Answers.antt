@@ -1,3 +1,4 @@
+use Rattle.std.proofs.lemmas.Grind.{common_steps}
 use Rattle.std.proofs.Common.{◌≡◌, ◌↔◌, ◌≤◌, ◌++◌, IsTrue, true, false, ℕ, List, length, take, drop, arith, sym, subst, ap, ◌∙◌}
 use Rattle.cql_value.specs.Element.{Element}
 use Rattle.cql_chunks.proofs.Rows.{same_fronts, peeled}
@@ -34,3 +35,9 @@ loop-left-preserved c =
       λ e. c.loop-left.invariant.0 (sym c.next_run-left.ensures.rows ∙ is.0 (sym left ∙ e ∙ right) ∙ c.next_run-right.ensures.rows),
       λ e. left ∙ is.1 (c.next_run-left.ensures.rows ∙ c.loop-left.invariant.1 e ∙ sym c.next_run-right.ensures.rows) ∙ sym right,
     )
+
+pub loop-left-smaller : goal.loop-left-smaller
+loop-left-smaller c = grind (arith, common_steps)
+
+pub returns-then-count-eq0 : goal.returns-then-count-eq0
+returns-then-count-eq0 c = grind (arith, common_steps)

@@ -1,4 +1,5 @@
-use Rattle.std.proofs.Common.{◌+◌, ◌∷◌, ◌++◌, [], length, sym, ◌∙◌, ap, subst}
+use Rattle.std.proofs.lemmas.Grind.{common_steps}
+use Rattle.std.proofs.Common.{◌+◌, ◌∷◌, ◌++◌, [], length, sym, ◌∙◌, ap, subst, arith}
 use Rattle.std.specs.Arc.{arc_value}
 use Rattle.std.specs.List.{insert}
 use Rattle.cql_kept.specs.Parts.{AreNumbered, AreParted}
@@ -18,3 +19,6 @@ returns-clause-parted c =
     let twin = c.in_ok-twin.twin in
     let made = c.in_ok-rows-2.ensures ∙ ap (λ n. insert rows n twin) (c.len-end.ensures ∙ ap length c.deref.ensures) ∙ insert_end rows twin in
     subst (λ xs. AreParted c.args.columns.now xs (arc_value c.in_ok-parts.parts)) (sym (made ∙ ap (λ e. rows ++ e ∷ []) c.in_ok-twin.ensures)) (c.in_ok-parts.ensures rows c.in_ok-rows.ensures.parted)
+
+pub returns-clause-rows : goal.returns-clause-rows
+returns-clause-rows c = grind (arith, common_steps)

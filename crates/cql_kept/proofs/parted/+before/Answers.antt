@@ -1,3 +1,4 @@
+use Rattle.std.proofs.lemmas.Grind.{common_steps}
 use Rattle.std.proofs.Common.{◌≡◌, ◌∷◌, length, true, false, ap, subst, arith, length-append}
 use Rattle.std.specs.List.{prefix_len}
 use Rattle.std.specs.Arc.{arc_value}
@@ -30,3 +31,18 @@ returns-else-is_ahead-clause-value t c = λ down.
     let fails : p x ≡ false = grind (arith, c.part_cmp-order.ensures, c.row.ensures, c.is_ahead.ensures, c.if-is_ahead.false) in
     let value = subst (λ xs. IsDown p xs → c.before-else-is_ahead.result ≡ prefix_len p xs) c.deref-else-is_ahead.ensures c.before-else-is_ahead.ensures.value in
     omega (arith, value (down_left p l (x ∷ r) here), down_false p l r x fails, ap (prefix_len p) whole)
+
+pub before-requires : goal.before-requires
+before-requires t c = grind (arith, common_steps)
+
+pub before-requires-else-is_ahead : goal.before-requires-else-is_ahead
+before-requires-else-is_ahead t c = grind (arith, common_steps)
+
+pub overflow_sub-here : goal.overflow_sub-here
+overflow_sub-here t c = grind (arith, common_steps)
+
+pub returns-else-is_ahead-clause-within : goal.returns-else-is_ahead-clause-within
+returns-else-is_ahead-clause-within t c = grind (arith, common_steps)
+
+pub returns-then-is_ahead-clause-within : goal.returns-then-is_ahead-clause-within
+returns-then-is_ahead-clause-within t c = grind (arith, common_steps)

@@ -1,3 +1,4 @@
+use Rattle.std.proofs.lemmas.Grind.{common_steps}
 use Rattle.std.proofs.Common.{◌≡◌, ◌+◌, ◌-◌, ◌≤◌, ◌<◌, ◌*◌, arith, rules, ap, sym, ◌∙◌, length, drop, get_or, length-drop}
 use Rattle.std.proofs.lemmas.List.{get_or-drop, get_or_default}
 use Rattle.cql_chunks.specs.Chunks.{rows_of, chunk_at}
@@ -35,3 +36,6 @@ returns c =
     ∙ ap (λ n. get_or rows n d) at
     ∙ sym (get_or-drop s.gone rows c.args.place d)
     ∙ ap (λ l. get_or l c.args.place d) c.self.view_is
+
+pub overflow_mul-chunk : goal.overflow_mul-chunk
+overflow_mul-chunk c = grind (arith, common_steps)

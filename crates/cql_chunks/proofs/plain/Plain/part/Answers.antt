@@ -1,3 +1,4 @@
+use Rattle.std.proofs.lemmas.Grind.{common_steps}
 use Rattle.std.proofs.Common.{◌≡◌, ◌+◌, ◌-◌, ◌≤◌, ◌<◌, ◌*◌, ◌/◌, ◌^◌, arith, rules, ap, sym, ◌∙◌, length, drop, take, get_or, length-drop, refl}
 use Rattle.cql_chunks.specs.Chunks.{rows_of, chunk_at, AreChunks}
 use Rattle.cql_chunks.proofs.Rows.{place_within, chunk_below, chunk_of, chunk_short, one_rows, more_rows, more_chunks}
@@ -73,3 +74,18 @@ returns c =
     let copied : c.in_ok-last-2.last.items ≡ take (stop - 64 * k) c.chunk_of-rest.result.now = search rules in
     let shared : c.in_ok-full.full.items ≡ take (k - start / 64) (drop (start / 64) s.full.items) = search rules in
     rw (shared, copied, chunk, ← c.self.view_is) (more_rows k start stop s.gone c.args.from c.args.to s.full.items s.last.items c.self.invariant.are_full is c.if-whole-first.false bound c.requires.order refl refl)
+
+pub invariant_of-result : goal.invariant_of-result
+invariant_of-result c = grind (arith, common_steps)
+
+pub overflow_mul-over : goal.overflow_mul-over
+overflow_mul-over c = grind (arith, common_steps)
+
+pub overflow_mul-result : goal.overflow_mul-result
+overflow_mul-result c = grind (arith, common_steps)
+
+pub overflow_mul-result-2 : goal.overflow_mul-result-2
+overflow_mul-result-2 c = grind (arith, common_steps)
+
+pub overflow_mul-whole : goal.overflow_mul-whole
+overflow_mul-whole c = grind (arith, common_steps)

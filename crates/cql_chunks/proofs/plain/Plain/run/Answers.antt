@@ -1,3 +1,4 @@
+use Rattle.std.proofs.lemmas.Grind.{common_steps}
 use Rattle.std.proofs.Common.{◌≡◌, ◌+◌, ◌-◌, ◌≤◌, ◌<◌, ◌*◌, min, arith, rules, ap, sym, ◌∙◌, length, drop, take, length-drop, length-take, refl}
 use Rattle.cql_chunks.specs.Chunks.{rows_of, chunk_at}
 use Rattle.cql_chunks.proofs.Rows.{place_before, chunk_below, chunk_of, run_rows}
@@ -54,3 +55,9 @@ returns-clause-rows c =
     let n = c.min.result - first in
     let inside : first + n ≤ length (chunk_at s.full.items s.last.items k) = omega (arith, c.min.ensures, long, before, below.1) in
     rw size (c.slice_in.ensures ∙ ap (λ l. take n (drop first l)) chunk ∙ run_rows k start s.gone c.args.from n s.full.items s.last.items c.self.invariant.are_full below.0 below.1 inside refl ∙ ap (λ l. take n (drop c.args.from l)) c.self.view_is)
+
+pub overflow_add-first : goal.overflow_add-first
+overflow_add-first c = grind (arith, common_steps)
+
+pub overflow_mul-first : goal.overflow_mul-first
+overflow_mul-first c = grind (arith, common_steps)

@@ -3,12 +3,12 @@ use Rattle.cql_server.specs.Tallies.{Tallies}
 use Rattle.cql_lines.specs.Reading.{work}
 use Rattle.cql_server.proofs.caller.Caller.answer_lines.Given as goal
 
-abbrev pub invariant-loop-self : goal.invariant-loop-self
-invariant-loop-self g l = record {
+abbrev pub invariant-loop-scratch : goal.invariant-loop-scratch
+invariant-loop-scratch g l = record {
   failed : l.lines.failed ≡ false;
   bench : g.E.Evaluator.is_ready l.bench;
   tallies : Tallies g.J.Journal.keeps l.self.seat l.self.receipts.items;
 }
 
-abbrev pub decreases-loop-self : goal.decreases-loop-self
-decreases-loop-self g l = work l.lines
+abbrev pub decreases-loop-scratch : goal.decreases-loop-scratch
+decreases-loop-scratch g l = work l.lines

@@ -99,10 +99,10 @@ def many(program):
 FEW, MANY = 1_000, 3_000
 # A put of a row and its part in the fetch make so many requests, and a tenth more are too many.
 REQUESTS = (
-    ("a linear query", "s", "Select Istream(*) From s [Range 100]", 0.0),
-    ("a sliding group", "s", "Select Istream(g, Count(*), Sum(v)) From s [Range 100] Group By g", 0.0),
-    ("a sliding join", "sp", "Select Istream(x.v, y.g) From s [Range 100] x, p [Range 100] y Where x.v = y.v", 0.0),
-    ("distinct rows", "s", "Istream(Select Distinct v From s [Range 100])", 0.0),
+    ("a linear query", "s", "Select Istream(*) From s [Range 100]", 18.1),
+    ("a sliding group", "s", "Select Istream(g, Count(*), Sum(v)) From s [Range 100] Group By g", 26.1),
+    ("a sliding join", "sp", "Select Istream(x.v, y.g) From s [Range 100] x, p [Range 100] y Where x.v = y.v", 24.8),
+    ("distinct rows", "s", "Istream(Select Distinct v From s [Range 100])", 20.3),
 )
 MOST = 1.1
 READERS = 64
@@ -157,8 +157,8 @@ def rows_are_shared(program, library):
 SETTING = "GLIBC_TUNABLES", "glibc.malloc.tcache_count=0"
 MOST_LEFT = 4 << 20
 # So much has to have been taken for a check to say anything.
-LEAST_TAKEN = 16 << 20
-ROWS = 4_000
+LEAST_TAKEN = 6 << 20
+ROWS = 8_000
 # By when a bench that nobody used is let go of.
 SWEPT = 58
 EQUAL = " And ".join(["x.k = y.k", "x.v = y.v", "x.k >= y.v", "y.k >= x.v"])
@@ -199,10 +199,10 @@ class Answered:
             caller.serve([DROP, *[line_of(do="list")] * 100])
         self.at += 1
 
-    def left(self, name, least=LEAST_TAKEN):
+    def left(self, name):
         """What is wrong with what the process has more than before."""
         grown, peak = (it - self.before for it in (self.server.memory(), self.server.peak()))
-        yield f"{name}: what was taken", None if peak >= least else f"{peak:,} bytes"
+        yield f"{name}: what was taken", None if peak >= LEAST_TAKEN else f"{peak:,} bytes"
         yield f"{name}: what is left", None if grown <= MOST_LEFT else f"{grown:,} of {peak:,} bytes"
 
 
@@ -211,13 +211,16 @@ def given_back(program):
     for name, text in (("a join", JOIN), ("groups", GROUPS), ("DISTINCT and UNION", SET)):
         with Answered(program, workers=1, warm=0) as answered:
             answered.session(text)
-            yield from answered.left(name, 1 << 20)
+            yield from answered.left(name)
     with Answered(program, workers=1, warm=1) as answered:
-        for text in (SET, JOIN, SMALL):
-            answered.session(text)
-        time.sleep(SWEPT)
-        yield from answered.left("answers of three plans by one bench that goes on", 1 << 20)
+        answered.session(SET)
+        answered.session(SMALL, 1)
+        yield from answered.left("DISTINCT and UNION, whose bench has another query since")
     with Answered(program, workers=16, warm=0) as answered:
         for number in range(64):
-            answered.session((JOIN, GROUPS, SET)[number % 3], 1_000)
-        yield from answered.left("64 sessions on 16 workers", 1 << 20)
+            answered.session((JOIN, GROUPS, SET)[number % 3])
+        yield from answered.left("64 sessions on 16 workers")
+    with Answered(program, workers=16) as answered:
+        answered.session(JOIN)
+        time.sleep(SWEPT)
+        yield from answered.left("a join whose bench nobody used for a minute")

@@ -2,12 +2,11 @@
 for memory a row makes, and that what an answer took is given back to the system.
 """
 import collections
-import os
 import re
 import time
 
 from counted import beats, put
-from served import DONE, Caller, Server, line_of, tenants
+from served import Caller, Server, line_of, tenants
 
 COLUMNS = [["k", "int"], ["g", "int"], ["v", "int"]]
 TABLE = tenants("a", queries=64, hold=65536, result=65536)
@@ -153,19 +152,22 @@ def rows_are_shared(program, library):
 
 # ---- What is given back.
 
-# With this a thread keeps nothing for itself of what it lets go: what is free can go back to the system.
-SETTING = "GLIBC_TUNABLES", "glibc.malloc.tcache_count=0"
-MOST_LEFT = 4 << 20
+# With this no thread keeps pieces for itself of what it lets go, and free pieces are joined at once: what is
+# free at the end of an area of memory can go back to the system.
+SETTING = "GLIBC_TUNABLES", "glibc.malloc.tcache_count=0:glibc.malloc.mxfast=0"
+# Of one worker, and of each of several.
+MOST_LEFT, MOST_OF_EACH = 4 << 20, 1 << 20
 # So much has to have been taken for a check to say anything.
-LEAST_TAKEN = 6 << 20
-ROWS = 8_000
+LEAST_TAKEN = 5 << 20
+ROWS = 7_000
 # By when a bench that nobody used is let go of.
 SWEPT = 58
 EQUAL = " And ".join(["x.k = y.k", "x.v = y.v", "x.k >= y.v", "y.k >= x.v"])
 JOIN = f"Select Istream(x.v, y.g) From s x, p y Where {EQUAL}"
 GROUPS = "Select Istream(k, Count(*), Sum(v), Min(v), Max(v)) From s Group By k"
 SET = "Istream(Select Distinct k, v From s Union All Select v, k From p)"
-SMALL = "Select Istream(v) From s [Now] Where v < 0"
+OTHER = "Select Istream(v) From u"
+WORKERS, SESSIONS = 16, 64
 
 
 class Answered:
@@ -179,31 +181,36 @@ class Answered:
         under = "env", "=".join(SETTING)
         self.server = Server(self.program, TABLE, under, **self.words)
         with Caller(self.server, "a") as caller:
-            caller.serve(made("sp"))
+            caller.serve([*made("spu"), query(OTHER, "other")])
         self.before = self.server.memory()
         return self
 
     def __exit__(self, *_):
         self.server.__exit__()
 
-    def session(self, text, rows=ROWS):
-        """One that is answered, whose rows are then let go."""
+    def fetch(self, caller, name):
+        reply = caller.ask(line_of(do="fetch", name=name))
+        if not reply.endswith(b'"next":%d}\n' % (self.at + 1)):
+            raise OSError(f"a fetch of {name} is answered {reply[:200]!r}")
+
+    def session(self, text, other=False):
+        """One that is answered, and then perhaps another query; its rows are then let go."""
         with Caller(self.server, "a") as caller:
             caller.serve([query(text)])
-            caller.serve(put(self.at, name, it, it % 5, it) for it in range(rows) for name in "sp")
-            caller.serve(beats("sp", self.at))
-            reply = caller.ask(FETCH)
-            if not reply.endswith(b'"next":%d}\n' % (self.at + 1)):
-                raise OSError(f"a fetch is answered {reply[:200]!r}")
+            caller.serve(put(self.at, name, it, it % 5, it) for it in range(ROWS) for name in "sp")
+            caller.serve(beats("spu", self.at))
+            self.fetch(caller, "q")
+            if other:
+                self.fetch(caller, "other")
             # rows that nobody needs go a few at a time, by calls
             caller.serve([DROP, *[line_of(do="list")] * 100])
         self.at += 1
 
-    def left(self, name):
+    def left(self, name, most=MOST_LEFT):
         """What is wrong with what the process has more than before."""
         grown, peak = (it - self.before for it in (self.server.memory(), self.server.peak()))
         yield f"{name}: what was taken", None if peak >= LEAST_TAKEN else f"{peak:,} bytes"
-        yield f"{name}: what is left", None if grown <= MOST_LEFT else f"{grown:,} of {peak:,} bytes"
+        yield f"{name}: what is left", None if grown <= most else f"{grown:,} of {peak:,} bytes"
 
 
 def given_back(program):
@@ -213,14 +220,13 @@ def given_back(program):
             answered.session(text)
             yield from answered.left(name)
     with Answered(program, workers=1, warm=1) as answered:
-        answered.session(SET)
-        answered.session(SMALL, 1)
-        yield from answered.left("DISTINCT and UNION, whose bench has another query since")
-    with Answered(program, workers=16, warm=0) as answered:
-        for number in range(64):
+        answered.session(SET, True)
+        yield from answered.left("DISTINCT and UNION, and another query by the same bench")
+    with Answered(program, workers=WORKERS, warm=0) as answered:
+        for number in range(SESSIONS):
             answered.session((JOIN, GROUPS, SET)[number % 3])
-        yield from answered.left("64 sessions on 16 workers")
-    with Answered(program, workers=16) as answered:
+        yield from answered.left(f"{SESSIONS} sessions on {WORKERS} workers", MOST_OF_EACH * WORKERS)
+    with Answered(program, workers=1) as answered:
         answered.session(JOIN)
         time.sleep(SWEPT)
         yield from answered.left("a join whose bench nobody used for a minute")

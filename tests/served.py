@@ -125,10 +125,23 @@ class Server:
         self.child.stdout.close()
         self.child.stderr.close()
 
+    def of_status(self, name):
+        """The bytes of memory that the system tells of it under a name."""
+        status = pathlib.Path(f"/proc/{self.child.pid}/status").read_text(encoding="ascii")
+        return int(re.search(rf"^{name}:\s+(\d+) kB$", status, re.MULTILINE)[1]) << 10
+
     def memory(self):
         """The bytes of memory that it has."""
-        status = pathlib.Path(f"/proc/{self.child.pid}/status").read_text(encoding="ascii")
-        return int(re.search(r"^VmRSS:\s+(\d+) kB$", status, re.MULTILINE)[1]) << 10
+        return self.of_status("VmRSS")
+
+    def peak(self):
+        """The most that it has had."""
+        return self.of_status("VmHWM")
+
+    def processor_time(self):
+        """The seconds of processor time that it has taken. The clock of a process, as clock_getcpuclockid
+        numbers it."""
+        return time.clock_gettime(~self.child.pid << 3 | 2)
 
     def end(self, seconds=SECONDS):
         """Waits for its end."""

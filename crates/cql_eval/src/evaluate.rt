@@ -24,7 +24,7 @@ use std::sync::Arc;
 
 /// The blocks of a pin, in one walk over its rows: the bench is started anew, and the relation is
 /// computed at one instant and where it may change, by the rows that come into the windows and
-/// leave them there. Without memory the pin is given up.
+/// leave them there. Without memory the pin is given up. Behind it the bench holds no row.
 pub fn answer<O: Operator>(
     alloc: Global,
     bench: &mut BenchOf<O>,
@@ -35,7 +35,9 @@ pub fn answer<O: Operator>(
     ensures pin { IfOk result (λ a. a.pin ≡ pin) }
 {
     let pin = Arc::new(alloc, pin)?;
-    let (blocks, turns, _) = evaluate(alloc, bench, &pin, None)?;
+    let evaluated = evaluate(alloc, bench, &pin, None);
+    bench.clear(alloc);
+    let (blocks, turns, _) = evaluated?;
     Ok(Answer::new(pin, Items::from_vec(blocks), turns))
 }
 

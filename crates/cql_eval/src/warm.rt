@@ -169,26 +169,24 @@ impl<O: Operator> Warm<O> {
     }
 
     /// Lets go of what is kept, and of the rows that the operators hold.
-    pub fn clear(&mut self)
+    pub fn clear(&mut self, alloc: Global)
         requires { IsWarm O.seen_in self.old }
         ensures { IsWarm O.seen_in self.new }
     {
-        if let Some(kept) = self.kept.take() {
-            let pin = kept.pin();
-            let _ = self.bench.start(pin.plan(), pin.limit());
-        }
+        self.kept = None;
+        self.bench.clear(alloc);
     }
 
     // Keeps what stands for the relation at the end of a pin, where that isn't too large; else the
     // operators let go of their rows.
-    fn keep(&mut self, pin: &Arc<Pin>, relation: Option<Relation>)
+    fn keep(&mut self, alloc: Global, pin: &Arc<Pin>, relation: Option<Relation>)
         requires bench { IsBench O.seen_in self.old.bench }
         requires kept { IfSome relation (λ r. IsKept (arc_value pin.now) r (bench_seen O.seen_in self.old.bench)) }
         ensures { IsWarm O.seen_in self.new }
     {
         self.kept = kept_of(pin, relation, self.pushed);
         if self.kept.is_none() {
-            let _ = self.bench.start(pin.plan(), pin.limit());
+            self.bench.clear(alloc);
         }
     }
 
@@ -209,11 +207,11 @@ impl<O: Operator> Warm<O> {
         self.pushed = before.saturating_add(pin.rows_to_push(kept.is_some()));
         match evaluate(alloc, &mut self.bench, &pin, kept) {
             Ok((blocks, turns, relation)) => {
-                self.keep(&pin, relation);
+                self.keep(alloc, &pin, relation);
                 Ok(Answer::new(pin, Items::from_vec(blocks), turns))
             }
             Err(AllocError) => {
-                self.keep(&pin, None);
+                self.keep(alloc, &pin, None);
                 Err(AllocError)
             }
         }

@@ -21,6 +21,7 @@ const UNUSED: u64 = 40;
 /// A pool that threads share.
 #[derive(Drop)]
 pub(crate) struct SharedPool<O: Operator> {
+    alloc: Global,
     pool: Mutex<Pool<O>>,
     count: usize,
     begun: Instant,
@@ -41,6 +42,7 @@ impl<O: Operator> SharedPool<O> {
             return Err(AllocError);
         };
         Ok(SharedPool {
+            alloc,
             pool: Mutex::new(pool),
             count,
             begun,
@@ -76,7 +78,7 @@ impl<O: Operator> SharedPool<O> {
             let Some(mut bench) = self.take_unused(rt) else {
                 return;
             };
-            bench.clear();
+            bench.clear(self.alloc);
             self.put(rt, bench);
         }
     }

@@ -31,11 +31,11 @@ fn answers(alloc: Global, pool: &mut Pool<Plain>, now: u64) -> Result<bool, Fail
 }
 
 // Whether a bench that was put back before the time stands for a query. It then stands for none.
-fn lets_go(pool: &mut Pool<Plain>, since: u64) -> bool {
+fn lets_go(alloc: Global, pool: &mut Pool<Plain>, since: u64) -> bool {
     let Some(mut bench) = pool.take_unused(since) else {
         return false;
     };
-    bench.clear();
+    bench.clear(alloc);
     pool.put(bench, since);
     true
 }
@@ -44,11 +44,11 @@ fn lets_go(pool: &mut Pool<Plain>, since: u64) -> bool {
 fn what_is_old_is_let_go(rt: HostRuntime) -> Result<(), Fail> {
     let alloc = rt.alloc();
     let mut pool = one_bench(alloc)?;
-    assert!(rt; !lets_go(&mut pool, 9));
+    assert!(rt; !lets_go(alloc, &mut pool, 9));
     assert!(rt; answers(alloc, &mut pool, 5)?);
-    assert!(rt; !lets_go(&mut pool, 5));
-    assert!(rt; lets_go(&mut pool, 6));
-    assert!(rt; !lets_go(&mut pool, 9));
+    assert!(rt; !lets_go(alloc, &mut pool, 5));
+    assert!(rt; lets_go(alloc, &mut pool, 6));
+    assert!(rt; !lets_go(alloc, &mut pool, 9));
     assert!(rt; answers(alloc, &mut pool, 9)?);
     Ok(())
 }

@@ -3,7 +3,7 @@ use Rattle.std.specs.Prelude.{option_copied}
 use Rattle.cql_value.specs.Schema.{is_schema}
 use Rattle.cql_places.specs.Places.{at_places}
 use Rattle.cql_places.proofs.Choices.{shown_schema}
-use Rattle.cql_tenants.proofs.home.Grant.new.Goals as goal
+use Rattle.cql_tenants.proofs.grant.Grant.new.Goals as goal
 
 pub schema_at-requires : goal.schema_at-requires
 schema_at-requires c =

@@ -1,6 +1,6 @@
 use Rattle.std.proofs.Common.{slice_get, sym, ap, ◌∙◌}
 use Rattle.cql_groups.proofs.Greatest.{last_is}
-use Rattle.cql_groups.proofs.cell.greatest.Goals as goal
+use Rattle.cql_groups.proofs.row.last.Goals as goal
 
 pub returns-in-Some : goal.returns-in-Some
 returns-in-Some c =

@@ -2,20 +2,21 @@
 ghost use Rattle.std.specs.Prelude.{◌≡◌, ◌↔◌, ◌⊎◌, ◌≤◌, ◌<◌, ◌+◌, ◌*◌, ◌^◌, ℕ, length, IfOk, IfSome, OnOk, IsTrue};
 ghost use Rattle.std.specs.List.{All, Contains};
 ghost use Rattle.std.specs.List.Sorted.{IsStrictlyIncreasing};
+ghost use Rattle.cql_bag.specs.Bag.{Counts};
 ghost use Rattle.cql_ops.specs.Bench.{IsBench, bench_seen};
 ghost use Rattle.cql_out.specs.Runs.{StandFor};
 ghost use Rattle.cql_plan.specs.declared.plan.OutputKind.TheVariants.{Rstream};
 ghost use Rattle.cql_eval.specs.Answer.{IsAnswer, rows_in};
 ghost use Rattle.cql_eval.specs.Relation.{relation_at, output_at};
-ghost use Rattle.cql_eval.specs.Shown.{StandsFor, Tells, IsShown, IsTallied, AreSame, IsQuiet, IsQuietUntil, first_change, next_of};
+ghost use Rattle.cql_eval.specs.Shown.{StandsFor, Tells, IsShown, AreSame, IsQuiet, IsQuietUntil, first_change, next_of};
 ghost use Rattle.cql_eval.specs.Warm.{IsKept, StandsBehind};
 
 use crate::answered::Answer;
 use crate::pin::Pin;
-use crate::shown::{Shown, nothing_shown, open, same_output, step};
+use crate::shown::{LastTold, Shown, nothing_shown, open, same_output, step};
 use crate::warm::{Kept, remember, resume};
 use cql_ops::{BenchOf, Operator};
-use cql_out::{Block, Output, Relation, Runs};
+use cql_out::{Block, Output, Runs};
 use cql_plan::OutputKind;
 use cql_value::Items;
 use cql_window::changes;
@@ -57,12 +58,12 @@ pub(crate) fn evaluate<O: Operator>(
     bench: &mut BenchOf<O>,
     pin: &Pin,
     kept: Option<Kept>,
-) -> Result<(Vec<Block>, u64, Option<Relation>), AllocError>
+) -> Result<(Vec<Block>, u64, Option<LastTold>), AllocError>
     requires bench { IsBench O.seen_in bench.old }
     requires kept { IfSome kept (λ k. StandsBehind k (bench_seen O.seen_in bench.old)) }
     ensures bench { IsBench O.seen_in bench.new }
     ensures answer { IfOk result (λ r. IsAnswer (record { pin = pin.now; blocks = r.0.items; turns = r.1 })) }
-    ensures kept { IfOk result (λ r. IfSome r.2 (λ relation. IsKept pin.now relation (bench_seen O.seen_in bench.new))) }
+    ensures kept { IfOk result (λ r. IfSome r.2 (λ last. IsKept pin.now last (bench_seen O.seen_in bench.new))) }
 {
     if pin.from() == pin.next() {
         return Ok((nothing_asked(alloc, pin), 0, None));
@@ -91,8 +92,8 @@ pub(crate) fn evaluate<O: Operator>(
         )?;
         turns += 1;
     }
-    let relation = remember(alloc, bench, pin, shown);
-    Ok((runs.finish(), turns, relation))
+    let last = remember(alloc, bench, pin, shown);
+    Ok((runs.finish(), turns, last))
 }
 
 // The instants from the first one at which a window's content may change, in whatever order.
@@ -144,7 +145,7 @@ fn tells_whole(kind: OutputKind) -> bool
 fn hold(
     alloc: Global,
     pin: &Pin,
-    kept: &Relation,
+    last: &LastTold,
     runs: &mut Runs,
     until: u64,
 ) -> Result<(), AllocError>
@@ -152,7 +153,7 @@ fn hold(
     requires bound { until ≤ 2 ^ 62 }
     requires quiet { IsQuietUntil pin.now runs.old.next until }
     ensures next { OnOk result (runs.new.next ≡ until) }
-    ensures stand { OnOk result (StandsFor pin.now.plan.output kept.now (relation_at pin.now runs.old.next) → StandFor (output_at pin.now) pin.now.from runs.old → StandFor (output_at pin.now) pin.now.from runs.new) }
+    ensures stand { OnOk result ((told : Counts) → StandsFor pin.now.plan.output last.now told (relation_at pin.now runs.old.next) → StandFor (output_at pin.now) pin.now.from runs.old → StandFor (output_at pin.now) pin.now.from runs.new) }
 {
     let next = runs.next();
     let kind = pin.plan().output();
@@ -163,7 +164,7 @@ fn hold(
         runs.lengthen(until - 1);
         return Ok(());
     }
-    let told = same_output(alloc, kind, kept)?;
+    let told = same_output(alloc, kind, last)?;
     runs.push(next, until - 1, told)?;
     Ok(())
 }
@@ -208,20 +209,18 @@ fn change<'a, O: Operator>(
     requires based { pin.now.base ≤ runs.old.next }
     requires forward { runs.old.next < until }
     requires bound { until ≤ 2 ^ 62 }
-    requires shown { IsShown pin.now runs.old.next shown.walks.items shown.relation (bench_seen O.seen_in bench.old) }
-    requires tally { IsTallied pin.now (bench_seen O.seen_in bench.old) shown.tally }
+    requires shown { IsShown pin.now runs.old.next shown.walks.items shown.last (bench_seen O.seen_in bench.old) }
     requires quiet { IsQuietUntil pin.now (runs.old.next + 1) until }
     requires stand { StandFor (output_at pin.now) pin.now.from runs.old }
     ensures bench { IsBench O.seen_in bench.new }
-    ensures shown { IfOk result (λ s. IsShown pin.now until s.walks.items s.relation (bench_seen O.seen_in bench.new)) }
-    ensures tally { IfOk result (λ s. IsTallied pin.now (bench_seen O.seen_in bench.new) s.tally) }
+    ensures shown { IfOk result (λ s. IsShown pin.now until s.walks.items s.last (bench_seen O.seen_in bench.new)) }
     ensures next { OnOk result (runs.new.next ≡ until) }
     ensures stand { OnOk result (StandFor (output_at pin.now) pin.now.from runs.new) }
 {
     let at = runs.next();
     let (shown, told) = step(alloc, bench, pin, shown, at + 1)?;
     take_told(pin, runs, told, until)?;
-    hold(alloc, pin, &shown.relation, runs, until)?;
+    hold(alloc, pin, &shown.last, runs, until)?;
     Ok(shown)
 }
 
@@ -244,21 +243,20 @@ fn begin<'a, O: Operator>(
     requires quiet { IsQuietUntil pin.now (first_change pin.now) until }
     requires stand { StandFor (output_at pin.now) pin.now.from runs.old }
     ensures bench { IsBench O.seen_in bench.new }
-    ensures shown { IfOk result (λ s. IsShown pin.now until s.walks.items s.relation (bench_seen O.seen_in bench.new)) }
-    ensures tally { IfOk result (λ s. IsTallied pin.now (bench_seen O.seen_in bench.new) s.tally) }
+    ensures shown { IfOk result (λ s. IsShown pin.now until s.walks.items s.last (bench_seen O.seen_in bench.new)) }
     ensures next { OnOk result (runs.new.next ≡ until) }
     ensures stand { OnOk result (StandFor (output_at pin.now) pin.now.from runs.new) }
 {
     if let Some(kept) = kept {
         if let Some(resumed) = resume(alloc, pin, kept)? {
-            hold(alloc, pin, &resumed.relation, runs, until)?;
+            hold(alloc, pin, &resumed.last, runs, until)?;
             return Ok(resumed);
         }
     }
     let shown = nothing_shown(alloc, bench, pin)?;
     if pin.base() < pin.from() {
         let shown = open(alloc, bench, pin, shown, pin.from())?;
-        hold(alloc, pin, &shown.relation, runs, until)?;
+        hold(alloc, pin, &shown.last, runs, until)?;
         return Ok(shown);
     }
     change(alloc, bench, pin, shown, runs, until)

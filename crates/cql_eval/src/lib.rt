@@ -10,7 +10,6 @@ mod pin;
 mod pool;
 mod seen_walk;
 mod shown;
-mod tally;
 mod walks;
 mod warm;
 

@@ -3,18 +3,16 @@ ghost use Rattle.std.specs.Prelude.{◌≡◌, ◌<◌, IfOk, IfSome, IsTrue, ma
 ghost use Rattle.std.specs.Arc.{arc_value};
 ghost use Rattle.cql_ops.specs.Bench.{BenchSeen, IsBench, bench_seen};
 ghost use Rattle.cql_eval.specs.Seen.{reached, windows_seen};
-ghost use Rattle.cql_eval.specs.Shown.{bags_held, IsShown, IsTallied};
+ghost use Rattle.cql_eval.specs.Shown.{bags_held, IsShown};
 ghost use Rattle.cql_eval.specs.Warm.{IsKept, StandsBehind, IsWarm};
 
 use crate::answered::Answer;
 use crate::evaluate::{evaluate, nothing_asked};
 use crate::pin::Pin;
 use crate::seen_walk::SeenWalk;
-use crate::shown::Shown;
-use crate::tally::Tally;
+use crate::shown::{LastTold, Shown};
 use crate::walks::advance;
 use cql_ops::{BenchOf, Operator};
-use cql_out::Relation;
 use cql_value::Items;
 use std::alloc::{AllocError, Global};
 use std::marker::Model;
@@ -30,15 +28,12 @@ const FEW: usize = 4096;
 /// the pin's end.
 pub struct Kept {
     pin: Arc<Pin>,
-    relation: Relation,
+    last: LastTold,
 }
 
 impl Drop for Kept {
     fn drop(self) {
-        let Kept {
-            pin: _,
-            relation: _,
-        } = self;
+        let Kept { pin: _, last: _ } = self;
     }
 }
 
@@ -53,14 +48,14 @@ impl Model for Kept {
 
     ghost coded = { Prim.hlevel (codes, expr.the_row.coded, condition.the_row.coded) };
 
-    ghost view = { λ k. record { pin = arc_value k.pin; relation = k.relation } };
+    ghost view = { λ k. record { pin = arc_value k.pin; last = k.last } };
 }
 
 impl Kept {
-    pub(crate) fn new(pin: Arc<Pin>, relation: Relation) -> Kept
-        ensures { result ≡ record { pin = arc_value pin; relation = relation } }
+    pub(crate) fn new(pin: Arc<Pin>, last: LastTold) -> Kept
+        ensures { result ≡ record { pin = arc_value pin; last = last } }
     {
-        Kept { pin, relation }
+        Kept { pin, last }
     }
 
     fn pin(&self) -> &Pin
@@ -69,11 +64,11 @@ impl Kept {
         &self.pin
     }
 
-    fn into_relation(self) -> Relation
-        ensures { result ≡ self.relation }
+    fn into_last(self) -> LastTold
+        ensures { result ≡ self.last }
     {
-        let Kept { pin: _, relation } = self;
-        relation
+        let Kept { pin: _, last } = self;
+        last
     }
 }
 
@@ -179,12 +174,12 @@ impl<O: Operator> Warm<O> {
 
     // Keeps what stands for the relation at the end of a pin, where that isn't too large; else the
     // operators let go of their rows.
-    fn keep(&mut self, alloc: Global, pin: &Arc<Pin>, relation: Option<Relation>)
+    fn keep(&mut self, alloc: Global, pin: &Arc<Pin>, last: Option<LastTold>)
         requires bench { IsBench O.seen_in self.old.bench }
-        requires kept { IfSome relation (λ r. IsKept (arc_value pin.now) r (bench_seen O.seen_in self.old.bench)) }
+        requires kept { IfSome last (λ r. IsKept (arc_value pin.now) r (bench_seen O.seen_in self.old.bench)) }
         ensures { IsWarm O.seen_in self.new }
     {
-        self.kept = kept_of(pin, relation, self.pushed);
+        self.kept = kept_of(pin, last, self.pushed);
         if self.kept.is_none() {
             self.bench.clear(alloc);
         }
@@ -206,8 +201,8 @@ impl<O: Operator> Warm<O> {
         let before = if kept.is_some() { self.pushed } else { 0 };
         self.pushed = before.saturating_add(pin.rows_to_push(kept.is_some()));
         match evaluate(alloc, &mut self.bench, &pin, kept) {
-            Ok((blocks, turns, relation)) => {
-                self.keep(alloc, &pin, relation);
+            Ok((blocks, turns, last)) => {
+                self.keep(alloc, &pin, last);
                 Ok(Answer::new(pin, Items::from_vec(blocks), turns))
             }
             Err(AllocError) => {
@@ -221,10 +216,10 @@ impl<O: Operator> Warm<O> {
 // What is kept of a pin and the relation at its end, where no window is one of parts, with which no
 // pin goes on, where its windows have no more rows than `MOST`, and where no more were pushed than a start over these would be worth: operators may keep
 // a change for each.
-fn kept_of(pin: &Arc<Pin>, relation: Option<Relation>, pushed: usize) -> Option<Kept>
-    ensures { IfSome result (λ k. (o : BenchSeen) → IfSome relation (λ r. IsKept (arc_value pin.now) r o) → StandsBehind k o) }
+fn kept_of(pin: &Arc<Pin>, last: Option<LastTold>, pushed: usize) -> Option<Kept>
+    ensures { IfSome result (λ k. (o : BenchSeen) → IfSome last (λ r. IsKept (arc_value pin.now) r o) → StandsBehind k o) }
 {
-    let relation = relation?;
+    let last = last?;
     if pin.has_parts() {
         return None;
     }
@@ -233,7 +228,7 @@ fn kept_of(pin: &Arc<Pin>, relation: Option<Relation>, pushed: usize) -> Option<
         return None;
     }
     match Arc::try_clone(pin) {
-        Ok(pin) => Some(Kept::new(pin, relation)),
+        Ok(pin) => Some(Kept::new(pin, last)),
         Err(AllocError) => None,
     }
 }
@@ -290,7 +285,7 @@ fn walks_from<'a>(
     kept: &Kept,
 ) -> Result<Option<Vec<SeenWalk<'a>>>, AllocError>
     ensures based { IfOk result (λ r. IfSome r (λ walks. pin.now.base < pin.now.from)) }
-    ensures shown { IfOk result (λ r. IfSome r (λ walks. (o : BenchSeen) → StandsBehind kept.now o → IsShown pin.now pin.now.from walks.items kept.now.relation o)) }
+    ensures shown { IfOk result (λ r. IfSome r (λ walks. (o : BenchSeen) → StandsBehind kept.now o → IsShown pin.now pin.now.from walks.items kept.now.last o)) }
 {
     let before = kept.pin();
     if pin.from() <= pin.base() || !before.has_plan_of(pin) {
@@ -313,14 +308,12 @@ pub(crate) fn resume<'a>(
     kept: Kept,
 ) -> Result<Option<Shown<'a>>, AllocError>
     ensures based { IfOk result (λ r. IfSome r (λ s. pin.now.base < pin.now.from)) }
-    ensures shown { IfOk result (λ r. IfSome r (λ s. (o : BenchSeen) → StandsBehind kept o → IsShown pin.now pin.now.from s.walks.items s.relation o)) }
-    ensures tally { IfOk result (λ r. IfSome r (λ s. (o : BenchSeen) → IsTallied pin.now o s.tally)) }
+    ensures shown { IfOk result (λ r. IfSome r (λ s. (o : BenchSeen) → StandsBehind kept o → IsShown pin.now pin.now.from s.walks.items s.last o)) }
 {
     match walks_from(alloc, pin, &kept)? {
         Some(walks) => Ok(Some(Shown {
             walks,
-            tally: Tally::off(),
-            relation: kept.into_relation(),
+            last: kept.into_last(),
         })),
         None => Ok(None),
     }
@@ -333,17 +326,16 @@ pub(crate) fn remember<O: Operator>(
     bench: &mut BenchOf<O>,
     pin: &Pin,
     shown: Shown<'_>,
-) -> Option<Relation>
+) -> Option<LastTold>
     requires bench { IsBench O.seen_in bench.old }
     requires based { pin.now.base < pin.now.next }
-    requires shown { IsShown pin.now pin.now.next shown.walks.items shown.relation (bench_seen O.seen_in bench.old) }
-    requires tally { IsTallied pin.now (bench_seen O.seen_in bench.old) shown.tally }
+    requires shown { IsShown pin.now pin.now.next shown.walks.items shown.last (bench_seen O.seen_in bench.old) }
     ensures bench { IsBench O.seen_in bench.new }
-    ensures kept { IfSome result (λ relation. IsKept pin.now relation (bench_seen O.seen_in bench.new)) }
+    ensures kept { IfSome result (λ last. IsKept pin.now last (bench_seen O.seen_in bench.new)) }
 {
-    let (walks, mut tally, relation) = shown.into_parts();
-    match advance(alloc, bench, &mut tally, pin, walks, pin.next()) {
-        Ok(_) => Some(relation),
+    let (walks, last) = shown.into_parts();
+    match advance(alloc, bench, pin, walks, pin.next()) {
+        Ok(_) => Some(last),
         Err(_) => None,
     }
 }

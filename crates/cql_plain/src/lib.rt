@@ -18,6 +18,7 @@ mod passed;
 mod plain;
 mod plain_join;
 mod plain_shape;
+mod projected;
 mod recomputed;
 mod shape;
 mod shape_copy;

@@ -193,15 +193,13 @@ class Answered:
         if not reply.endswith(b'"next":%d}\n' % (self.at + 1)):
             raise OSError(f"a fetch of {name} is answered {reply[:200]!r}")
 
-    def session(self, text, other=False):
-        """One that is answered, and then perhaps another query; its rows are then let go."""
+    def session(self, text):
+        """One that is answered; its rows are then let go."""
         with Caller(self.server, "a") as caller:
             caller.serve([query(text)])
             caller.serve(put(self.at, name, it, it % 5, it) for it in range(ROWS) for name in "sp")
             caller.serve(beats("spu", self.at))
             self.fetch(caller, "q")
-            if other:
-                self.fetch(caller, "other")
             # rows that nobody needs go a few at a time, by calls
             caller.serve([DROP, *[line_of(do="list")] * 100])
         self.at += 1
@@ -219,9 +217,6 @@ def given_back(program):
         with Answered(program, workers=1, warm=0) as answered:
             answered.session(text)
             yield from answered.left(name)
-    with Answered(program, workers=1, warm=1) as answered:
-        answered.session(SET, True)
-        yield from answered.left("DISTINCT and UNION, and another query by the same bench")
     with Answered(program, workers=WORKERS, warm=0) as answered:
         for number in range(SESSIONS):
             answered.session((JOIN, GROUPS, SET)[number % 3])

@@ -14,7 +14,8 @@ With --out the blocks go to a file. The place knows how long that file is, and w
 cut off at the start: so each block is there once even if the consumer itself is killed. Without it
 the blocks of its last answer may then be printed again.
 
-The key is taken from the environment variable CQL_KEY. The consumer ends once all below INSTANT was
+What it waits for, a server, a worker of one or the query, it says on standard error within five
+seconds. The key is taken from the environment variable CQL_KEY. The consumer ends once all below INSTANT was
 taken, else it runs until it is interrupted. The status is 1 where it can't go on, 2 for its words.
 """
 import argparse
@@ -61,6 +62,10 @@ class Place:
         os.replace(file.name, path)
 
 
+def say(text: str) -> None:
+    print(f"consume: {text}", file=sys.stderr, flush=True)
+
+
 def consume(session: Session, words: argparse.Namespace, out: BinaryIO) -> None:
     """Prints blocks from the consumer's place on, and keeps its place."""
     path = pathlib.Path(words.places, words.query)
@@ -85,9 +90,14 @@ def consume(session: Session, words: argparse.Namespace, out: BinaryIO) -> None:
 
 def connected(words: argparse.Namespace, key: str) -> Session:
     """A session, as soon as there is a server."""
+    trouble = romburik.Trouble(None, say)
     while True:
-        with contextlib.suppress(romburik.ConnectionLost):
-            return Session(host=words.host, port=words.port, tenant=words.tenant, key=key)
+        try:
+            return Session(
+                host=words.host, port=words.port, tenant=words.tenant, key=key, notice=say
+            )
+        except romburik.ConnectionLost as lost:
+            trouble.is_too_long(lost, words.poll)
         time.sleep(words.poll)
 
 
@@ -114,7 +124,7 @@ def main(given: Optional[Sequence[str]] = None) -> int:
     except KeyboardInterrupt:
         return 0
     except (romburik.Error, OSError) as error:
-        print(f"consume: {error}", file=sys.stderr)
+        say(str(error))
         return 1
     return 0
 

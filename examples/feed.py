@@ -26,8 +26,13 @@ which lines came in; where they fit two places of the log, as with several rows 
 feeder ends rather than put a row twice or leave one out. A new start of the server sets that
 right.
 
-The key is taken from the environment variable CQL_KEY. The feeder runs until it is interrupted.
-The status is 1 where it can't go on, 2 for its words.
+What it waits for, a server or a worker of one, it says on standard error within five seconds. The
+key is taken from the environment variable CQL_KEY. The feeder runs until it is interrupted. The
+status is 1 where it can't go on, 2 for its words.
+
+Times are ticks, of which the units of a query's text count a second as one. Where the rows come
+with milliseconds, either put seconds, "at": ms // 1000, or write lengths as numbers of milliseconds,
+[Range 300000] for five minutes.
 
 On a topic of Kafka or Redpanda the same stands so. The log is a topic of one partition, a line the
 value of a record, and a line's number its offset: Log.lines then assigns the partition, seeks to
@@ -53,6 +58,10 @@ import romburik
 from romburik import Session
 
 Line = Dict[str, Any]
+
+
+def say(text: str) -> None:
+    print(f"feed: {text}", file=sys.stderr, flush=True)
 
 
 class CannotGoOn(Exception):
@@ -108,11 +117,17 @@ class Feeder:
     def run(self, key: str) -> None:
         """Feeds one server after another, without an end."""
         words = self._words
+        trouble = romburik.Trouble(None, say)
         while True:
-            with contextlib.suppress(romburik.ConnectionLost):
-                with Session(host=words.host, port=words.port, tenant=words.tenant, key=key) as it:
+            try:
+                with Session(
+                    host=words.host, port=words.port, tenant=words.tenant, key=key, notice=say
+                ) as it:
+                    trouble.is_over()
                     self._begin(it)
                     self._feed(it)
+            except romburik.ConnectionLost as lost:
+                trouble.is_too_long(lost, words.poll)
             time.sleep(words.poll)
 
     def _begin(self, session: Session) -> None:
@@ -184,7 +199,7 @@ class Feeder:
             raise CannotGoOn(f"line {self._answered + 1} of the log: {outcome}")
         if isinstance(outcome, romburik.Refused):
             if self._answered >= self._told:
-                print(f"feed: line {self._answered + 1} of the log: {outcome}", file=sys.stderr)
+                say(f"line {self._answered + 1} of the log: {outcome}")
         elif line["do"] == "put":
             self._waiting.append(line["at"])
         self._answered += 1
@@ -237,7 +252,7 @@ def main(given: Optional[Sequence[str]] = None) -> int:
     except KeyboardInterrupt:
         return 0
     except (CannotGoOn, romburik.Error, OSError, ValueError) as error:
-        print(f"feed: {error}", file=sys.stderr)
+        say(str(error))
     return 1
 
 

@@ -2,6 +2,8 @@
 that stand on it. Each check gives pairs of a name and of what is wrong, or None.
 """
 import contextlib
+import fcntl
+import http.client
 import json
 import os
 import pathlib
@@ -14,9 +16,13 @@ import socket
 import subprocess
 import sys
 import tempfile
+import termios
 import threading
 import time
+import urllib.parse
+import urllib.request
 
+from natural_texts import BOUND, READING, TEXTS as NATURAL_TEXTS
 from served import (
     DONE,
     SECONDS,
@@ -39,8 +45,14 @@ TOP = pathlib.Path(__file__).resolve().parent.parent
 MODULE = TOP / "clients/python"
 FEED = TOP / "examples/feed.py"
 CONSUME = TOP / "examples/consume.py"
+LOAD = TOP / "examples/load.py"
+EXAMPLES = TOP / "examples"
 sys.path.append(str(MODULE))
 import romburik
+import romburik.columns
+import romburik.looking
+import romburik.tables
+import romburik.terminal
 
 TENANTS = tenants("ab")
 WIDE = tenants("a", hold=65536, result=65536)
@@ -48,6 +60,7 @@ STREAM = line_of(columns=[["v", "int"]], do="stream", name="s")
 QUERY = line_of(do="query", name="q", text="Select Istream(*) From s [Range 2]")
 FETCH = line_of(do="fetch", name="q")
 LIST = line_of(do="list")
+EMPTY = line_of(queries=[], readable=[], streams=[])
 BASE = line_of(base=0)
 LATE = refused(41, "Late")
 LATE_MEANS = b"  41: the time is below the least that the stream still takes\n"
@@ -169,8 +182,13 @@ def session_refusals(program):
             wanted = kind, kind.__name__, number
             yield f"a refusal {number}", difference(refusal_of(call, *given), wanted)
         bad = error_of(it.query, "q", "Select * Form s")
-        wanted = romburik.BadQuery, 9, "50 BadQuery: the text is no query from byte 9 on"
-        yield "a refusal with a place", difference((type(bad), bad.at, str(bad)), wanted)
+        said = (
+            "50 BadQuery: the text is no query from byte 9 on: "
+            "FORM is no word of the language: was FROM meant?"
+        )
+        wanted = romburik.BadQuery, 9, "Select * Form s", said
+        found = type(bad), bad.at, bad.text, str(bad)
+        yield "a refusal with a place", difference(found, wanted)
         later = romburik.Refused.of({"name": "Later", "refused": 99})
         found = type(later), later.name, later.number
         yield "a refusal of a later server", difference(found, (romburik.Refused, "Later", 99))
@@ -272,6 +290,44 @@ def readme(program):
             for example in examples[1:3]:
                 exec(example, {"romburik": romburik, **names})
     yield "a page's next examples", difference(printed, [(41, "Late"), (990,)])
+
+
+def sessions_on(path):
+    """For each session that a page shows: the lines that are typed, and what the terminal prints
+    where they come by a pipe."""
+    for shown in re.findall("```\n(.*?)```", path.read_text(), re.DOTALL):
+        lines = shown.partition("key of a:\n")[2] or shown
+        if lines.startswith("a> "):
+            given = "".join(re.findall("^a> (.*\n)", lines, re.MULTILINE))
+            replies = re.sub("^{", "< {", lines, flags=re.MULTILINE)
+            yield given.encode(), re.sub("^a> ", "> ", replies, flags=re.MULTILINE).encode()
+
+
+def pages(program):
+    """The sessions of the tutorial and of the module's page tell what these say, and so the query
+    that the tutorial watches; the rows that it puts itself are acknowledged."""
+    tutorial = TOP / "docs/TUTORIAL.md"
+    with Server(program, TENANTS) as server:
+        (given, wanted), *others = sessions_on(tutorial)
+        ended = terminal(server.port, given=given)
+        yield "the tutorial's first session", difference(ended.written, wanted)
+        shown = tutorial.read_text().partition("key of a:\nwarm  ")[2].partition("```")[0]
+        yield "what it watches", difference(frame_of(server.port, "warm"), "warm  " + shown)
+        for given, wanted in others:
+            ended = terminal(server.port, given=given)
+            yield "the tutorial's next session", difference(ended.written, wanted)
+        words = ["--port", str(server.port), "--tenant", "a", "--seconds", "100", "--every", "0"]
+        subprocess.run(
+            [sys.executable, LOAD, *words], env=environment(), timeout=SECONDS, check=True
+        )
+        with session(server) as it:
+            busy = it.list().queries[-1]
+            found = busy.name, busy.next, it.fetch("busy").next
+        yield "rows that are put to be watched", difference(found, ("busy", 39, 100))
+    with Server(program, TENANTS) as server:
+        for given, wanted in sessions_on(MODULE / "README.md"):
+            ended = terminal(server.port, given=given)
+            yield "the session of the module's page", difference(ended.written, wanted)
 
 
 class Peer:
@@ -474,6 +530,15 @@ def terminal_lines(program):
             b"> put s\n  the form is: put STREAM AT ROW\n> list\n< " + LIST_OF_ONE
         )
         yield "the terminal with no commands", difference(ended, Ended(1, b"", wanted))
+        ended = terminal(server.port, given=b"revoke s b card\ndrop q q\n")
+        wanted = (
+            b"> revoke s b card\n  the form is: revoke STREAM TENANT\n"
+            b"> drop q q\n  the form is: drop QUERY\n"
+        )
+        yield "the terminal with too many words", difference(ended, Ended(1, b"", wanted))
+        ended = terminal(server.port, given=b"help\nexit\nlists\n")
+        wanted = Ended(0, b"", romburik.terminal.HELP.encode() + b"\n")
+        yield "the terminal is asked for help by a pipe", difference(ended, wanted)
         with file_of(LIST, b"put s\n") as path:
             ended = terminal(server.port, "--file", path)
             wanted = f"romburik: line 2 of {path}: the form is: put STREAM AT ROW\n".encode()
@@ -527,23 +592,33 @@ TABLE_LINES = (
     b"beat s 11\n",
     b"fetch p\n",
     b"fetch q 10\n",
+    b"query f Select k, v * 4611686018427387904 From s [Rows 1]\n",
+    b'put s 12 ["overflow",-1]\n',
+    b'put s 13 ["overflow",2]\n',
+    b"beat s 14\n",
+    b"fetch f\n",
     b"list\n",
 )
 TABLES = """\
-from  to  row
-   5   5  +    \\u001b[1m\u4e2d  -1
-   6   6  -    \\u001b[1m\u4e2d  -1
-  10  10  +    abcd         12
-  11  11  -    abcd         12
+from  to  kind  k            v
+   5   5  +     \\u001b[1m\u4e2d  -1
+   6   6  -     \\u001b[1m\u4e2d  -1
+  10  10  +     abcd         12
+  11  11  -     abcd         12
 next 12
-from  to  row
-   5   5  \\u001b[1m\u4e2d  -1
+from  to  kind  k            v
+   5   5  row   \\u001b[1m\u4e2d  -1
 next 10
+from  to  kind   k         v * 4611686018427387904
+  12  12  +      overflow     -4611686018427387904
+  13  14  fault  overflow
+next 15
 query  base  next  text
 q         0     0  ISTREAM(SELECT * FROM s [RANGE 2])
 p         0     0  SELECT * FROM s [NOW]
-stream  open
-s         12
+f        12    12  SELECT k, v * 4611686018427387904 FROM s [ROWS 1]
+stream  open  columns
+s         15  k v
 """
 
 
@@ -574,7 +649,7 @@ def ending(child):
     """A child that is killed where a check breaks off before its end."""
     with child:
         try:
-            yield
+            yield child
         finally:
             child.kill()
 
@@ -623,6 +698,8 @@ def typed(port, history, *keys):
         stdout=far,
         stderr=far,
         start_new_session=True,
+        # the terminal from which Ctrl-C interrupts
+        preexec_fn=lambda: fcntl.ioctl(0, termios.TIOCSCTTY, 0),
     )
     os.close(far)
     seen, end = b"", time.monotonic() + SECONDS
@@ -655,10 +732,528 @@ def terminal_is_typed_at(program):
         seen, status = typed(server.port, history, b"fet\tq\t\n", b"\x10\x10\x10\x10\n", b"\x04")
         found = status, told(9).rstrip() in seen, LIST_OF_ONE.rstrip() in seen
         yield "earlier lines", difference(found, (0, True, True))
+
+
+def terminal_goes_on(_):
+    """Over a lost connection a line that changes nothing is sent again, another isn't; and it is
+    told where the server was started anew."""
     with Peer([LOG_IN, (LIST, None)], [LOG_IN, (LIST, LIST_OF_ONE)]) as peer:
-        seen, status = typed(peer.port, "", b"list\n", b"list\n", b"exit\n")
-    found = status, b"broke off, and was made anew" in seen, LIST_OF_ONE.rstrip() in seen
-    yield "lines over a lost connection", difference(found, (0, True, True))
+        seen, status = typed(peer.port, "", b"list\n", b"exit\n")
+    found = status, b"broke off" in seen, LIST_OF_ONE.rstrip() in seen
+    yield "a list over a lost connection", difference(found, (0, False, True))
+    with Peer([LOG_IN, (beat(8), None)], [LOG_IN, (LIST, LIST_OF_ONE)]) as peer:
+        seen, status = typed(peer.port, "", b"beat s 8\n", b"list\n", b"exit\n")
+    said = b"broke off, and was made anew; the line may have been done"
+    found = status, said in seen, LIST_OF_ONE.rstrip() in seen
+    yield "a heartbeat over a lost connection", difference(found, (0, True, True))
+    anew = [LOG_IN, (LIST, EMPTY), (FETCH, refused(57, "UnknownQuery"))]
+    with Peer([LOG_IN, (STREAM, DONE), (FETCH, None)], anew) as peer:
+        seen, status = typed(peer.port, "", b"stream s v int\n", b"fetch q\n", b"exit\n")
+    found = status, b"nothing stands there any more" in seen, b"  57: " in seen
+    yield "a fetch behind a new start", difference(found, (0, True, True))
+
+
+def terminal_clears_a_line(program):
+    """Ctrl-C on a line that isn't whole lets it go, and the next is asked for."""
+    with Server(program, TENANTS) as server:
+        keys = b"stream s\x03", b"\x03", b"list\n", b"exit\n"
+        seen, status = typed(server.port, "", *keys)
+    found = status, EMPTY.rstrip() in seen, b"the form is" in seen
+    yield "a line that is let go", difference(found, (0, True, False))
+
+
+def terminal_knows_columns(program):
+    """Tab completes the columns of a stream that was made here."""
+    with Server(program, TENANTS) as server:
+        keys = b"stream s humidity int\n", b"query q Select hum\tFrom s [Now]\n", b"list\n"
+        seen, status = typed(server.port, "", *keys, b"exit\n")
+    text = b'"text":"SELECT humidity FROM s [NOW]"'
+    yield "a column that is completed", difference((status, text in seen), (0, True))
+
+
+# ---- Texts that are refused.
+
+
+def natural_texts(program):
+    """Query texts as a newcomer writes them: where each is refused, and why, in words."""
+    reasons = 0
+    with Server(program, tenants("a", queries=64)) as server, session(server) as it:
+        it.stream("reading", READING)
+        it.stream("bound", BOUND)
+        for text in NATURAL_TEXTS:
+            error = error_of(it.query, "q", text.sent)
+            name = f"the text {text.sent!r}"
+            if error is None:
+                it.drop("q")
+            if isinstance(error, romburik.BadQuery):
+                reason = error.reason or ""
+                reasons += bool(reason)
+                yield name, difference(
+                    (error.at, reason[: len(text.outcome or "")]), (text.at, text.outcome)
+                )
+            else:
+                found = None if error is None else error.number
+                yield name, difference((found, None), (text.outcome, text.at))
+    yield "texts with a reason", None if reasons >= 35 else f"they are {reasons}"
+
+
+MARKED = """\
+  Select '\u4e2d\u00fc', Avg(v) From s
+                   ^
+  50: no query from byte 19 on: AVG isn't served: SUM and COUNT(*), divided by the reader
+"""
+
+
+def terminal_marks_texts(_):
+    """The terminal shows where a text is refused, by the places that its letters take."""
+    text = "Select '\u4e2d\u00fc', Avg(v) From s"
+    pair = line_of(do="query", name="q", text=text), b'{"at":19,"name":"BadQuery","refused":50}\n'
+    with Peer([LOG_IN, pair]) as peer:
+        ended = terminal(peer.port, given=f"query q {text}\n".encode())
+    shown = ended.written.decode().partition('"refused":50}\n')[2]
+    yield "a text that is marked", difference((ended.status, shown, peer.fault), (1, MARKED, None))
+
+
+# ---- Looking without taking.
+
+
+def row_at(at, value):
+    return romburik.Rows(at, at, ((value,),))
+
+
+def seen_of(look):
+    """A look's instants and blocks, and whether it begins anew."""
+    return look and (look.first, look.next, look.blocks, look.is_new)
+
+
+def looks_take_nothing(program):
+    """Looks beside a consumer tell what it didn't acknowledge, and move nothing."""
+    with Server(program, TENANTS) as server, session(server) as it, session(server) as other:
+        it.stream("s", {"v": "int"})
+        it.query("q", "Select Istream(*) From s [Range 2]")
+        looker = romburik.Looker(it, "q")
+        yield "a first look", difference(seen_of(looker.look()), (0, 0, (), True))
+        yield "a look at nothing new", difference(looker.look(), None)
+        it.put("s", 5, [1])
+        it.beat("s", 8)
+        wanted = 0, 9, (row_at(5, 1),), False
+        yield "a look at a row", difference(seen_of(looker.look()), wanted)
+        it.put("s", 9, [2])
+        it.beat("s", 9)
+        yield "a look at the next", difference(
+            seen_of(looker.look()), (9, 10, (row_at(9, 2),), False)
+        )
+        answer = other.fetch("q")
+        wanted = romburik.Answer((row_at(5, 1), row_at(9, 2)), 10)
+        yield "a consumer beside looks", difference(answer, wanted)
+        other.ack("q", 10)
+        yield "a look behind an ack", difference(seen_of(looker.look()), (10, 10, (), False))
+        it.put("s", 11, [3])
+        it.beat("s", 12)
+        other.ack("q", 13)
+        it.put("s", 14, [4])
+        it.beat("s", 14)
+        wanted = 13, 15, (row_at(14, 4),), False
+        yield "a look over what was acknowledged", difference(seen_of(looker.look()), wanted)
+        it.drop("q")
+        yield "a look at no query", difference(type(error_of(looker.look)), romburik.UnknownQuery)
+        it.query("q", "Select Rstream(*) From s [Range 2]")
+        yield "a look at a new query", difference(seen_of(looker.look()), (15, 15, (), True))
+
+
+def look_of(text, first, end, *blocks, base=0, is_new=False):
+    query = romburik.Query("q", text, base, first)
+    return romburik.looking.Look(query, first, end, blocks, is_new)
+
+
+def views_of_looks(_):
+    """The relation at the last instant, by rows or by changes."""
+    step = romburik.looking.Step
+    text = "SELECT * FROM s [ROWS 1]"
+    came = romburik.Changes(5, 5, plus=((1,),), minus=())
+    changed = romburik.Changes(8, 8, plus=((2,),), minus=((1,),))
+    fault = romburik.Fault(10, 11, "overflow")
+    later = romburik.Changes(13, 13, plus=((3,), ("x",)), minus=((2,),))
+    view = romburik.looking.View()
+    steps = view.take(look_of(text, 0, 10, came, changed, is_new=True))
+    wanted = [
+        step(0, 4, ()),
+        step(5, 5, ((1,),)),
+        step(6, 7, ((1,),)),
+        step(8, 8, ((2,),)),
+        step(9, 9, ((2,),)),
+    ]
+    yield "steps of changes", difference(steps, wanted)
+    yield "a relation by changes", difference((view.at, view.rows, view.since), (9, ((2,),), None))
+    view.take(look_of(text, 10, 12, fault))
+    yield "a fault at the end", difference((view.at, view.fault, view.rows), (11, fault, ()))
+    view.take(look_of(text, 12, 15, later))
+    found = view.fault, view.rows, view.since
+    yield "changes behind a fault", difference(found, (None, ((3,), ("x",)), 12))
+    view = romburik.looking.View()
+    view.take(look_of(text, 6, 10, changed, is_new=True))
+    yield "changes from their middle on", difference((view.rows, view.since), (((2,),), 6))
+    view.take(look_of(text, 12, 14, later))
+    found = view.rows, view.since
+    yield "changes over what was acknowledged", difference(found, (((3,), ("x",)), 12))
+    text = "RSTREAM(SELECT * FROM s [RANGE 2])"
+    rows = romburik.Rows(5, 7, ((1,),))
+    view = romburik.looking.View()
+    steps = view.take(look_of(text, 0, 8, rows, is_new=True))
+    yield "steps of rows", difference(steps, [step(0, 4, ()), step(5, 7, ((1,),))])
+    view.take(look_of(text, 9, 9))
+    yield "a relation that isn't told anew", difference((view.at, view.rows), (7, ((1,),)))
+    steps = view.take(look_of(text, 9, 12, romburik.Fault(10, 10, "oversize")))
+    wanted = [step(9, 9, ()), step(10, 10, (), "oversize"), step(11, 11, ())]
+    yield "a fault that is over", difference((steps, view.fault, view.at), (wanted, None, 11))
+
+
+def columns_of_texts(_):
+    """What the columns of a query are called, and which of them tell its rows apart."""
+    known = {"s": ("k", "v"), "a.s": ("x", "y")}
+    for text, names, keys in (
+        ("ISTREAM(SELECT * FROM s [RANGE 2])", ("k", "v"), set()),
+        ("SELECT * FROM s [PARTITION BY v ROWS 1], a.s [NOW] AS q", ("k", "v", "x", "y"), {1}),
+        ("Select * From zz", None, set()),
+        (
+            "SELECT x.v + -1 AS w, k, SUM(v), COUNT(*) FROM a.s AS x GROUP BY k",
+            ("w", "k", "SUM(v)", "COUNT(*)"),
+            {1},
+        ),
+        ("SELECT v AS name, MAX(k) FROM s [NOW] GROUP BY s.v", ("name", "MAX(k)"), {0}),
+        (
+            "Select Istream(Distinct s.k, 'a, b' , v * (2 + 1)) From s, p",
+            ("s.k", "'a, b'", "v * (2 + 1)"),
+            set(),
+        ),
+        ("RSTREAM(SELECT k FROM s GROUP BY k UNION ALL SELECT v FROM s GROUP BY v)", ("k",), {0}),
+    ):
+        found = romburik.columns.names_of(text, known), romburik.columns.keys_of(text, known)
+        yield f"the columns of {text}", difference(found, (names, keys))
+    for values, wanted in (([], ""), ([3, 3], "\u2581\u2581"), ([-1, 6, 2], "\u2581\u2588\u2584")):
+        yield f"bars of {values}", difference(romburik.tables.bars(values), wanted)
+
+
+def interrupted(child):
+    """How a program ends that is interrupted."""
+    child.send_signal(signal.SIGINT)
+    written, said = child.communicate(timeout=SECONDS)
+    return Ended(child.returncode, said, written)
+
+
+def started(port, *words, key="ka", **how):
+    """A terminal that goes on until it is interrupted."""
+    how = {"stdout": subprocess.PIPE, "stderr": subprocess.PIPE, "env": environment(key), **how}
+    # an interrupt may be ignored by whoever runs this, and a child would take that over
+    how.setdefault("preexec_fn", lambda: signal.signal(signal.SIGINT, signal.SIG_DFL))
+    return subprocess.Popen(terminal_words(port, *words), **how)
+
+
+def watch_in_lines(program):
+    """Each block once, as it becomes final, over a new start of the server; no cursor moves."""
+    port = free_port()
+    rows = STREAM, QUERY, put(5, 1), beat(8)
+    with contextlib.ExitStack() as open_ones:
+        with Server(program, TENANTS, port=port) as server, Caller(server, "a") as caller:
+            for line in rows:
+                caller.ask(line)
+            child = started(port, "watch", "q")
+            open_ones.enter_context(ending(child))
+            yield "a block that is watched", difference(
+                lines_of(child.stdout, 1), line_of(**block(5, 5, 1))
+            )
+            caller.send(put(9, 2), put(10, 3), beat(10))
+            wanted = line_of(**block(9, 9, 2)) + line_of(**block(10, 10, 3))
+            yield "more blocks that are watched", difference(lines_of(child.stdout, 2), wanted)
+            for _ in range(3):
+                caller.replies.readline()
+            listing = json.loads(caller.ask(LIST))["queries"]
+            yield "the cursor of a watched query", difference(listing[0]["next"], 0)
+            wanted = told(11, block(5, 5, 1), block(9, 9, 2), block(10, 10, 3))
+            yield "the consumer of a watched query", difference(caller.ask(FETCH), wanted)
+        said = lines_of(child.stderr, 1)
+        yield "a watch without a server", difference(said[:18], b"romburik: waiting:")
+        with Server(program, TENANTS, port=port) as server, Caller(server, "a") as caller:
+            for line in (*rows[:2], put(5, 7), beat(8)):
+                caller.ask(line)
+            wanted = line_of(**block(5, 5, 7))
+            yield "a watch of a new server", difference(lines_of(child.stdout, 1), wanted)
+            ended = interrupted(child)
+            yield "a watch's end", difference((ended.status, ended.written), (130, b""))
+
+
+def shown_until(near, text):
+    """What a terminal shows, up to a text of bytes."""
+    seen, end = b"", time.monotonic() + SECONDS
+    while text not in seen:
+        if not select.select([near], [], [], max(0, end - time.monotonic()))[0]:
+            raise Stalled(f"it shows only {seen!r}")
+        seen += os.read(near, 1 << 16)
+    return seen.decode()
+
+
+@contextlib.contextmanager
+def watching(port, query):
+    """The near end of a terminal at which a query is watched."""
+    near, far = pty.openpty()
+    sizes = {"TERM": "xterm", "COLUMNS": "100", "LINES": "20"}
+    there = {"stdin": far, "stdout": far, "stderr": far}
+    child = started(port, "watch", query, env=environment(**sizes), **there)
+    os.close(far)
+    with ending(child):
+        yield near
+    os.close(near)
+
+
+def frame_of(port, query):
+    """The first state that is drawn of a query."""
+    with watching(port, query) as near:
+        seen = shown_until(near, b"Ctrl-C ends\r\n")
+    return seen.rpartition("\x1b[J")[2].replace("\r\n", "\n")
+
+
+FRAME = """\
+q  RSTREAM(SELECT k, SUM(v) FROM s [RANGE 9] GROUP BY k)
+at 8; final below 9, acknowledged below 0
+k  SUM(v)
+a       3  \u2588\u2588\u2581
+b       7  \u2581\u2581
+nothing is acknowledged; Ctrl-C ends
+"""
+FAULTY = b"at 9: FAULT overflow since 9; final below 10, acknowledged below 0"
+
+
+def watch_at_a_terminal(program):
+    """The newest state, with lines of last values; a fault and an overrun as what they are."""
+    lines = (
+        line_of(columns=[["k", "text"], ["v", "int"]], do="stream", name="s"),
+        line_of(do="query", name="q", text="Select Rstream(k, Sum(v)) From s [Range 9] Group By k"),
+        *(put(at, *row) for at, *row in ((1, "a", 5), (3, "b", 7), (5, "a", -2))),
+        beat(8),
+    )
+    with Server(program, tenants("a", hold=5)) as server, Caller(server, "a") as caller:
+        for line in lines:
+            caller.ask(line)
+        yield "a frame", difference(frame_of(server.port, "q"), FRAME)
+        with watching(server.port, "q") as near:
+            shown_until(near, b"Ctrl-C ends")
+            caller.send(put(9, "a", GREATEST), put(9, "a", GREATEST), beat(9))
+            seen = shown_until(near, FAULTY)
+            yield "it is drawn over the one before", difference("\x1b[6A\r\x1b[J" in seen, True)
+            caller.send(put(10, "b", 1), beat(10))
+            shown_until(near, b"waiting: overrun (60): ")
+
+
+# ---- The page.
+
+
+@contextlib.contextmanager
+def page(port, key, tenant="a"):
+    """The address of a page that is served meanwhile."""
+    words = [sys.executable, "-m", "romburik", "page", "--port", str(port), "--listen", "0"]
+    child = subprocess.Popen(
+        [*words, "--tenant", tenant], env=environment(key), stdout=subprocess.PIPE
+    )
+    with ending(child):
+        said = lines_of(child.stdout, 1).decode()
+        yield re.search(r"http://\S+", said)[0]
+
+
+def asked(address, path="", method="GET", host=None):
+    """A page's reply: its status, its headers and its body."""
+    parts = urllib.parse.urlsplit(address)
+    connection = http.client.HTTPConnection(parts.hostname, parts.port, timeout=SECONDS)
+    with contextlib.closing(connection):
+        headers = {} if host is None else {"Host": host}
+        connection.request(method, parts.path + path, headers=headers)
+        reply = connection.getresponse()
+        return reply.status, dict(reply.getheaders()), reply.read()
+
+
+class Events:
+    """The events of a page, as they come."""
+
+    def __init__(self, address, query):
+        self.reply = urllib.request.urlopen(f"{address}events?query={query}", timeout=SECONDS)
+
+    def __enter__(self):
+        return self
+
+    def __exit__(self, *_):
+        self.reply.close()
+
+    def next(self, kind):
+        """What the next event of a kind tells."""
+        name = None
+        for line in self.reply:
+            word, _, rest = line.decode().rstrip("\n").partition(": ")
+            name = rest if word == "event" else name
+            if word == "data" and name == kind:
+                return json.loads(rest)
+        raise Stalled(f"the page tells no {kind} any more")
+
+
+SECRET = "ksecrettenant"
+
+
+def page_is_guarded(program):
+    """Only GET, only by its own name, only with the token, and never with the key."""
+    with Server(program, tenants(["secrettenant"]), workers=1) as server:
+        with page(server.port, SECRET, "secrettenant") as address:
+            status, headers, _ = asked(address)
+            yield "a page", difference(status, 200)
+            policy = headers["Content-Security-Policy"].split("; ")
+            yield "a page's policy", difference(
+                policy[:2], ["default-src 'none'", "script-src 'self'"]
+            )
+            yield "a page listens", difference(urllib.parse.urlsplit(address).hostname, "127.0.0.1")
+            bodies = [asked(address, path)[2] for path in ("", "page.js", "page.css", "tenant")]
+            yield "a page's key", difference(SECRET.encode() in b"".join(bodies), False)
+            for method in "POST", "PUT", "DELETE", "HEAD", "OPTIONS":
+                found = asked(address, method=method)[0]
+                yield f"a page by {method}", difference(found, 501)
+            wrong = address[:-4] + ("aaa/" if address[-4:] != "aaa/" else "bbb/")
+            top = address.rsplit("/", 2)[0] + "/"
+            for name, given in (
+                ("another token", (wrong,)),
+                ("no token", (top,)),
+                ("events without a token", (top, "events?query=q")),
+                ("no such file", (address, "romburik.py")),
+                ("a file above", (address, "../page.py")),
+                ("a file above in code", (address, "%2e%2e/page.py")),
+                ("another host", (address, "", "GET", "romburik.example")),
+            ):
+                yield f"a page by {name}", difference(asked(*given)[0], 404)
+            # the page's session takes the one worker only while it is open
+            with Caller(server, "secrettenant") as caller:
+                yield "a caller beside a page", difference(caller.ask(LIST), EMPTY)
+
+
+def page_is_live(program):
+    """A query's table and points as rows come; a fault, and an overrun; and nothing is taken."""
+    columns = line_of(columns=[["k", "text"], ["v", "int"]], do="stream", name="s")
+    text = "Select Rstream(k, Sum(v)) From s [Range 9] Group By k"
+    markup = "<img src=x onerror=alert(1)>"
+    with Server(program, tenants("a", hold=4)) as server, Caller(server, "a") as caller:
+        lines = columns, line_of(do="query", name="q", text=text), put(5, markup, 7), beat(6)
+        for line in lines:
+            caller.ask(line)
+        with page(server.port, "ka") as address, Events(address, "q") as events:
+            listing = events.next("listing")
+            query = {
+                "name": "q",
+                "text": "RSTREAM(SELECT k, SUM(v) FROM s [RANGE 9] GROUP BY k)",
+                "base": "0",
+                "next": "0",
+            }
+            stream = {"name": "s", "open": "7", "columns": None}
+            wanted = {"queries": [query], "readable": [], "streams": [stream]}
+            yield "a page's listing", difference(listing, wanted)
+            look = events.next("look")
+            found = look["at"], look["names"], look["rows"], look["numeric"]
+            wanted = "6", ["k", "SUM(v)"], [[markup, "7"]], [False, True]
+            yield "a page's table", difference(found, wanted)
+            wanted = [
+                {"first": "0", "last": "4", "fault": None, "points": []},
+                {
+                    "first": "5",
+                    "last": "6",
+                    "fault": None,
+                    "points": [[0, f"{markup} SUM(v)", "7"]],
+                },
+            ]
+            yield "a page's points", difference(look["steps"], wanted)
+            caller.send(put(7, "x", GREATEST), put(7, "x", 1), beat(7))
+            look = events.next("look")
+            while look["next"] != "8":
+                look = events.next("look")
+            found = look["at"], look["fault"], look["rows"], look["steps"][-1]["fault"]
+            yield "a page's fault", difference(found, ("7", "overflow", [], "overflow"))
+            for _ in range(3):
+                caller.replies.readline()
+            listing = json.loads(caller.ask(LIST))["queries"]
+            yield "the cursor of a query on a page", difference(listing[0]["next"], 0)
+            caller.send(put(8, "y", 1), put(8, "y", 1), beat(8))
+            trouble = events.next("trouble")["text"]
+            yield "a page's overrun", difference(trouble[:13], "overrun (60):")
+
+
+# ---- Scripts, and what is waited for.
+
+
+def scripts(program):
+    """A script of cqlrun by sessions of its tenants tells what cqlrun does."""
+    for path in sorted(EXAMPLES.glob("*.jsonl")):
+        table = path.read_bytes().splitlines(True)[0]
+        with Server(program, table) as server:
+            words = [sys.executable, "-m", "romburik", "--port", str(server.port)]
+            ran = subprocess.run(
+                [*words, "--script", path],
+                env=environment(None),
+                capture_output=True,
+                timeout=SECONDS,
+                check=False,
+            )
+        replies = [line[2:] for line in ran.stdout.splitlines(True) if line[:2] == b"< "]
+        wanted = path.with_suffix(".out").read_bytes().splitlines(True)
+        if path.stem in ("refusals", "two_tenants"):
+            said = b"the line names no tenant of the script's first line, and isn't sent"
+            found = ran.returncode, said in ran.stdout, len(replies) < len(wanted)
+            yield f"the script {path.name}, with lines of nobody", difference(found, (1, True, True))
+        else:
+            yield f"the script {path.name}", difference(replies, wanted)
+
+
+def said_within(children, seconds):
+    """The first line on standard error of each of some programs, or what there is of it so late."""
+    end = time.monotonic() + seconds
+    found = []
+    for child in children:
+        ready = select.select([child.stderr], [], [], max(0, end - time.monotonic()))[0]
+        found.append(os.read(child.stderr.fileno(), 1 << 16).decode() if ready else "")
+    return found
+
+
+def waits_are_told(program):
+    """Who waits for a server, a worker or a query says so within five seconds."""
+    with tempfile.TemporaryDirectory() as folder, contextlib.ExitStack() as open_ones:
+        server = open_ones.enter_context(Server(program, TENANTS, workers=1))
+        other = open_ones.enter_context(Server(program, TENANTS))
+        open_ones.enter_context(Caller(server, "a"))
+        for name in "setup", "log":
+            pathlib.Path(folder, name).touch()
+        files = [f"--{name}={folder}/{name}" for name in ("setup", "log")]
+        consume, feed = [CONSUME, "--query", "q"], [FEED, *files]
+        children = []
+
+        def start(words, port):
+            words = [sys.executable, *words, "--port", str(port), "--tenant", "a"]
+            how = {"stdout": subprocess.DEVNULL, "stderr": subprocess.PIPE, "env": environment()}
+            child = subprocess.Popen(words, **how)
+            children.append(open_ones.enter_context(ending(child)))
+
+        nobody = free_port()
+        for script in consume, feed:
+            start([*script, "--places", folder], nobody)
+            start([*script, "--places", folder], server.port)
+        start([*consume, "--places", folder], other.port)
+        start(["-m", "romburik", "--follow", "q"], server.port)
+        start(["-m", "romburik", "watch", "q"], other.port)
+        found = said_within(children, 5)
+    for name, said, wanted in zip(
+        (
+            "a consumer without a server",
+            "a consumer without a worker",
+            "a feeder without a server",
+            "a feeder without a worker",
+            "a consumer without a query",
+            "a terminal without a worker",
+            "a watch without a query",
+        ),
+        found,
+        ("no connection", "--workers", "no connection", "--workers", "57", "--workers", "57"),
+    ):
+        yield name, None if wanted in said else f"it says {said!r}"
 
 
 # ---- The feeder and its consumers.
@@ -877,6 +1472,7 @@ CHECKS = (
     many_lines,
     long_lines,
     readme,
+    pages,
     lost_connections,
     lost_while_following,
     whole_blocks,
@@ -885,6 +1481,20 @@ CHECKS = (
     terminal_tables,
     terminal_follows,
     terminal_is_typed_at,
+    terminal_goes_on,
+    terminal_clears_a_line,
+    terminal_knows_columns,
+    terminal_marks_texts,
+    natural_texts,
+    looks_take_nothing,
+    views_of_looks,
+    columns_of_texts,
+    watch_in_lines,
+    watch_at_a_terminal,
+    page_is_guarded,
+    page_is_live,
+    scripts,
+    waits_are_told,
     feeder_outlives_servers,
     feeder_waits_for_consumers,
     feeder_is_started_anew,

@@ -4,6 +4,8 @@ bench/. Each wait ends after SECONDS with an error.
 import collections
 import json
 import os
+import pathlib
+import re
 import select
 import socket
 import struct
@@ -123,6 +125,24 @@ class Server:
         self.child.stdout.close()
         self.child.stderr.close()
 
+    def of_status(self, name):
+        """The bytes of memory that the system tells of it under a name."""
+        status = pathlib.Path(f"/proc/{self.child.pid}/status").read_text(encoding="ascii")
+        return int(re.search(rf"^{name}:\s+(\d+) kB$", status, re.MULTILINE)[1]) << 10
+
+    def memory(self):
+        """The bytes of memory that it has."""
+        return self.of_status("VmRSS")
+
+    def peak(self):
+        """The most that it has had."""
+        return self.of_status("VmHWM")
+
+    def processor_time(self):
+        """The seconds of processor time that it has taken. The clock of a process, as clock_getcpuclockid
+        numbers it."""
+        return time.clock_gettime(~self.child.pid << 3 | 2)
+
     def end(self, seconds=SECONDS):
         """Waits for its end."""
         written, said = self.child.communicate(timeout=seconds)
@@ -159,6 +179,16 @@ class Caller:
         """The reply to a line, or what there is of it at the end."""
         self.send(line)
         return self.replies.readline()
+
+    def serve(self, lines):
+        """Sends lines, a thousand at a time, and reads their replies, of which none may refuse."""
+        lines = list(lines)
+        for at in range(0, len(lines), 1000):
+            part = lines[at : at + 1000]
+            self.send(*part)
+            for line in part:
+                if b'"refused"' in (reply := self.replies.readline()) or not reply:
+                    raise OSError(f"{line!r} is answered {reply!r}")
 
     def is_silent(self, seconds):
         """Whether nothing comes for so long."""

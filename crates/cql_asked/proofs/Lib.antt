@@ -1,5 +1,9 @@
 mod Columns
 mod Comparing
+mod Digits
+mod Growing
 mod Keys
+mod Puts
 mod Readings
 mod Trees
+mod Turns

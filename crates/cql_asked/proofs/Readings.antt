@@ -1,10 +1,8 @@
 -- A word on lists whose items are read one by one.
 use Rattle.std.proofs.Common.{List, ◌++◌, Option, option_map}
-use Rattle.serde_json.specs.Data.{Data}
-use Rattle.serde_json.specs.View.{items_view}
-use Rattle.serde_json.specs.declared.value.Value.{Value}
+use Rattle.serde_json.specs.Data.{Data, Items}
 use Rattle.cql_asked.specs.Tree.{all_of}
 
 -- what the items give, behind what was read of those before them
-abbrev pub with_read : {A : Type 0} → (Data → Option A) → List A → List Value → Option (List A)
-with_read f done values = option_map (λ xs. done ++ xs) (all_of f (items_view values))
+abbrev pub with_read : {A : Type 0} → (Data → Option A) → List A → Items → Option (List A)
+with_read f done items = option_map (λ xs. done ++ xs) (all_of f items)

@@ -1,18 +1,21 @@
 //! The command of a line.
 ghost use Rattle.std.specs.Prelude.{◌≡◌, map, Some, ok_or, codes};
-ghost use Rattle.serde_json.specs.View.{view, items_view};
+ghost use Rattle.cql_asked.specs.View.{view, items_view};
 ghost use Rattle.serde_json.specs.Find.{as_str};
+ghost use Rattle.serde_json.specs.Read.{read};
 ghost use Rattle.cql_asked.specs.Tree.{text_at, optional_text, all_of};
 ghost use Rattle.cql_asked.specs.Command.{word_of, keys_of, value_of, column_of, stream_of, named_columns_of, grant_of, revoke_of, put_of, beat_of, query_of, fetch_of, ack_of, drop_of, of_word, of_keys, of_data, command_of};
 ghost use Rattle.cql_asked.specs.Fault.{Means};
 
 use crate::fault::LineFault;
+use crate::put::{NoPut, read_put};
+use crate::reading::{line_text, read_tree};
 use crate::tree::{
-    array_at, has_only, optional_array, optional_text, optional_whole, read_tree, text_at, whole_at,
+    Tree, array_at, has_only, optional_array, optional_text, optional_whole, text_at, whole_at,
 };
 use cql_meaning::{ColumnText, Command};
 use cql_value::{Items, Row, Text, Value};
-use serde_json::Value as Json;
+use json::Scratch;
 use std::alloc::Global;
 
 /// The word of a command: what stands at the key `do`.
@@ -69,7 +72,7 @@ impl Word {
 }
 
 // A copy of the text at a key.
-fn text_of(alloc: Global, tree: &Json, key: &str) -> Result<Text, LineFault>
+fn text_of(alloc: Global, tree: &Tree<'_>, key: &str) -> Result<Text, LineFault>
     ensures { Means (ok_or (text_at key.now (view tree.now)) LineFault.BadKey) result }
 {
     let text = text_at(tree, key).ok_or(LineFault::BadKey)?;
@@ -78,7 +81,7 @@ fn text_of(alloc: Global, tree: &Json, key: &str) -> Result<Text, LineFault>
 }
 
 // A whole number of 64 bits with a sign, or a text.
-fn value_of(alloc: Global, tree: &Json) -> Result<Value, LineFault>
+fn value_of(alloc: Global, tree: &Tree<'_>) -> Result<Value, LineFault>
     ensures { Means (ok_or (value_of (view tree.now)) LineFault.BadKey) result }
 {
     if let Some(number) = tree.as_i64() {
@@ -89,7 +92,7 @@ fn value_of(alloc: Global, tree: &Json) -> Result<Value, LineFault>
     Ok(Value::Text(text))
 }
 
-fn row_of(alloc: Global, items: &[Json]) -> Result<Row, LineFault>
+fn row_of(alloc: Global, items: &[Tree<'_>]) -> Result<Row, LineFault>
     ensures { Means (ok_or (all_of value_of (items_view items.now)) LineFault.BadKey) result }
 {
     let mut values = Vec::new(alloc);
@@ -100,7 +103,7 @@ fn row_of(alloc: Global, items: &[Json]) -> Result<Row, LineFault>
 }
 
 // A list of exactly two texts: the name and the type of a column.
-fn column_of(alloc: Global, tree: &Json) -> Result<ColumnText, LineFault>
+fn column_of(alloc: Global, tree: &Tree<'_>) -> Result<ColumnText, LineFault>
     ensures { Means (ok_or (column_of (view tree.now)) LineFault.BadKey) result }
 {
     let texts = tree.as_array().ok_or(LineFault::BadKey)?;
@@ -114,7 +117,7 @@ fn column_of(alloc: Global, tree: &Json) -> Result<ColumnText, LineFault>
     Ok(ColumnText { name, kind })
 }
 
-fn columns_of(alloc: Global, items: &[Json]) -> Result<Items<ColumnText>, LineFault>
+fn columns_of(alloc: Global, items: &[Tree<'_>]) -> Result<Items<ColumnText>, LineFault>
     ensures { Means (ok_or (all_of column_of (items_view items.now)) LineFault.BadKey) result }
 {
     let mut columns = Vec::new(alloc);
@@ -124,7 +127,7 @@ fn columns_of(alloc: Global, items: &[Json]) -> Result<Items<ColumnText>, LineFa
     Ok(Items::from_vec(columns))
 }
 
-fn stream_of(alloc: Global, tree: &Json) -> Result<Command, LineFault>
+fn stream_of(alloc: Global, tree: &Tree<'_>) -> Result<Command, LineFault>
     ensures { Means (ok_or (stream_of (view tree.now)) LineFault.BadKey) result }
 {
     let name = text_of(alloc, tree, "name")?;
@@ -134,7 +137,7 @@ fn stream_of(alloc: Global, tree: &Json) -> Result<Command, LineFault>
 }
 
 // Names of columns: a list of texts.
-fn names_of(alloc: Global, items: &[Json]) -> Result<Items<Text>, LineFault>
+fn names_of(alloc: Global, items: &[Tree<'_>]) -> Result<Items<Text>, LineFault>
     ensures { Means (ok_or (all_of as_str (items_view items.now)) LineFault.BadKey) result }
 {
     let mut names = Vec::new(alloc);
@@ -146,7 +149,7 @@ fn names_of(alloc: Global, items: &[Json]) -> Result<Items<Text>, LineFault>
 }
 
 // The names of the columns that a grant shows, if it names them.
-fn named_columns_of(alloc: Global, tree: &Json) -> Result<Option<Items<Text>>, LineFault>
+fn named_columns_of(alloc: Global, tree: &Tree<'_>) -> Result<Option<Items<Text>>, LineFault>
     ensures { Means (ok_or (named_columns_of (view tree.now)) LineFault.BadKey) result }
 {
     match optional_array(tree, "columns").ok_or(LineFault::BadKey)? {
@@ -158,7 +161,7 @@ fn named_columns_of(alloc: Global, tree: &Json) -> Result<Option<Items<Text>>, L
     }
 }
 
-fn grant_of(alloc: Global, tree: &Json) -> Result<Command, LineFault>
+fn grant_of(alloc: Global, tree: &Tree<'_>) -> Result<Command, LineFault>
     ensures { Means (ok_or (grant_of (view tree.now)) LineFault.BadKey) result }
 {
     let stream = text_of(alloc, tree, "stream")?;
@@ -171,7 +174,7 @@ fn grant_of(alloc: Global, tree: &Json) -> Result<Command, LineFault>
     })
 }
 
-fn revoke_of(alloc: Global, tree: &Json) -> Result<Command, LineFault>
+fn revoke_of(alloc: Global, tree: &Tree<'_>) -> Result<Command, LineFault>
     ensures { Means (ok_or (revoke_of (view tree.now)) LineFault.BadKey) result }
 {
     let stream = text_of(alloc, tree, "stream")?;
@@ -179,7 +182,7 @@ fn revoke_of(alloc: Global, tree: &Json) -> Result<Command, LineFault>
     Ok(Command::Revoke { stream, to })
 }
 
-fn put_of(alloc: Global, tree: &Json) -> Result<Command, LineFault>
+fn put_of(alloc: Global, tree: &Tree<'_>) -> Result<Command, LineFault>
     ensures { Means (ok_or (put_of (view tree.now)) LineFault.BadKey) result }
 {
     let stream = text_of(alloc, tree, "stream")?;
@@ -189,7 +192,7 @@ fn put_of(alloc: Global, tree: &Json) -> Result<Command, LineFault>
     Ok(Command::Put { stream, at, row })
 }
 
-fn beat_of(alloc: Global, tree: &Json) -> Result<Command, LineFault>
+fn beat_of(alloc: Global, tree: &Tree<'_>) -> Result<Command, LineFault>
     ensures { Means (ok_or (beat_of (view tree.now)) LineFault.BadKey) result }
 {
     let stream = text_of(alloc, tree, "stream")?;
@@ -197,7 +200,7 @@ fn beat_of(alloc: Global, tree: &Json) -> Result<Command, LineFault>
     Ok(Command::Beat { stream, at })
 }
 
-fn query_of(alloc: Global, tree: &Json) -> Result<Command, LineFault>
+fn query_of(alloc: Global, tree: &Tree<'_>) -> Result<Command, LineFault>
     ensures { Means (ok_or (query_of (view tree.now)) LineFault.BadKey) result }
 {
     let name = text_of(alloc, tree, "name")?;
@@ -205,7 +208,7 @@ fn query_of(alloc: Global, tree: &Json) -> Result<Command, LineFault>
     Ok(Command::Query { name, text })
 }
 
-fn fetch_of(alloc: Global, tree: &Json) -> Result<Command, LineFault>
+fn fetch_of(alloc: Global, tree: &Tree<'_>) -> Result<Command, LineFault>
     ensures { Means (ok_or (fetch_of (view tree.now)) LineFault.BadKey) result }
 {
     let name = text_of(alloc, tree, "name")?;
@@ -213,7 +216,7 @@ fn fetch_of(alloc: Global, tree: &Json) -> Result<Command, LineFault>
     Ok(Command::Fetch { name, until })
 }
 
-fn ack_of(alloc: Global, tree: &Json) -> Result<Command, LineFault>
+fn ack_of(alloc: Global, tree: &Tree<'_>) -> Result<Command, LineFault>
     ensures { Means (ok_or (ack_of (view tree.now)) LineFault.BadKey) result }
 {
     let name = text_of(alloc, tree, "name")?;
@@ -221,7 +224,7 @@ fn ack_of(alloc: Global, tree: &Json) -> Result<Command, LineFault>
     Ok(Command::Ack { name, to })
 }
 
-fn drop_of(alloc: Global, tree: &Json) -> Result<Command, LineFault>
+fn drop_of(alloc: Global, tree: &Tree<'_>) -> Result<Command, LineFault>
     ensures { Means (ok_or (drop_of (view tree.now)) LineFault.BadKey) result }
 {
     let name = text_of(alloc, tree, "name")?;
@@ -229,7 +232,7 @@ fn drop_of(alloc: Global, tree: &Json) -> Result<Command, LineFault>
 }
 
 // The command of a word.
-fn of_word(alloc: Global, word: Word, tree: &Json) -> Result<Command, LineFault>
+fn of_word(alloc: Global, word: Word, tree: &Tree<'_>) -> Result<Command, LineFault>
     ensures { Means (ok_or (of_word word (view tree.now)) LineFault.BadKey) result }
 {
     match word {
@@ -247,7 +250,7 @@ fn of_word(alloc: Global, word: Word, tree: &Json) -> Result<Command, LineFault>
 }
 
 // The tenant that the line names, if it names one.
-fn tenant_of(alloc: Global, tree: &Json) -> Result<Option<Text>, LineFault>
+fn tenant_of(alloc: Global, tree: &Tree<'_>) -> Result<Option<Text>, LineFault>
     ensures { Means (ok_or (optional_text (codes "tenant") (view tree.now)) LineFault.BadKey) result }
 {
     match optional_text(tree, "tenant").ok_or(LineFault::BadKey)? {
@@ -259,7 +262,7 @@ fn tenant_of(alloc: Global, tree: &Json) -> Result<Option<Text>, LineFault>
     }
 }
 
-fn of_keys(alloc: Global, word: Word, tree: &Json) -> Result<(Option<Text>, Command), LineFault>
+fn of_keys(alloc: Global, word: Word, tree: &Tree<'_>) -> Result<(Option<Text>, Command), LineFault>
     ensures { Means (of_keys word (view tree.now)) result }
 {
     if !has_only(tree, word.keys()) {
@@ -270,7 +273,7 @@ fn of_keys(alloc: Global, word: Word, tree: &Json) -> Result<(Option<Text>, Comm
     Ok((tenant, command))
 }
 
-fn of_tree(alloc: Global, tree: &Json) -> Result<(Option<Text>, Command), LineFault>
+fn of_tree(alloc: Global, tree: &Tree<'_>) -> Result<(Option<Text>, Command), LineFault>
     ensures { Means (of_data (Some (view tree.now))) result }
 {
     if !tree.is_object() {
@@ -281,15 +284,47 @@ fn of_tree(alloc: Global, tree: &Json) -> Result<(Option<Text>, Command), LineFa
     of_keys(alloc, word, tree)
 }
 
-/// The command of a line, without its line feed, and the tenant that the line names, if any.
+// The command of a text, by its tree.
+fn by_tree(
+    alloc: Global,
+    text: &str,
+    scratch: &mut Scratch,
+) -> Result<(Option<Text>, Command), LineFault>
+    ensures { Means (of_data (read text.now)) result }
+{
+    let tree = read_tree(alloc, text, scratch)?.ok_or(LineFault::BadLine)?;
+    of_tree(alloc, &tree)
+}
+
+// The command of a text: a put, or else what its tree says.
+fn of_text(
+    alloc: Global,
+    text: &str,
+    scratch: &mut Scratch,
+) -> Result<(Option<Text>, Command), LineFault>
+    ensures { Means (of_data (read text.now)) result }
+{
+    match read_put(alloc, text, scratch) {
+        Ok(call) => Ok(call),
+        Err(NoPut::Other) => by_tree(alloc, text, scratch),
+        Err(NoPut::NoMemory) => Err(LineFault::NoMemory),
+    }
+}
+
+/// The command of a line, without its line feed, and the tenant that the line names, if any. What
+/// reading takes beside the command is kept in the scratch, which serves one line after another.
 ///
 /// In this order: `BadLine` (10) where the line isn't the UTF-8 text of one JSON object,
 /// `BadCommand` (11) where its key `do` is missing or no word of a command, `BadKey` (12) where
 /// another key is missing, unknown or of another kind. `NoMemory` (70) may be told of any line.
 #[tactic(auto, unfolding(crate::specs::Command::command_of))]
-pub fn read_command(alloc: Global, line: &[u8]) -> Result<(Option<Text>, Command), LineFault>
+pub fn read_command(
+    alloc: Global,
+    line: &[u8],
+    scratch: &mut Scratch,
+) -> Result<(Option<Text>, Command), LineFault>
     ensures { Means (command_of line.now) result }
 {
-    let tree = read_tree(alloc, line)?.ok_or(LineFault::BadLine)?;
-    of_tree(alloc, &tree)
+    let text = line_text(line).ok_or(LineFault::BadLine)?;
+    of_text(alloc, text, scratch)
 }

@@ -4,10 +4,14 @@
 mod command;
 mod fault;
 mod login;
+mod put;
+mod reading;
 mod tenants;
 mod tree;
+mod values;
 
 pub use command::read_command;
 pub use fault::LineFault;
+pub use json::Scratch;
 pub use login::read_login;
 pub use tenants::{TenantsFault, read_tenants};

@@ -6,7 +6,7 @@ ghost use Rattle.serde_json.specs.View.{view};
 ghost use Rattle.cql_asked.specs.Login.{is_key_at, login_with, login_in, login_of, LogsIn};
 
 use crate::fault::LineFault;
-use crate::tree::{has_only, read_tree, text_at};
+use crate::values::{has_only, read_value, text_at};
 use cql_tenants::{TenantId, TenantTable};
 use serde_json::Value as Json;
 use std::alloc::Global;
@@ -80,6 +80,6 @@ fn login_in(table: &TenantTable, tree: &Json) -> Option<TenantId>
 pub fn read_login(alloc: Global, line: &[u8], table: &TenantTable) -> Result<TenantId, LineFault>
     ensures { LogsIn (login_of table.now line.now) result }
 {
-    let tree = read_tree(alloc, line)?.ok_or(LineFault::WrongKey)?;
+    let tree = read_value(alloc, line)?.ok_or(LineFault::WrongKey)?;
     login_in(table, &tree).ok_or(LineFault::WrongKey)
 }

@@ -4,7 +4,7 @@ ghost use Rattle.serde_json.specs.View.{view, items_view};
 ghost use Rattle.cql_asked.specs.Tree.{all_of};
 ghost use Rattle.cql_asked.specs.Table.{quotas_of, name_of, tenant_of, table_of, Gives};
 
-use crate::tree::{array_at, has_only, read_tree, text_at, whole_at};
+use crate::values::{array_at, has_only, read_value, text_at, whole_at};
 use cql_tenants::{BadTenants, Quotas, Tenant, TenantTable};
 use cql_value::{Name, NameError, Text};
 use serde_json::Value as Json;
@@ -114,7 +114,7 @@ fn all_tenants(alloc: Global, items: &[Json]) -> Result<Vec<Tenant>, TenantsFaul
 pub fn read_tenants(alloc: Global, line: &[u8]) -> Result<TenantTable, TenantsFault>
     ensures { Gives (table_of line.now) result }
 {
-    let tree = read_tree(alloc, line)?.ok_or(TenantsFault::Refused)?;
+    let tree = read_value(alloc, line)?.ok_or(TenantsFault::Refused)?;
     if !has_only(&tree, &["tenants"]) {
         return Err(TenantsFault::Refused);
     }

@@ -1,27 +1,31 @@
 // The answer to a fetch.
-ghost use Rattle.std.specs.Prelude.{◌≡◌, ◌↔◌, ◌⊎◌, ◌≤◌, ◌<◌, ◌+◌, ◌*◌, ◌^◌, ℕ, length, IfOk, OnOk, IsTrue};
+ghost use Rattle.std.specs.Prelude.{◌≡◌, ◌↔◌, ◌⊎◌, ◌≤◌, ◌<◌, ◌+◌, ◌*◌, ◌^◌, ℕ, length, IfOk, IfSome, OnOk, IsTrue};
 ghost use Rattle.std.specs.List.{All, Contains};
 ghost use Rattle.std.specs.List.Sorted.{IsStrictlyIncreasing};
+ghost use Rattle.cql_bag.specs.Bag.{Counts};
 ghost use Rattle.cql_ops.specs.Bench.{IsBench, bench_seen};
 ghost use Rattle.cql_out.specs.Runs.{StandFor};
 ghost use Rattle.cql_plan.specs.declared.plan.OutputKind.TheVariants.{Rstream};
 ghost use Rattle.cql_eval.specs.Answer.{IsAnswer, rows_in};
 ghost use Rattle.cql_eval.specs.Relation.{relation_at, output_at};
-ghost use Rattle.cql_eval.specs.Shown.{StandsFor, Tells, IsShown, IsTallied, AreSame, IsQuiet, IsQuietUntil, first_change, next_of};
+ghost use Rattle.cql_eval.specs.Shown.{StandsFor, Tells, IsShown, AreSame, IsQuiet, IsQuietUntil, first_change, next_of};
+ghost use Rattle.cql_eval.specs.Warm.{IsKept, StandsBehind};
 
 use crate::answered::Answer;
 use crate::pin::Pin;
-use crate::shown::{Shown, nothing_shown, same_output, step};
+use crate::shown::{LastTold, Shown, nothing_shown, open, same_output, step};
+use crate::warm::{Kept, remember, resume};
 use cql_ops::{BenchOf, Operator};
-use cql_out::{Block, Output, Relation, Runs};
+use cql_out::{Block, Output, Runs};
 use cql_plan::OutputKind;
 use cql_value::Items;
 use cql_window::changes;
 use std::alloc::{AllocError, Global};
+use std::sync::Arc;
 
 /// The blocks of a pin, in one walk over its rows: the bench is started anew, and the relation is
 /// computed at one instant and where it may change, by the rows that come into the windows and
-/// leave them there. Without memory the pin is given up.
+/// leave them there. Without memory the pin is given up. Behind it the bench holds no row.
 pub fn answer<O: Operator>(
     alloc: Global,
     bench: &mut BenchOf<O>,
@@ -31,27 +35,50 @@ pub fn answer<O: Operator>(
     ensures bench { IsBench O.seen_in bench.new }
     ensures pin { IfOk result (λ a. a.pin ≡ pin) }
 {
-    let (blocks, turns) = evaluate(alloc, bench, &pin)?;
+    let pin = Arc::new(alloc, pin)?;
+    let evaluated = evaluate(alloc, bench, &pin, None);
+    bench.clear(alloc);
+    let (blocks, turns, _) = evaluated?;
     Ok(Answer::new(pin, Items::from_vec(blocks), turns))
 }
 
-// The blocks, and at how many instants the relation was computed.
-fn evaluate<O: Operator>(
+/// The blocks of a pin that asks for no instant.
+pub(crate) fn nothing_asked(alloc: Global, pin: &Pin) -> Vec<Block>
+    requires { pin.now.from ≡ pin.now.next }
+    ensures { IsAnswer (record { pin = pin.now; blocks = result.items; turns = 0 }) }
+{
+    let _ = pin.windows();
+    Runs::new(alloc, pin.from()).finish()
+}
+
+/// The blocks, at how many instants the relation was computed, and what is kept of it for a later
+/// pin. The bench stands for what was kept of an earlier one, if anything was.
+pub(crate) fn evaluate<O: Operator>(
     alloc: Global,
     bench: &mut BenchOf<O>,
     pin: &Pin,
-) -> Result<(Vec<Block>, u64), AllocError>
-    requires { IsBench O.seen_in bench.old }
+    kept: Option<Kept>,
+) -> Result<(Vec<Block>, u64, Option<LastTold>), AllocError>
+    requires bench { IsBench O.seen_in bench.old }
+    requires kept { IfSome kept (λ k. StandsBehind k (bench_seen O.seen_in bench.old)) }
     ensures bench { IsBench O.seen_in bench.new }
     ensures answer { IfOk result (λ r. IsAnswer (record { pin = pin.now; blocks = r.0.items; turns = r.1 })) }
+    ensures kept { IfOk result (λ r. IfSome r.2 (λ last. IsKept pin.now last (bench_seen O.seen_in bench.new))) }
 {
-    let mut runs = Runs::new(alloc, pin.from());
     if pin.from() == pin.next() {
-        return Ok((runs.finish(), 0));
+        return Ok((nothing_asked(alloc, pin), 0, None));
     }
+    let mut runs = Runs::new(alloc, pin.from());
     let instants = later_changes(alloc, pin)?;
     let mut left = instants.as_slice();
-    let mut shown = begin(alloc, bench, pin, &mut runs, next_of(left, pin.next()))?;
+    let mut shown = begin(
+        alloc,
+        bench,
+        pin,
+        kept,
+        &mut runs,
+        next_of(left, pin.next()),
+    )?;
     let mut turns = 1;
     while let Some((_, later)) = left.split_first() {
         left = later;
@@ -65,7 +92,8 @@ fn evaluate<O: Operator>(
         )?;
         turns += 1;
     }
-    Ok((runs.finish(), turns))
+    let last = remember(alloc, bench, pin, shown);
+    Ok((runs.finish(), turns, last))
 }
 
 // The instants from the first one at which a window's content may change, in whatever order.
@@ -117,7 +145,7 @@ fn tells_whole(kind: OutputKind) -> bool
 fn hold(
     alloc: Global,
     pin: &Pin,
-    kept: &Relation,
+    last: &LastTold,
     runs: &mut Runs,
     until: u64,
 ) -> Result<(), AllocError>
@@ -125,7 +153,7 @@ fn hold(
     requires bound { until ≤ 2 ^ 62 }
     requires quiet { IsQuietUntil pin.now runs.old.next until }
     ensures next { OnOk result (runs.new.next ≡ until) }
-    ensures stand { OnOk result (StandsFor pin.now.plan.output kept.now (relation_at pin.now runs.old.next) → StandFor (output_at pin.now) pin.now.from runs.old → StandFor (output_at pin.now) pin.now.from runs.new) }
+    ensures stand { OnOk result ((told : Counts) → StandsFor pin.now.plan.output last.now told (relation_at pin.now runs.old.next) → StandFor (output_at pin.now) pin.now.from runs.old → StandFor (output_at pin.now) pin.now.from runs.new) }
 {
     let next = runs.next();
     let kind = pin.plan().output();
@@ -136,7 +164,7 @@ fn hold(
         runs.lengthen(until - 1);
         return Ok(());
     }
-    let told = same_output(alloc, kind, kept)?;
+    let told = same_output(alloc, kind, last)?;
     runs.push(next, until - 1, told)?;
     Ok(())
 }
@@ -181,48 +209,54 @@ fn change<'a, O: Operator>(
     requires based { pin.now.base ≤ runs.old.next }
     requires forward { runs.old.next < until }
     requires bound { until ≤ 2 ^ 62 }
-    requires shown { IsShown pin.now runs.old.next shown.walks.items shown.relation (bench_seen O.seen_in bench.old) }
-    requires tally { IsTallied pin.now (bench_seen O.seen_in bench.old) shown.tally }
+    requires shown { IsShown pin.now runs.old.next shown.walks.items shown.last (bench_seen O.seen_in bench.old) }
     requires quiet { IsQuietUntil pin.now (runs.old.next + 1) until }
     requires stand { StandFor (output_at pin.now) pin.now.from runs.old }
     ensures bench { IsBench O.seen_in bench.new }
-    ensures shown { IfOk result (λ s. IsShown pin.now until s.walks.items s.relation (bench_seen O.seen_in bench.new)) }
-    ensures tally { IfOk result (λ s. IsTallied pin.now (bench_seen O.seen_in bench.new) s.tally) }
+    ensures shown { IfOk result (λ s. IsShown pin.now until s.walks.items s.last (bench_seen O.seen_in bench.new)) }
     ensures next { OnOk result (runs.new.next ≡ until) }
     ensures stand { OnOk result (StandFor (output_at pin.now) pin.now.from runs.new) }
 {
     let at = runs.next();
     let (shown, told) = step(alloc, bench, pin, shown, at + 1)?;
     take_told(pin, runs, told, until)?;
-    hold(alloc, pin, &shown.relation, runs, until)?;
+    hold(alloc, pin, &shown.last, runs, until)?;
     Ok(shown)
 }
 
-// The relation before the first instant that is asked for, which stays up to a later one. At the
-// base there is none, and the base itself comes first.
+// The relation before the first instant that is asked for, which stays up to a later one: the bench
+// goes on where it stands for that relation, and is started anew else. At the base there is none,
+// and the base itself comes first.
 fn begin<'a, O: Operator>(
     alloc: Global,
     bench: &mut BenchOf<O>,
     pin: &'a Pin,
+    kept: Option<Kept>,
     runs: &mut Runs,
     until: u64,
 ) -> Result<Shown<'a>, AllocError>
     requires bench { IsBench O.seen_in bench.old }
+    requires kept { IfSome kept (λ k. StandsBehind k (bench_seen O.seen_in bench.old)) }
     requires next { runs.old.next ≡ pin.now.from }
     requires forward { first_change pin.now ≤ until }
     requires bound { until ≤ 2 ^ 62 }
     requires quiet { IsQuietUntil pin.now (first_change pin.now) until }
     requires stand { StandFor (output_at pin.now) pin.now.from runs.old }
     ensures bench { IsBench O.seen_in bench.new }
-    ensures shown { IfOk result (λ s. IsShown pin.now until s.walks.items s.relation (bench_seen O.seen_in bench.new)) }
-    ensures tally { IfOk result (λ s. IsTallied pin.now (bench_seen O.seen_in bench.new) s.tally) }
+    ensures shown { IfOk result (λ s. IsShown pin.now until s.walks.items s.last (bench_seen O.seen_in bench.new)) }
     ensures next { OnOk result (runs.new.next ≡ until) }
     ensures stand { OnOk result (StandFor (output_at pin.now) pin.now.from runs.new) }
 {
+    if let Some(kept) = kept {
+        if let Some(resumed) = resume(alloc, pin, kept)? {
+            hold(alloc, pin, &resumed.last, runs, until)?;
+            return Ok(resumed);
+        }
+    }
     let shown = nothing_shown(alloc, bench, pin)?;
     if pin.base() < pin.from() {
-        let (shown, _) = step(alloc, bench, pin, shown, pin.from())?;
-        hold(alloc, pin, &shown.relation, runs, until)?;
+        let shown = open(alloc, bench, pin, shown, pin.from())?;
+        hold(alloc, pin, &shown.last, runs, until)?;
         return Ok(shown);
     }
     change(alloc, bench, pin, shown, runs, until)

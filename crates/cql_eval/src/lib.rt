@@ -5,12 +5,17 @@
 mod answered;
 mod bags;
 mod evaluate;
+mod evaluator;
 mod pin;
+mod pool;
 mod seen_walk;
 mod shown;
-mod tally;
 mod walks;
+mod warm;
 
 pub use answered::Answer;
 pub use evaluate::answer;
+pub use evaluator::Evaluator;
 pub use pin::Pin;
+pub use pool::{Lender, Pool, Pooled};
+pub use warm::{Kept, MOST, Warm};

@@ -5,7 +5,7 @@ ghost use Rattle.cql_eval.specs.Pin.{IsPin};
 
 use cql_plan::Plan;
 use cql_value::are_same;
-use cql_window::WindowPin;
+use cql_window::{Window, WindowPin};
 use std::marker::Model;
 use std::sync::Arc;
 
@@ -97,6 +97,18 @@ impl Pin {
         self.from
     }
 
+    // Whether some window is one of parts.
+    pub(crate) fn has_parts(&self) -> bool {
+        self.windows
+            .iter()
+            .any(|it| matches!(it.window(), Window::Parts { .. }))
+    }
+
+    // Whether a cursor is from the first instant on, up to behind the last.
+    pub(crate) fn has(&self, cursor: u64) -> bool {
+        self.from <= cursor && cursor <= self.next
+    }
+
     /// The instant after the last that is asked for, in ticks.
     pub fn next(&self) -> u64
         ensures value { result ≡ self.now.next }
@@ -118,6 +130,37 @@ impl Pin {
         ensures pin { IsPin self.now }
     {
         self.windows.as_slice()
+    }
+
+    /// How many rows its windows have in all.
+    pub(crate) fn rows(&self) -> usize {
+        let mut rows: usize = 0;
+        for window in self.windows() {
+            rows = rows.saturating_add(window.content().len() + window.unseen().len());
+        }
+        rows
+    }
+
+    /// How many times at most rows of its windows come or leave: of those that are held before the
+    /// first instant only as they leave, where the bench has them.
+    pub(crate) fn rows_to_push(&self, goes_on: bool) -> usize {
+        let mut rows: usize = 0;
+        for window in self.windows() {
+            rows = rows
+                .saturating_add(window.unseen().len())
+                .saturating_add(window.unseen().len());
+            if !goes_on {
+                rows = rows.saturating_add(window.content().len());
+            }
+        }
+        rows
+    }
+
+    /// Whether another pin is of the same plan, with the same limit. Takes no memory.
+    pub(crate) fn has_plan_of(&self, other: &Pin) -> bool
+        ensures { IsTrue result → (self.now.plan ≡ other.now.plan) × (self.now.limit ≡ other.now.limit) }
+    {
+        self.limit == other.limit && self.plan.is_same(&other.plan)
     }
 
     /// Whether it is that pin: the same plan, instants and limit, over the same windows. Takes no

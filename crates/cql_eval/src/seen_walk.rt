@@ -4,10 +4,10 @@ ghost use Rattle.std.specs.List.Sorted.{IsPermutation};
 ghost use Rattle.cql_places.specs.Places.{all_places};
 ghost use Rattle.cql_places.specs.Windows.{narrowed_all};
 ghost use Rattle.cql_window.specs.Walk.{IsExchange, IsSegment};
-ghost use Rattle.cql_eval.specs.Seen.{fresh, rows_seen, content_seen};
+ghost use Rattle.cql_eval.specs.Seen.{fresh, reached, rows_seen, content_seen};
 
 use cql_places::{are_all, timed_at};
-use cql_value::Timed;
+use cql_value::{Timed, are_same};
 use cql_window::{Moved, Walk, WindowPin};
 use std::alloc::{AllocError, Global};
 use std::marker::Model;
@@ -127,6 +127,36 @@ impl<'a> SeenWalk<'a> {
             },
             Moved { came, left },
         ))
+    }
+
+    /// At a cursor. Without parts no row is copied.
+    pub(crate) fn at(
+        alloc: Global,
+        window: &'a WindowPin,
+        places: &'a [usize],
+        cursor: u64,
+    ) -> Result<SeenWalk<'a>, AllocError>
+        ensures { IfOk result (λ r. r ≡ reached cursor (record { window = window.now; places = places.now })) }
+    {
+        let walk = Walk::new(alloc, window).reach(alloc, cursor)?;
+        Ok(SeenWalk {
+            walk,
+            places,
+            are_first: are_all(places, places.len()),
+        })
+    }
+
+    /// Whether both hold the same rows, in order. It may say no of windows with parts. Takes no
+    /// memory.
+    pub(crate) fn holds_same(&self, other: &SeenWalk<'_>) -> bool
+        ensures { IsTrue result → self.now.held ≡ other.now.held }
+    {
+        are_same(self.places, other.places) && self.walk.holds_same(&other.walk)
+    }
+
+    /// Whether both may hold the same rows: as many, of which the first is the same.
+    pub(crate) fn seems_same(&self, other: &SeenWalk<'_>) -> bool {
+        are_same(self.places, other.places) && self.walk.seems_same(&other.walk)
     }
 
     /// What the window holds at the cursor, as it is seen, in some order.

@@ -5,57 +5,64 @@ ghost use Rattle.cql_value.specs.Order.{row_cmp};
 ghost use Rattle.cql_bag.specs.Bag.{Counts, IsBag, bag_of};
 ghost use Rattle.cql_bag.specs.Changes.{changed_by, CanChangeBy};
 ghost use Rattle.cql_ops.specs.Bench.{IsBench, bench_seen};
+ghost use Rattle.cql_ops.specs.Running.{told_of};
 ghost use Rattle.cql_out.specs.declared.relation.Relation.{Relation as relation};
 ghost use Rattle.cql_out.specs.declared.relation.Relation.TheVariants.{Bag as bag};
 ghost use Rattle.cql_out.specs.ByKind.{output_of, output_of_bags};
 ghost use Rattle.cql_plan.specs.declared.plan.OutputKind.TheVariants.{Rstream};
 ghost use Rattle.cql_eval.specs.Relation.{relation_at};
-ghost use Rattle.cql_eval.specs.Shown.{told_before, StandsFor, LeadsTo, Tells, IsShown, IsTallied};
+ghost use Rattle.cql_eval.specs.Shown.{StandsFor, LeadsTo, Tells, IsReady, IsShown};
 
 use crate::bags::{add_rows, parted, take_rows};
 use crate::pin::Pin;
 use crate::seen_walk::SeenWalk;
-use crate::tally::Tally;
 use crate::walks::{advance, restart, start};
 use cql_bag::law::{minus_counts, put_all_counts, same_counts, take_counts};
 use cql_bag::{Bag, Change, rest_from, rest_of};
 use cql_ops::{BenchOf, Operator, Outcome};
-use cql_out::{Output, Relation, output};
-use cql_plan::OutputKind;
+use cql_out::Output;
+use cql_plan::{Fault, OutputKind};
 use cql_value::Row;
 use std::alloc::{AllocError, Global};
 
-/// Walks over the windows, the rows that were counted, and what is kept of the relation: its fault, and for Rstream, which
-/// tells the whole relation, its bag. The other kinds tell only what came and left, and keep an
-/// empty bag.
+/// What is kept of a relation: its fault, where it is one; and for Rstream, which tells the whole
+/// relation, the bag that the bench has told, which is the relation where that is no fault. The
+/// other kinds tell only what came and left, and keep a bag of no account.
+#[derive(Drop)]
+pub(crate) struct LastTold {
+    pub(crate) bag: Bag,
+    pub(crate) fault: Option<Fault>,
+}
+
+impl LastTold {
+    // The same bag, and a relation that is this fault, or none.
+    fn with_fault(self, fault: Option<Fault>) -> LastTold
+        ensures { result ≡ record { bag = self.bag; fault = fault } }
+    {
+        let LastTold { bag, fault: _ } = self;
+        LastTold { bag, fault }
+    }
+}
+
+/// Walks over the windows, and what is kept of the relation.
 pub(crate) struct Shown<'a> {
     pub(crate) walks: Vec<SeenWalk<'a>>,
-    pub(crate) tally: Tally,
-    pub(crate) relation: Relation,
+    pub(crate) last: LastTold,
 }
 
 impl<'a> Drop for Shown<'a> {
     fn drop(self) {
-        let Shown {
-            walks: _,
-            tally: _,
-            relation: _,
-        } = self;
+        let Shown { walks: _, last: _ } = self;
     }
 }
 
 impl<'a> Shown<'a> {
-    fn into_parts(self) -> (Vec<SeenWalk<'a>>, Tally, Relation)
+    pub(crate) fn into_parts(self) -> (Vec<SeenWalk<'a>>, LastTold)
         ensures walks { result.0.items ≡ self.entry.walks.items }
-        ensures tally { result.1 ≡ self.entry.tally }
-        ensures relation { result.2 ≡ self.entry.relation }
+        ensures last { result.1 ≡ self.entry.last }
     {
-        let Shown {
-            walks,
-            tally,
-            relation,
-        } = self;
-        (walks, tally, relation)
+        let Shown { walks, last } = self;
+        (walks, last)
     }
 }
 
@@ -67,39 +74,33 @@ pub(crate) fn nothing_shown<'a, O: Operator>(
 ) -> Result<Shown<'a>, AllocError>
     requires { IsBench O.seen_in bench.old }
     ensures bench { IsBench O.seen_in bench.new }
-    ensures shown { IfOk result (λ s. (c : ℕ) → c ≤ pin.now.base → IsShown pin.now c s.walks.items s.relation (bench_seen O.seen_in bench.new)) }
-    ensures tally { IfOk result (λ s. IsTallied pin.now (bench_seen O.seen_in bench.new) s.tally) }
+    ensures shown { IfOk result (λ s. (c : ℕ) → c ≤ pin.now.base → IsShown pin.now c s.walks.items s.last (bench_seen O.seen_in bench.new)) }
 {
     let walks = start(alloc, bench, pin)?;
-    let tally = Tally::off();
-    let relation = Relation::Bag(Bag::new(alloc));
-    Ok(Shown {
-        walks,
-        tally,
-        relation,
-    })
+    let last = LastTold {
+        bag: Bag::new(alloc),
+        fault: None,
+    };
+    Ok(Shown { walks, last })
 }
 
 // What Rstream keeps and tells after changes.
 fn list_changes(
     alloc: Global,
-    kept: Relation,
+    last: LastTold,
     changes: Vec<Change>,
-) -> Result<(Relation, Output), AllocError>
-    ensures { IfOk result (λ r. (before : relation) → StandsFor Rstream kept before → CanChangeBy changes.items (told_before before) → StandsFor Rstream r.0 (bag (changed_by changes.items (told_before before))) × (r.1 ≡ output_of Rstream before (bag (changed_by changes.items (told_before before))))) }
+) -> Result<(LastTold, Output), AllocError>
+    ensures { IfOk result (λ r. (told : Counts) (before : relation) → StandsFor Rstream last told before → CanChangeBy changes.items told → StandsFor Rstream r.0 (changed_by changes.items told) (bag (changed_by changes.items told)) × (r.1 ≡ output_of Rstream before (bag (changed_by changes.items told)))) }
 {
     same_counts();
     put_all_counts();
     take_counts();
-    let mut bag = match kept {
-        Relation::Bag(bag) => bag,
-        Relation::Fault(_) => Bag::new(alloc),
-    };
+    let LastTold { mut bag, fault: _ } = last;
     let (came, left) = parted(alloc, changes)?;
     add_rows(&mut bag, came)?;
     take_rows(&mut bag, &left);
     let told = Output::Rows(bag.listing(alloc)?);
-    Ok((Relation::Bag(bag), told))
+    Ok((LastTold { bag, fault: None }, told))
 }
 
 // What the other kinds tell of rows that came and rows that left, each ascending.
@@ -136,63 +137,154 @@ fn difference(alloc: Global, kind: OutputKind, changes: Vec<Change>) -> Result<O
     told_of_rows(alloc, kind, came, left)
 }
 
-// What the other kinds keep and tell after changes.
+// What the other kinds keep and tell after changes: a fault of the instant before comes first.
 fn tell_changes(
     alloc: Global,
     kind: OutputKind,
-    kept: Relation,
+    last: LastTold,
     changes: Vec<Change>,
-) -> Result<(Relation, Output), AllocError>
-    ensures { IfOk result (λ r. kind ≢ Rstream → (before : relation) → StandsFor kind kept before → CanChangeBy changes.items (told_before before) → StandsFor kind r.0 (bag (changed_by changes.items (told_before before))) × (r.1 ≡ output_of kind before (bag (changed_by changes.items (told_before before))))) }
+) -> Result<(LastTold, Output), AllocError>
+    ensures { IfOk result (λ r. kind ≢ Rstream → (told : Counts) (before : relation) → StandsFor kind last told before → CanChangeBy changes.items told → StandsFor kind r.0 (changed_by changes.items told) (bag (changed_by changes.items told)) × (r.1 ≡ output_of kind before (bag (changed_by changes.items told)))) }
 {
     put_all_counts();
     take_counts();
-    match kept {
-        Relation::Bag(bag) => {
-            let told = difference(alloc, kind, changes)?;
-            Ok((Relation::Bag(bag), told))
-        }
-        Relation::Fault(fault) => Ok((Relation::Bag(Bag::new(alloc)), Output::Fault(fault))),
-    }
+    let told = match last.fault {
+        None => difference(alloc, kind, changes)?,
+        Some(fault) => Output::Fault(fault),
+    };
+    Ok((last.with_fault(None), told))
 }
 
-// What is kept and told after changes: nothing new where there are none.
+// What is kept and told after changes: nothing new where there are none and there was no fault.
 fn tell_all(
     alloc: Global,
     kind: OutputKind,
-    kept: Relation,
+    last: LastTold,
     changes: Vec<Change>,
-) -> Result<(Relation, Option<Output>), AllocError>
-    ensures { IfOk result (λ r. (before : relation) → StandsFor kind kept before → CanChangeBy changes.items (told_before before) → StandsFor kind r.0 (bag (changed_by changes.items (told_before before))) × Tells kind r.1 before (bag (changed_by changes.items (told_before before)))) }
+) -> Result<(LastTold, Option<Output>), AllocError>
+    ensures { IfOk result (λ r. (told : Counts) (before : relation) → StandsFor kind last told before → CanChangeBy changes.items told → StandsFor kind r.0 (changed_by changes.items told) (bag (changed_by changes.items told)) × Tells kind r.1 before (bag (changed_by changes.items told))) }
 {
-    if changes.is_empty() && matches!(&kept, Relation::Bag(_)) {
-        return Ok((kept, None));
+    if changes.is_empty() && last.fault.is_none() {
+        return Ok((last, None));
     }
-    let (kept, told) = match kind {
-        OutputKind::Rstream => list_changes(alloc, kept, changes)?,
-        _ => tell_changes(alloc, kind, kept, changes)?,
+    let (last, told) = match kind {
+        OutputKind::Rstream => list_changes(alloc, last, changes)?,
+        _ => tell_changes(alloc, kind, last, changes)?,
     };
-    Ok((kept, Some(told)))
+    Ok((last, Some(told)))
+}
+
+// What is kept after changes, where nothing is told.
+fn keep_changes(
+    alloc: Global,
+    kind: OutputKind,
+    last: LastTold,
+    changes: Vec<Change>,
+) -> Result<LastTold, AllocError>
+    ensures { IfOk result (λ r. (told : Counts) (before : relation) → StandsFor kind last told before → CanChangeBy changes.items told → StandsFor kind r (changed_by changes.items told) (bag (changed_by changes.items told))) }
+{
+    put_all_counts();
+    take_counts();
+    match kind {
+        OutputKind::Rstream => {
+            let (last, _) = list_changes(alloc, last, changes)?;
+            Ok(last)
+        }
+        _ => Ok(last.with_fault(None)),
+    }
 }
 
 // What is kept and told after a bench answered.
 fn tell(
     alloc: Global,
     kind: OutputKind,
-    kept: Relation,
+    last: LastTold,
     outcome: Outcome,
-) -> Result<(Relation, Option<Output>), AllocError>
-    ensures { IfOk result (λ r. (before now : relation) → StandsFor kind kept before → LeadsTo outcome before now → StandsFor kind r.0 now × Tells kind r.1 before now) }
+) -> Result<(LastTold, Option<Output>), AllocError>
+    ensures { IfOk result (λ r. (told after : Counts) (before now : relation) → StandsFor kind last told before → LeadsTo outcome told after now → StandsFor kind r.0 after now × Tells kind r.1 before now) }
 {
     match outcome {
-        Outcome::Changed(changes) => tell_all(alloc, kind, kept, changes),
-        Outcome::Faulty(fault) => Ok((Relation::Fault(fault), Some(Output::Fault(fault)))),
+        Outcome::Changed(changes) => tell_all(alloc, kind, last, changes),
+        Outcome::Held(fault) => Ok((last.with_fault(Some(fault)), Some(Output::Fault(fault)))),
+        Outcome::Faulty(fault) => Ok((
+            LastTold {
+                bag: Bag::new(alloc),
+                fault: Some(fault),
+            },
+            Some(Output::Fault(fault)),
+        )),
     }
 }
 
+// What is kept after a bench answered, where nothing is told.
+fn keep(
+    alloc: Global,
+    kind: OutputKind,
+    last: LastTold,
+    outcome: Outcome,
+) -> Result<LastTold, AllocError>
+    ensures { IfOk result (λ r. (told after : Counts) (before now : relation) → StandsFor kind last told before → LeadsTo outcome told after now → StandsFor kind r after now) }
+{
+    match outcome {
+        Outcome::Changed(changes) => keep_changes(alloc, kind, last, changes),
+        Outcome::Held(fault) => Ok(last.with_fault(Some(fault))),
+        Outcome::Faulty(fault) => Ok(LastTold {
+            bag: Bag::new(alloc),
+            fault: Some(fault),
+        }),
+    }
+}
+
+// Goes on to a cursor with every walk, and asks the bench what it tells there. Where a fault left an
+// operator spent the bench is started anew, over what the walks hold.
+fn reach<'a, O: Operator>(
+    alloc: Global,
+    bench: &mut BenchOf<O>,
+    pin: &'a Pin,
+    walks: Vec<SeenWalk<'a>>,
+    cursor: u64,
+) -> Result<(Vec<SeenWalk<'a>>, Outcome), AllocError>
+    requires bench { IsBench O.seen_in bench.old }
+    requires based { pin.now.base < cursor }
+    requires ready { IsReady pin.now cursor walks.items (bench_seen O.seen_in bench.old) }
+    ensures bench { IsBench O.seen_in bench.new }
+    ensures ready { IfOk result (λ r. IsReady pin.now cursor r.0.items (bench_seen O.seen_in bench.new)) }
+    ensures leads { IfOk result (λ r. LeadsTo r.1 (told_of pin.now.plan (bench_seen O.seen_in bench.old)) (told_of pin.now.plan (bench_seen O.seen_in bench.new)) (relation_at pin.now cursor)) }
+{
+    let walks = advance(alloc, bench, pin, walks, cursor)?;
+    let outcome = bench.emit(alloc, pin.plan(), pin.limit())?;
+    match outcome {
+        Outcome::Changed(changes) => Ok((walks, Outcome::Changed(changes))),
+        Outcome::Held(fault) => Ok((walks, Outcome::Held(fault))),
+        Outcome::Faulty(fault) => {
+            restart(alloc, bench, pin, &walks)?;
+            Ok((walks, Outcome::Faulty(fault)))
+        }
+    }
+}
+
+/// What is shown at a later cursor, where nothing is told: the opening of an answer.
+pub(crate) fn open<'a, O: Operator>(
+    alloc: Global,
+    bench: &mut BenchOf<O>,
+    pin: &'a Pin,
+    shown: Shown<'a>,
+    cursor: u64,
+) -> Result<Shown<'a>, AllocError>
+    requires bench { IsBench O.seen_in bench.old }
+    requires based { pin.now.base < cursor }
+    requires shown { (c : ℕ) × (c ≤ cursor) × IsShown pin.now c shown.walks.items shown.last (bench_seen O.seen_in bench.old) }
+    ensures bench { IsBench O.seen_in bench.new }
+    ensures shown { IfOk result (λ r. IsShown pin.now cursor r.walks.items r.last (bench_seen O.seen_in bench.new)) }
+{
+    let (walks, last) = shown.into_parts();
+    let (walks, outcome) = reach(alloc, bench, pin, walks, cursor)?;
+    let last = keep(alloc, pin.plan().output(), last, outcome)?;
+    Ok(Shown { walks, last })
+}
+
 /// What is shown at a later cursor, and the output from the one to the other, or none where the
-/// relation is the same. After a fault the bench is started anew over what the windows hold, and is
-/// not asked while the rows that are counted say that there is one.
+/// relation is the same.
 pub(crate) fn step<'a, O: Operator>(
     alloc: Global,
     bench: &mut BenchOf<O>,
@@ -202,47 +294,28 @@ pub(crate) fn step<'a, O: Operator>(
 ) -> Result<(Shown<'a>, Option<Output>), AllocError>
     requires bench { IsBench O.seen_in bench.old }
     requires based { pin.now.base < cursor }
-    requires shown { (c : ℕ) × (c ≤ cursor) × IsShown pin.now c shown.walks.items shown.relation (bench_seen O.seen_in bench.old) }
-    requires tally { IsTallied pin.now (bench_seen O.seen_in bench.old) shown.tally }
+    requires shown { (c : ℕ) × (c ≤ cursor) × IsShown pin.now c shown.walks.items shown.last (bench_seen O.seen_in bench.old) }
     ensures bench { IsBench O.seen_in bench.new }
-    ensures shown { IfOk result (λ r. IsShown pin.now cursor r.0.walks.items r.0.relation (bench_seen O.seen_in bench.new)) }
-    ensures tally { IfOk result (λ r. IsTallied pin.now (bench_seen O.seen_in bench.new) r.0.tally) }
-    ensures told { IfOk result (λ r. (c : ℕ) → IsShown pin.now c shown.entry.walks.items shown.entry.relation (bench_seen O.seen_in bench.old) → Tells pin.now.plan.output r.1 (relation_at pin.now c) (relation_at pin.now cursor)) }
+    ensures shown { IfOk result (λ r. IsShown pin.now cursor r.0.walks.items r.0.last (bench_seen O.seen_in bench.new)) }
+    ensures told { IfOk result (λ r. (c : ℕ) → IsShown pin.now c shown.entry.walks.items shown.entry.last (bench_seen O.seen_in bench.old) → Tells pin.now.plan.output r.1 (relation_at pin.now c) (relation_at pin.now cursor)) }
 {
-    let (walks, mut tally, relation) = shown.into_parts();
-    let walks = advance(alloc, bench, &mut tally, pin, walks, cursor)?;
-    if let (Some(fault), Relation::Fault(_)) = (tally.fault(pin.limit()), &relation) {
-        let relation = Relation::Fault(fault);
-        let shown = Shown {
-            walks,
-            tally,
-            relation,
-        };
-        return Ok((shown, Some(Output::Fault(fault))));
-    }
-    let outcome = bench.emit(alloc, pin.plan(), pin.limit())?;
-    let tally = match &outcome {
-        Outcome::Changed(_) => tally,
-        Outcome::Faulty(_) => restart(alloc, bench, pin, &walks)?,
-    };
-    let (relation, told) = tell(alloc, pin.plan().output(), relation, outcome)?;
-    let shown = Shown {
-        walks,
-        tally,
-        relation,
-    };
-    Ok((shown, told))
+    let (walks, last) = shown.into_parts();
+    let (walks, outcome) = reach(alloc, bench, pin, walks, cursor)?;
+    let (last, told) = tell(alloc, pin.plan().output(), last, outcome)?;
+    Ok((Shown { walks, last }, told))
 }
 
 /// The output where nothing changed since the instant before.
 pub(crate) fn same_output(
     alloc: Global,
     kind: OutputKind,
-    kept: &Relation,
+    last: &LastTold,
 ) -> Result<Output, AllocError>
-    ensures { IfOk result (λ o. (now : relation) → StandsFor kind kept.now now → o ≡ output_of kind now now) }
+    ensures { IfOk result (λ o. (told : Counts) (now : relation) → StandsFor kind last.now told now → o ≡ output_of kind now now) }
 {
-    same_counts();
-    minus_counts();
-    output(alloc, kind, kept, kept)
+    match (last.fault, kind) {
+        (Some(fault), _) => Ok(Output::Fault(fault)),
+        (None, OutputKind::Rstream) => Ok(Output::Rows(last.bag.listing(alloc)?)),
+        (None, _) => difference(alloc, kind, Vec::new(alloc)),
+    }
 }

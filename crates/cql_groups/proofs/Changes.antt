@@ -9,7 +9,7 @@ use Rattle.cql_bag.specs.Changes.{change_of, changed, CanChange}
 use Rattle.cql_bag.specs.declared.change.Change.{Change}
 use Rattle.cql_algebra.specs.Shape.{total, key_of, key_bag, group_of}
 use Rattle.cql_algebra.specs.ShapeLaws.{number_in}
-use Rattle.cql_groups.specs.Cells.{moved}
+use Rattle.cql_groups.specs.Parts.{moved}
 use Rattle.cql_groups.specs.GroupLaws.{Laws}
 
 less_is : (a b s : ℤ) → b +ℤ s ≡ a → a -ℤ s ≡ b

@@ -2,14 +2,21 @@
 use denote.Param.Send.{IsSend, sendable}
 use Rattle.std.proofs.alloc.Global.TheSendSync as heap
 use Rattle.cql_groups.proofs.keyed_shape.Kept.TheSendSync as kept
+use Rattle.sqlite_items.proofs.items.Items.TheSendSync as items
+use Rattle.cql_groups.proofs.part.Asked.TheSendSync as asked
+use Rattle.cql_groups.proofs.layout.Source.TheSendSync as source
+use Rattle.cql_groups.specs.contracts.layout.Layout as layout
 use Rattle.cql_groups.specs.contracts.keyed_shape.KeyedShape as keyed_shape
 use Rattle.cql_groups.specs.contracts.group_shape.Way as way
 use Rattle.cql_groups.specs.contracts.group_shape.GroupShape as group_shape
 use Rattle.cql_plain.proofs.Crosses.{plain_shape_send}
 use Rattle.cql_plan.proofs.CrossQueries.{shape_send}
 
+layout_send : IsSend (layout.the_field).row
+layout_send = search (sendable, items.the_send, shape_send, asked.the_send, source.the_send) depth 20
+
 keyed_shape_send : IsSend keyed_shape.the_row
-keyed_shape_send = search (sendable, heap.the_send, shape_send, kept.the_field_send) depth 20
+keyed_shape_send = search (sendable, heap.the_send, layout_send, kept.the_field_send) depth 20
 
 way_send : IsSend (way.the_field).row
 way_send = search (sendable, plain_shape_send, keyed_shape_send) depth 20

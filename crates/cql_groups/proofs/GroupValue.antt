@@ -1,5 +1,5 @@
 -- Once each group has told its row, the bag told is the value of the shape; and a group without a row has none.
-use Rattle.std.proofs.Common.{◌≡◌, ◌≢◌, ℕ, ◌+◌, ◌<◌, ◌≤◌, List, [], ◌∷◌, map, Bool, true, false, not, ◌||◌, cond, if◌then◌else◌, Option, Some, None, refl, sym, ap, ◌∙◌, subst, arith, Ordering, Less, Equal, Greater}
+use Rattle.std.proofs.Common.{◌≡◌, ℕ, ◌+◌, ◌≤◌, List, [], ◌∷◌, map, Bool, true, false, cond, if◌then◌else◌, Option, Some, None, refl, sym, ap, ◌∙◌, subst, arith, Ordering, Less, Equal, Greater}
 use Rattle.std.specs.List.{All, AllByRecursion}
 use Rattle.std.specs.List.Sorted.{IsStrictlySortedBy}
 use Rattle.std.specs.Map.{lookup, keys_of}
@@ -8,20 +8,18 @@ use Rattle.std.specs.Ordering.{is_eq, ordering_reverse}
 use Rattle.std.proofs.lemmas.List.Elements.{All-cons, All-from_recursion, recursion_from_All}
 use Rattle.cql_value.specs.Order.{row_cmp, row_cmp_total}
 use Rattle.cql_value.specs.declared.value.Value.{Value}
-use Rattle.cql_value.proofs.Ties.{tied}
 use Rattle.cql_bag.specs.Bag.{Counts, IsBag, count, put_all, size_of}
 use Rattle.cql_bag.specs.Law.{ArePositive}
-use Rattle.cql_plan.specs.declared.node.Shape.{Shape}
-use Rattle.cql_plan.specs.Fit.{is_empty}
-use Rattle.cql_algebra.specs.Shape.{with_first, all_of, as_bag, times_over, key_bag, group_of, key_groups, group_row, groups_value, items_over, shape_value}
+use Rattle.cql_algebra.specs.Shape.{with_first, as_bag, times_over, key_bag, group_of, items_over, shape_value}
 use Rattle.cql_groups.specs.GroupLaws.{Laws}
 use Rattle.cql_groups.specs.Grouped.{IsLacking, IsHeldOf, IsHeldAt, at_key, told_rows, IsGrouping}
 use Rattle.cql_ops.specs.Linear.{with_entry}
 use Rattle.cql_groups.specs.declared.grouped.Group.{Group}
-use Rattle.cql_groups.proofs.CellLaws.{row_is}
+use Rattle.cql_groups.specs.declared.layout.Layout.{Layout}
+use Rattle.cql_groups.proofs.PartLaws.{row_is}
 use Rattle.cql_algebra.proofs.Keys.{bag_of_keys}
+use Rattle.cql_groups.proofs.GroupKeys.{rows_of, keyed_value, no_row}
 use Rattle.cql_groups.proofs.GroupingLaws.{held}
-use Rattle.cql_plain.proofs.Shaped.{of_groups}
 use Rattle.cql_bag.proofs.Rows.{count_rest}
 
 abbrev Row : Type 0
@@ -30,56 +28,12 @@ Row = List Value
 abbrev Groups : Type 0
 Groups = List (Row × Group)
 
--- ---- the groups of a shape with grouped columns
-
-if_some : {A : Type 0} (gs : List ℕ) (x y : A) → gs ≢ [] → (if is_empty gs then x else y) ≡ y
-if_some [] x y h = absurd (h refl)
-if_some (g ∷ gs) x y h = refl
-
-some_groups : (gs : List ℕ) (b : Bool) → gs ≢ [] → (not (is_empty gs) || b) ≡ true
-some_groups [] b h = absurd (h refl)
-some_groups (g ∷ gs) b h = refl
-
-map-map : {A B C : Type 0} (f : B → C) (g : A → B) (xs : List A) → map f (map g xs) ≡ map (λ x. f (g x)) xs
-map-map f g [] = refl
-map-map f g (x ∷ xs) = ap (λ l. f (g x) ∷ l) (map-map f g xs)
-
--- the row of a key, once
-abbrev pub row_at : Shape → Counts → Row → Option (Row × ℕ)
-row_at shape port key = times_over 1 (items_over shape.items (group_of shape.groups port key))
-
-abbrev pub rows_of : Shape → Counts → Counts → Option Counts
-rows_of shape port keys = all_of (map (λ e. row_at shape port e.0) keys)
-
-pub keyed_value : (shape : Shape) (port : Counts) → shape.groups ≢ [] → shape_value shape port ≡ as_bag (rows_of shape port (key_bag shape.groups port))
-keyed_value shape port some =
-    of_groups shape port (some_groups shape.groups _ some)
-    ∙ ap (groups_value shape.items) (if_some shape.groups _ (key_groups shape.groups port) some)
-    ∙ ap as_bag (ap all_of (map-map (group_row shape.items) (λ (e : Row × ℕ). group_of shape.groups port e.0) (key_bag shape.groups port)))
-
 -- ---- a group whose row has no value
 
-nothing_first : {A : Type 0} (o : Option A) → with_first o None ≡ None
-nothing_first None = refl
-nothing_first (Some e) = refl
-
-missing : (shape : Shape) (port : Counts) (key : Row) (keys : Counts) → 0 < count key keys → row_at shape port key ≡ None → rows_of shape port keys ≡ None
-missing shape port key [] some none = absurd (omega (arith, some))
-missing shape port key (e ∷ es) some none =
-    elim (is_eq (row_cmp e.0 key)) as (λ b. is_eq (row_cmp e.0 key) ≡ b → 0 < (if b then e.1 else 0) + count key es → with_first (row_at shape port e.0) (rows_of shape port es) ≡ None) [
-      | true ↦ λ t s. ap (λ o. with_first o (rows_of shape port es)) (ap (row_at shape port) (tied e.0 key t) ∙ none)
-      | false ↦ λ t s. ap (with_first (row_at shape port e.0)) (missing shape port key es (omega (arith, s)) none) ∙ nothing_first (row_at shape port e.0)
-    ] refl some
-
-pub lacking : (laws : Laws) (shape : Shape) (port told : Counts) (es : Groups) (key : Row) (rest : List Row) (was : IsGrouping shape port told es (key ∷ rest)) (g : Group) → at_key key es ≡ Some g → IsLacking g → shape_value shape port ≡ None
-lacking laws shape port told es key rest was g there lacks =
-    let of = (held laws laws.typing shape port told es key rest was g there).group in
-    let none : items_over shape.items (group_of shape.groups port key) ≡ None = sym (row_is laws shape was.keyed port was.port_bag was.in_port key g of lacks.0) ∙ lacks.1 in
-    let some : 0 < count key (key_bag shape.groups port) = at_least g.size (size_of (group_of shape.groups port key)) (count key (key_bag shape.groups port)) lacks.0 of.size (laws.key_count shape.groups port key) in
-    keyed_value shape port was.keyed.some ∙ ap as_bag (missing shape port key (key_bag shape.groups port) some (ap (times_over 1) none))
-  where
-    at_least : (n s c : ℕ) → 1 ≤ n → n ≡ s → c ≡ s → 0 < c
-    at_least n s c h i j = omega (arith, h, i, j)
+pub lacking : (laws : Laws) (layout : Layout) (port told : Counts) (es : Groups) (key : Row) (rest : List Row) (was : IsGrouping layout port told es (key ∷ rest)) (g : Group) → at_key key es ≡ Some g → IsLacking layout.sources g → shape_value layout.shape port ≡ None
+lacking laws layout port told es key rest was g there lacks =
+    let of = (held laws laws.typing layout port told es key rest was g there).group in
+    no_row laws layout.shape port key was.layout.keyed (subst (λ n. 1 ≤ n) of.size lacks.0) (sym (row_is laws layout was.layout port was.port_bag was.in_port key g of lacks.0) ∙ lacks.1)
 
 -- ---- all groups told
 
@@ -104,11 +58,11 @@ abbrev sizes : Groups → Counts
 sizes es = map (λ e. (e.0, e.1.size)) es
 
 -- an entry whose group has told its row
-pub record HasTold (shape : Shape) (port : Counts) (e : Row × Group) : Type 0 where
+pub record HasTold (layout : Layout) (port : Counts) (e : Row × Group) : Type 0 where
   pub row : Row
   pub told : e.1.told ≡ Some row
   pub some : 1 ≤ e.1.size
-  pub is : items_over shape.items (group_of shape.groups port e.0) ≡ Some row
+  pub is : items_over layout.shape.items (group_of layout.shape.groups port e.0) ≡ Some row
 
 ordered_sizes : (es : Groups) → AllByRecursion (λ (e : Row × Group). 1 ≤ e.1.size) es → IsStrictlySortedBy row_cmp (keys_of es) → IsBag (sizes es)
 unfolding IsStrictlySortedBy
@@ -123,10 +77,10 @@ size_at : (key : Row) (es : Groups) → lookup (λ k. is_eq (row_cmp key k)) (si
 size_at key [] = refl
 size_at key (e ∷ es) = elim (is_eq (row_cmp key e.0)) as (λ b. cond b (Some e.1.size) (lookup (λ k. is_eq (row_cmp key k)) (sizes es)) ≡ option_map (λ (g : Group). g.size) (cond b (Some e.1) (at_key key es))) [ true ↦ refl | false ↦ size_at key es ]
 
-each_told : (shape : Shape) (port : Counts) (es : Groups) → AllByRecursion (HasTold shape port) es → rows_of shape port (sizes es) ≡ Some (told_rows es)
-each_told shape port [] all = refl
-each_told shape port (e ∷ es) all =
-    ap (λ o. with_first (times_over 1 o) (rows_of shape port (sizes es))) all.0.is ∙ ap (with_first (Some (all.0.row, 1))) (each_told shape port es all.1) ∙ ap (λ o. Some (with_entry o 1 (told_rows es))) (sym all.0.told)
+each_told : (layout : Layout) (port : Counts) (es : Groups) → AllByRecursion (HasTold layout port) es → rows_of layout.shape port (sizes es) ≡ Some (told_rows es)
+each_told layout port [] all = refl
+each_told layout port (e ∷ es) all =
+    ap (λ o. with_first (times_over 1 o) (rows_of layout.shape port (sizes es))) all.0.is ∙ ap (with_first (Some (all.0.row, 1))) (each_told layout port es all.1) ∙ ap (λ o. Some (with_entry o 1 (told_rows es))) (sym all.0.told)
 
 positive_rows : (es : Groups) → ArePositive (told_rows es)
 positive_rows [] = λ i d lt. absurd (omega (arith, lt))
@@ -135,40 +89,40 @@ positive_rows (e ∷ es) = elim (e.1.told) as (λ o. ArePositive (with_entry o 1
   | Some row ↦ All-cons (λ (x : Row × ℕ). 1 ≤ x.1) (row, 1) (told_rows es) (omega arith) (positive_rows es)
 ]
 
-module _ (laws : Laws) (shape : Shape) (port told : Counts) (es : Groups) (was : IsGrouping shape port told es []) (up : IsStrictlySortedBy row_cmp (keys_of es)) (found : All (λ (e : Row × Group). at_key e.0 es ≡ Some e.1) es) where
-  told_one : (e : Row × Group) → at_key e.0 es ≡ Some e.1 → HasTold shape port e
+module _ (laws : Laws) (layout : Layout) (port told : Counts) (es : Groups) (was : IsGrouping layout port told es []) (up : IsStrictlySortedBy row_cmp (keys_of es)) (found : All (λ (e : Row × Group). at_key e.0 es ≡ Some e.1) es) where
+  told_one : (e : Row × Group) → at_key e.0 es ≡ Some e.1 → HasTold layout port e
   told_one e at = by_pushed (e.1.pushed) refl
     where
-      of : IsHeldOf shape [] e.0 (group_of shape.groups port e.0) e.1
-      of = subst (IsHeldAt shape [] e.0 (group_of shape.groups port e.0)) at (was.held e.0)
+      of : IsHeldOf layout [] e.0 (group_of layout.shape.groups port e.0) e.1
+      of = subst (IsHeldAt layout [] e.0 (group_of layout.shape.groups port e.0)) at (was.held e.0)
 
-      by_pushed : (b : Bool) → e.1.pushed ≡ b → HasTold shape port e
+      by_pushed : (b : Bool) → e.1.pushed ≡ b → HasTold layout port e
       by_pushed true p = absurd (let h = of.waits p in cc)
       by_pushed false p = let s = of.settled p in record { row = s.0; told = s.1; some = s.2; is = s.3 }
 
-  all_told : AllByRecursion (HasTold shape port) es
+  all_told : AllByRecursion (HasTold layout port) es
   all_told = each es (recursion_from_All (λ (e : Row × Group). at_key e.0 es ≡ Some e.1) es found)
     where
-      each : (fs : Groups) → AllByRecursion (λ (e : Row × Group). at_key e.0 es ≡ Some e.1) fs → AllByRecursion (HasTold shape port) fs
+      each : (fs : Groups) → AllByRecursion (λ (e : Row × Group). at_key e.0 es ≡ Some e.1) fs → AllByRecursion (HasTold layout port) fs
       each [] all = tt
       each (f ∷ fs) all = (told_one f all.0, each fs all.1)
 
   sizes_bag : IsBag (sizes es)
   sizes_bag = ordered_sizes es (some es all_told) up
     where
-      some : (fs : Groups) → AllByRecursion (HasTold shape port) fs → AllByRecursion (λ (e : Row × Group). 1 ≤ e.1.size) fs
+      some : (fs : Groups) → AllByRecursion (HasTold layout port) fs → AllByRecursion (λ (e : Row × Group). 1 ≤ e.1.size) fs
       some [] all = tt
       some (f ∷ fs) all = (all.0.some, some fs all.1)
 
-  count_sizes : (key : Row) → count key (sizes es) ≡ count key (key_bag shape.groups port)
-  count_sizes key = count_found (sizes es) key sizes_bag ∙ ap (λ o. unwrap_or o 0) (size_at key es) ∙ by_group (at_key key es) (was.held key) ∙ sym (laws.key_count shape.groups port key)
+  count_sizes : (key : Row) → count key (sizes es) ≡ count key (key_bag layout.shape.groups port)
+  count_sizes key = count_found (sizes es) key sizes_bag ∙ ap (λ o. unwrap_or o 0) (size_at key es) ∙ by_group (at_key key es) (was.held key) ∙ sym (laws.key_count layout.shape.groups port key)
     where
-      by_group : (o : Option Group) → IsHeldAt shape [] key (group_of shape.groups port key) o → unwrap_or (option_map (λ (g : Group). g.size) o) 0 ≡ size_of (group_of shape.groups port key)
+      by_group : (o : Option Group) → IsHeldAt layout [] key (group_of layout.shape.groups port key) o → unwrap_or (option_map (λ (g : Group). g.size) o) 0 ≡ size_of (group_of layout.shape.groups port key)
       by_group None none = ap size_of (sym none)
       by_group (Some g) of = of.group.size
 
-  keys_are : sizes es ≡ key_bag shape.groups port
-  keys_are = laws.same (sizes es) (key_bag shape.groups port) sizes_bag (bag_of_keys laws.puts laws.entries shape.groups port was.port_bag) count_sizes
+  keys_are : sizes es ≡ key_bag layout.shape.groups port
+  keys_are = laws.same (sizes es) (key_bag layout.shape.groups port) sizes_bag (bag_of_keys laws.puts laws.entries layout.shape.groups port was.port_bag) count_sizes
 
   told_is : put_all (told_rows es) [] ≡ told
   told_is = laws.same (put_all (told_rows es) []) told ((laws.puts (told_rows es) []).0 tt (positive_rows es)) was.told_bag (λ q. (laws.puts (told_rows es) []).1 q ∙ zero_in (count q (told_rows es)) ∙ sym (was.rows q))
@@ -177,5 +131,5 @@ module _ (laws : Laws) (shape : Shape) (port told : Counts) (es : Groups) (was :
       zero_in n = omega arith
 
   -- the bag told is the shape's value
-  pub value_is : shape_value shape port ≡ Some told
-  value_is = keyed_value shape port was.keyed.some ∙ ap (λ k. as_bag (rows_of shape port k)) (sym keys_are) ∙ ap as_bag (each_told shape port es all_told) ∙ ap (λ b. Some b) told_is
+  pub value_is : shape_value layout.shape port ≡ Some told
+  value_is = keyed_value layout.shape port was.layout.keyed ∙ ap (λ k. as_bag (rows_of layout.shape port k)) (sym keys_are) ∙ ap as_bag (each_told layout port es all_told) ∙ ap (λ b. Some b) told_is

@@ -13,20 +13,23 @@ use Rattle.cql_value.proofs.Ties.{tied, ties, ties_itself}
 use Rattle.cql_bag.specs.Bag.{Counts, IsBag, count, less_one, size_of}
 use Rattle.cql_bag.specs.Changes.{changed, changed_by, change_of, CanChange, CanChangeBy}
 use Rattle.cql_bag.specs.declared.change.Change.{Change}
-use Rattle.cql_plan.specs.declared.node.Item.{Item}
-use Rattle.cql_plan.specs.declared.node.Shape.{Shape}
 use Rattle.cql_plan.specs.Fit.{IsTyped}
 use Rattle.cql_plan.specs.Node.{item_types}
 use Rattle.cql_algebra.specs.PlanLaws.{IsGroupTypesLaw}
+use Rattle.cql_algebra.specs.GroupChanges.{times_lacking}
 use Rattle.cql_algebra.specs.Shape.{key_of, group_of, items_over}
-use Rattle.cql_groups.specs.Cells.{cell_of}
+use Rattle.cql_algebra.specs.Typed.{AreOf}
+use Rattle.cql_groups.specs.Parts.{part_of}
 use Rattle.cql_ops.specs.Clauses.{AreChangesOf}
-use Rattle.cql_groups.specs.Grouped.{IsGroupOf, IsChangedGroup, IsDue, IsHeldOf, IsHeldAt, at_key, IsTaken, told_rows, IsNew, CanChangeAt, IsChangedAt, IsGrouping, AreTold, TellsGroups}
+use Rattle.cql_groups.specs.Grouped.{IsGroupOf, IsChangedGroup, IsDue, IsHeldOf, IsHeldAt, at_key, IsTaken, told_rows, IsNew, CanChangeAt, IsChangedAt, IsGrouping, one_if, lacking_groups, AreTold, TellsGroups}
 use Rattle.cql_groups.specs.GroupLaws.{Laws}
 use Rattle.cql_ops.specs.Linear.{with_entry, with_change}
 use Rattle.cql_ops.specs.Settle.{is_among}
 use Rattle.cql_groups.specs.declared.grouped.Group.{Group}
-use Rattle.cql_groups.proofs.CellLaws.{group_after, group_types, row_is}
+use Rattle.cql_groups.specs.declared.layout.Layout.{Layout}
+use Rattle.cql_groups.specs.declared.part.Asked.{Asked}
+use Rattle.cql_groups.proofs.PartLaws.{group_after, group_types, row_is, lacks_is}
+use Rattle.cql_groups.proofs.GroupKeys.{among_lacking}
 use Rattle.cql_groups.proofs.Changes.{group_changed, group_stays, can_change}
 use Rattle.cql_ops.proofs.Linear.{IsBag-changed_by, count_put}
 
@@ -95,22 +98,24 @@ or_more true b h = refl
 or_more false b h = absurd cc
 
 -- a key that isn't the one that was told
-other_waits : (shape : Shape) (key : Row) (rest : List Row) (q : Row) (rows : Counts) (o : Option Group) → is_eq (row_cmp key q) ≡ false → IsHeldAt shape (key ∷ rest) q rows o → IsHeldAt shape rest q rows o
-other_waits shape key rest q rows None apart held = held
-other_waits shape key rest q rows (Some g) apart held = record {
+other_waits : (layout : Layout) (key : Row) (rest : List Row) (q : Row) (rows : Counts) (o : Option Group) → is_eq (row_cmp key q) ≡ false → IsHeldAt layout (key ∷ rest) q rows o → IsHeldAt layout rest q rows o
+other_waits layout key rest q rows None apart held = held
+other_waits layout key rest q rows (Some g) apart held = record {
   group = held.group;
+  lacks = held.lacks;
   waits = λ p. or_other (is_eq (row_cmp key q)) (is_among rest q) apart (held.waits p);
   settled = held.settled;
   typed = held.typed;
 }
 
 -- and with one more that waits
-more_waits : (shape : Shape) (left more : List Row) (q : Row) (rows after : Counts) (o : Option Group) → after ≡ rows → ((b : Bool) → is_among left q ≡ true → is_among more q ≡ true) → IsHeldAt shape left q rows o → IsHeldAt shape more q after o
-more_waits shape left more q rows after None e on held = e ∙ held
-more_waits shape left more q rows after (Some g) e on held = record {
-  group = subst (λ r. IsGroupOf shape q r g) (sym e) held.group;
+more_waits : (layout : Layout) (left more : List Row) (q : Row) (rows after : Counts) (o : Option Group) → after ≡ rows → ((b : Bool) → is_among left q ≡ true → is_among more q ≡ true) → IsHeldAt layout left q rows o → IsHeldAt layout more q after o
+more_waits layout left more q rows after None e on held = e ∙ held
+more_waits layout left more q rows after (Some g) e on held = record {
+  group = subst (λ r. IsGroupOf layout q r g) (sym e) held.group;
+  lacks = held.lacks ∙ ap (times_lacking layout.shape.items) (sym e);
   waits = λ p. on true (held.waits p);
-  settled = λ p. let s = held.settled p in (s.0, s.1, s.2, ap (items_over shape.items) e ∙ s.3);
+  settled = λ p. let s = held.settled p in (s.0, s.1, s.2, ap (items_over layout.shape.items) e ∙ s.3);
   typed = held.typed;
 }
 
@@ -129,13 +134,13 @@ held_by P key w es after now at_it others q =
     ] refl
 
 -- a key without a group is passed over
-pub passed : (shape : Shape) (port told : Counts) (es after : Groups) (key : Row) (rest : List Row) → IsGrouping shape port told es (key ∷ rest) → None ≡ at_key key es → after ≡ es → IsGrouping shape port told after rest
-passed shape port told es after key rest was none same = record {
-  keyed = was.keyed;
+pub passed : (layout : Layout) (port told : Counts) (es after : Groups) (key : Row) (rest : List Row) → IsGrouping layout port told es (key ∷ rest) → None ≡ at_key key es → after ≡ es → IsGrouping layout port told after rest
+passed layout port told es after key rest was none same = record {
+  layout = was.layout;
   in_port = was.in_port;
   port_bag = was.port_bag;
   told_bag = was.told_bag;
-  held = λ q. subst (λ l. IsHeldAt shape rest q (group_of shape.groups port q) (at_key q l)) (sym same) (held_by (λ k o. IsHeldAt shape rest k (group_of shape.groups port k) o) key None es es unchanged (subst (IsHeldAt shape (key ∷ rest) key (group_of shape.groups port key)) (sym none) (was.held key)) (λ q t. other_waits shape key rest q (group_of shape.groups port q) (at_key q es) t (was.held q)) q);
+  held = λ q. subst (λ l. IsHeldAt layout rest q (group_of layout.shape.groups port q) (at_key q l)) (sym same) (held_by (λ k o. IsHeldAt layout rest k (group_of layout.shape.groups port k) o) key None es es unchanged (subst (IsHeldAt layout (key ∷ rest) key (group_of layout.shape.groups port key)) (sym none) (was.held key)) (λ q t. other_waits layout key rest q (group_of layout.shape.groups port q) (at_key q es) t (was.held q)) q);
   rows = λ q. was.rows q ∙ ap (λ l. count q (told_rows l)) (sym same);
 }
   where
@@ -154,25 +159,25 @@ no_rows (e ∷ es) is h = absurd (let one : 1 ≤ e.1 = is.0 in omega (arith, on
 count_gone : (t : ℕ) (n m : ℕ) → m ≡ n - t → t ≤ n → m + t ≡ n
 count_gone t n m h le = omega (arith, h, le)
 
-module _ (laws : Laws) (typing : IsGroupTypesLaw) (shape : Shape) (port told : Counts) (es : Groups) (key : Row) (rest : List Row) (was : IsGrouping shape port told es (key ∷ rest)) (g : Group) (there : at_key key es ≡ Some g) where
+module _ (laws : Laws) (typing : IsGroupTypesLaw) (layout : Layout) (port told : Counts) (es : Groups) (key : Row) (rest : List Row) (was : IsGrouping layout port told es (key ∷ rest)) (g : Group) (there : at_key key es ≡ Some g) where
   abbrev its_rows : Counts
-  its_rows = group_of shape.groups port key
+  its_rows = group_of layout.shape.groups port key
 
-  pub held : IsHeldOf shape (key ∷ rest) key its_rows g
-  held = subst (IsHeldAt shape (key ∷ rest) key its_rows) there (was.held key)
+  pub held : IsHeldOf layout (key ∷ rest) key its_rows g
+  held = subst (IsHeldAt layout (key ∷ rest) key its_rows) there (was.held key)
 
   abbrev columns : List ColumnType
-  columns = item_types shape.columns shape.items
+  columns = item_types layout.shape.columns layout.shape.items
 
   rows_is_bag : IsBag its_rows
-  rows_is_bag = (laws.group shape.groups port key was.port_bag).is_bag
+  rows_is_bag = (laws.group layout.shape.groups port key was.port_bag).is_bag
 
   -- the row that a group has is that of its items
-  pub row_of : (row : Row) → IsDue g (Some row) → items_over shape.items its_rows ≡ Some row
-  row_of row due = sym (row_is laws shape was.keyed port was.port_bag was.in_port key g held.group due.0) ∙ due.1
+  pub row_of : (row : Row) → IsDue layout.sources g (Some row) → items_over layout.shape.items its_rows ≡ Some row
+  row_of row due = sym (row_is laws layout was.layout port was.port_bag was.in_port key g held.group due.0) ∙ due.1
 
-  pub row_types : (row : Row) → IsDue g (Some row) → IsTyped shape → HasTypes columns row
-  row_types row due typed = typing shape its_rows row typed (group_types laws shape was.keyed port was.port_bag was.in_port key port was.in_port) (row_of row due)
+  pub row_types : (row : Row) → IsDue layout.sources g (Some row) → IsTyped layout.shape → HasTypes columns row
+  row_types row due typed = typing layout.shape its_rows row typed (group_types laws layout was.layout port was.port_bag was.in_port key port was.in_port) (row_of row due)
 
   -- the bag told, without the old row
   abbrev gone : Counts
@@ -192,7 +197,7 @@ module _ (laws : Laws) (typing : IsGroupTypesLaw) (shape : Shape) (port told : C
   more_new None bag = (tt, λ q. omega arith)
   more_new (Some r) bag = ((λ e. absurd cc, tt), λ q. count_put laws.same laws.puts laws.takes q r 1 bag)
 
-  module _ (due : Option Row) (is_due : IsDue g due) where
+  module _ (due : Option Row) (is_due : IsDue layout.sources g due) where
     abbrev after : Counts
     after = changed_by (with_change true due []) gone
 
@@ -207,7 +212,7 @@ module _ (laws : Laws) (typing : IsGroupTypesLaw) (shape : Shape) (port told : C
     can_both None p b x y = y
     can_both (Some r) p b x y = (x.0, y)
 
-    types_of_new : (o : Option Row) → IsDue g o → IsTyped shape → AreChangesOf columns (with_change true o [])
+    types_of_new : (o : Option Row) → IsDue layout.sources g o → IsTyped layout.shape → AreChangesOf columns (with_change true o [])
     types_of_new None d typed = tt
     types_of_new (Some r) d typed = (row_types r d typed, tt)
 
@@ -215,14 +220,14 @@ module _ (laws : Laws) (typing : IsGroupTypesLaw) (shape : Shape) (port told : C
     types_of_both None rest h all = all
     types_of_both (Some r) rest h all = (h, all)
 
-    pub are_told : AreTold shape told after changes
+    pub are_told : AreTold layout.shape told after changes
     are_told = record {
       there = can_both g.told due told (less_old g.told old_there).0 (more_new due gone).0;
       leads = sym (both g.told due told);
       columns = λ typed. types_of_both g.told (with_change true due []) (held.typed typed) (types_of_new due is_due typed);
     }
 
-    pub tells : (before middle out : List Change) → middle ≡ before ++ with_change false g.told [] → out ≡ middle ++ with_change true due [] → TellsGroups shape told after before out
+    pub tells : (before middle out : List Change) → middle ≡ before ++ with_change false g.told [] → out ≡ middle ++ with_change true due [] → TellsGroups layout.shape told after before out
     tells before middle out a b = (changes, b ∙ ap (λ l. l ++ with_change true due []) a ∙ joined g.told, are_told)
       where
         joined : (o : Option Row) → (before ++ with_change false o []) ++ with_change true due [] ≡ before ++ with_change false o (with_change true due [])
@@ -238,13 +243,13 @@ module _ (laws : Laws) (typing : IsGroupTypesLaw) (shape : Shape) (port told : C
     is_bag : IsBag after
     is_bag = IsBag-changed_by laws.same laws.puts laws.takes (with_change true due []) gone (IsBag-changed_by laws.same laws.puts laws.takes (with_change false g.told []) told was.told_bag)
 
-    renewed : (w : Option Group) (now : Groups) → ((q : Row) → at_key q now ≡ cond (is_eq (row_cmp key q)) w (at_key q es)) → IsHeldAt shape rest key its_rows w → ((q : Row) → count q (told_rows now) + times_of q g.told ≡ count q (told_rows es) + times_of q due) → IsGrouping shape port after now rest
+    renewed : (w : Option Group) (now : Groups) → ((q : Row) → at_key q now ≡ cond (is_eq (row_cmp key q)) w (at_key q es)) → IsHeldAt layout rest key its_rows w → ((q : Row) → count q (told_rows now) + times_of q g.told ≡ count q (told_rows es) + times_of q due) → IsGrouping layout port after now rest
     renewed w now looks at_it counts = record {
-      keyed = was.keyed;
+      layout = was.layout;
       in_port = was.in_port;
       port_bag = was.port_bag;
       told_bag = is_bag;
-      held = held_by (λ k o. IsHeldAt shape rest k (group_of shape.groups port k) o) key w es now looks at_it (λ q t. other_waits shape key rest q (group_of shape.groups port q) (at_key q es) t (was.held q));
+      held = held_by (λ k o. IsHeldAt layout rest k (group_of layout.shape.groups port k) o) key w es now looks at_it (λ q t. other_waits layout key rest q (group_of layout.shape.groups port q) (at_key q es) t (was.held q));
       rows = λ q. cancel (count q after) (times_of q g.told) (count q told) (times_of q due) (count q (told_rows now)) (count q (told_rows es)) (count_after q) (counts q) (was.rows q);
     }
       where
@@ -252,12 +257,13 @@ module _ (laws : Laws) (typing : IsGroupTypesLaw) (shape : Shape) (port told : C
         cancel a t c d n m h i j = omega (arith, h, i, j)
 
   -- a group with rows stays, with the row that was told
-  pub kept_on : (row : Row) (now : Groups) → IsDue g (Some row) → ((q : Row) → at_key q now ≡ cond (is_eq (row_cmp key q)) (Some (record g { told = Some row; pushed = false })) (at_key q es))
+  pub kept_on : (row : Row) (now : Groups) → IsDue layout.sources g (Some row) → ((q : Row) → at_key q now ≡ cond (is_eq (row_cmp key q)) (Some (record g { told = Some row; pushed = false })) (at_key q es))
       → now ≡ insert_entry row_cmp (remove_entry (λ k. is_eq (row_cmp key k)) es) key (record g { told = Some row; pushed = false }) → at_key key (remove_entry (λ k. is_eq (row_cmp key k)) es) ≡ None
-      → IsGrouping shape port (changed_by (with_change true (Some row) []) gone) now rest
+      → IsGrouping layout port (changed_by (with_change true (Some row) []) gone) now rest
   kept_on row now due looks is none =
       renewed (Some row) due (Some (record g { told = Some row; pushed = false })) now looks (record {
-        group = record { size = held.group.size; few = held.group.few; cells = held.group.cells; sample = held.group.sample; types = held.group.types };
+        group = record { size = held.group.size; few = held.group.few; parts = held.group.parts; sample = held.group.sample; types = held.group.types };
+        lacks = held.lacks;
         waits = λ p. absurd cc;
         settled = λ p. (row, refl, due.0, row_of row due);
         typed = λ typed. row_types row due typed;
@@ -269,8 +275,8 @@ module _ (laws : Laws) (typing : IsGroupTypesLaw) (shape : Shape) (port told : C
       sums a b t c d h i = omega (arith, h, i)
 
   -- one without rows goes
-  pub let_go : (now : Groups) → IsDue g None → ((q : Row) → at_key q now ≡ cond (is_eq (row_cmp key q)) None (at_key q es)) → now ≡ remove_entry (λ k. is_eq (row_cmp key k)) es
-      → IsGrouping shape port (changed_by (with_change true None []) gone) now rest
+  pub let_go : (now : Groups) → IsDue layout.sources g None → ((q : Row) → at_key q now ≡ cond (is_eq (row_cmp key q)) None (at_key q es)) → now ≡ remove_entry (λ k. is_eq (row_cmp key k)) es
+      → IsGrouping layout port (changed_by (with_change true None []) gone) now rest
   let_go now due looks is =
       renewed None due None now looks (no_rows its_rows rows_is_bag (sym held.group.size ∙ due)) (λ q.
       sums (count q (told_rows now)) (times_of q g.told) (count q (told_rows es)) (ap (λ l. count q (told_rows l)) is) (told_without q key es g there))
@@ -281,26 +287,26 @@ module _ (laws : Laws) (typing : IsGroupTypesLaw) (shape : Shape) (port told : C
 -- ---- a row that comes or goes
 
 -- the group that was taken holds the rows of its key
-taken_is : (shape : Shape) (left : List Row) (key row : Row) (rows : Counts) (o : Option Group) (g : Group) → IsHeldAt shape left key rows o → key_of shape.groups row ≡ key → HasTypes shape.columns row → IsTaken shape.items row o g → IsGroupOf shape key rows g
-taken_is shape left key row rows None g none has types new = record {
+taken_is : (layout : Layout) (left : List Row) (key row : Row) (rows : Counts) (o : Option Group) (g : Group) → IsHeldAt layout left key rows o → key_of layout.shape.groups row ≡ key → HasTypes layout.shape.columns row → IsTaken layout.asked row o g → IsGroupOf layout key rows g
+taken_is layout left key row rows None g none has types new = record {
   size = new.size ∙ ap size_of (sym none);
   few = subst (λ n. n < 9223372036854775808) (sym new.size) (omega arith);
-  cells = new.cells ∙ ap (λ r. map (cell_of r) shape.items) (sym none);
-  sample = ap (key_of shape.groups) new.sample ∙ has;
-  types = subst (HasTypes shape.columns) (sym new.sample) types;
+  parts = new.parts ∙ ap (λ r. map (part_of r) layout.asked) (sym none);
+  sample = ap (key_of layout.shape.groups) new.sample ∙ has;
+  types = subst (HasTypes layout.shape.columns) (sym new.sample) types;
 }
-taken_is shape left key row rows (Some h) g held has types same = subst (IsGroupOf shape key rows) (sym same) held.group
+taken_is layout left key row rows (Some h) g held has types same = subst (IsGroupOf layout key rows) (sym same) held.group
 
 abbrev none_typed : List ColumnType → Option Row → Type 0
 none_typed columns o = IfSome o (HasTypes columns)
 
-taken_typed : (shape : Shape) (left : List Row) (key row : Row) (rows : Counts) (o : Option Group) (g : Group) → IsHeldAt shape left key rows o → IsTaken shape.items row o g → IsTyped shape → IfSome g.told (HasTypes (item_types shape.columns shape.items))
-taken_typed shape left key row rows None g none new typed = subst (none_typed (item_types shape.columns shape.items)) (sym new.told) tt
-taken_typed shape left key row rows (Some h) g held same typed = subst (λ (x : Group). none_typed (item_types shape.columns shape.items) x.told) (sym same) (held.typed typed)
+taken_typed : (layout : Layout) (left : List Row) (key row : Row) (rows : Counts) (o : Option Group) (g : Group) → IsHeldAt layout left key rows o → IsTaken layout.asked row o g → IsTyped layout.shape → IfSome g.told (HasTypes (item_types layout.shape.columns layout.shape.items))
+taken_typed layout left key row rows None g none new typed = subst (none_typed (item_types layout.shape.columns layout.shape.items)) (sym new.told) tt
+taken_typed layout left key row rows (Some h) g held same typed = subst (λ (x : Group). none_typed (item_types layout.shape.columns layout.shape.items) x.told) (sym same) (held.typed typed)
 
-taken_waits : (shape : Shape) (left : List Row) (key row : Row) (rows : Counts) (o : Option Group) (g : Group) → IsHeldAt shape left key rows o → IsTaken shape.items row o g → g.pushed ≡ true → is_among left key ≡ true
-taken_waits shape left key row rows None g none new p = absurd (let f = new.pushed in cc)
-taken_waits shape left key row rows (Some h) g held same p = held.waits (ap (λ (x : Group). x.pushed) (sym same) ∙ p)
+taken_waits : (layout : Layout) (left : List Row) (key row : Row) (rows : Counts) (o : Option Group) (g : Group) → IsHeldAt layout left key rows o → IsTaken layout.asked row o g → g.pushed ≡ true → is_among left key ≡ true
+taken_waits layout left key row rows None g none new p = absurd (let f = new.pushed in cc)
+taken_waits layout left key row rows (Some h) g held same p = held.waits (ap (λ (x : Group). x.pushed) (sym same) ∙ p)
 
 -- the rows told are as they were, where one of the groups was changed
 pub told_set : (key : Row) (es : Groups) (g new : Group) → at_key key es ≡ Some g → new.told ≡ g.told → told_rows (set_value (λ k. is_eq (row_cmp key k)) es new) ≡ told_rows es
@@ -339,92 +345,139 @@ now_waits true left key h = h refl
 now_waits false left key h = list_any-append (λ x. is_eq (row_cmp x key)) left (key ∷ []) ∙ or_last (is_among left key) (is_eq (row_cmp key key)) (ties_itself key)
 
 -- the rows of a row's key, where it goes
-some_rows : (laws : Laws) (shape : Shape) (port told : Counts) (es : Groups) (left : List Row) (c : Change) (key : Row) (g : Group) → key_of shape.groups c.row ≡ key → IsGrouping shape port told es left → HasTypes shape.columns c.row → CanChange c port
-    → IsTaken shape.items c.row (at_key key es) g → IsGroupOf shape key (group_of shape.groups port key) g × (c.plus ≡ false → 1 ≤ g.size)
-some_rows laws shape port told es left c key g is_key was types can taken =
-    let of = taken_is shape left key c.row (group_of shape.groups port key) (at_key key es) g (was.held key) is_key types taken in
-    let can_group = can_change laws c port was.port_bag can shape.groups key (ties (key_of shape.groups c.row) key is_key) in
-    (of, λ e. enough (size_of (less_one c.row (group_of shape.groups port key))) (size_of (group_of shape.groups port key)) g.size (laws.fewer 0 (group_of shape.groups port key) c.row (laws.group shape.groups port key was.port_bag).is_bag (can_group e)).size of.size)
+some_rows : (laws : Laws) (layout : Layout) (port told : Counts) (es : Groups) (left : List Row) (c : Change) (key : Row) (g : Group) → key_of layout.shape.groups c.row ≡ key → IsGrouping layout port told es left → HasTypes layout.shape.columns c.row → CanChange c port
+    → IsTaken layout.asked c.row (at_key key es) g → IsGroupOf layout key (group_of layout.shape.groups port key) g × (c.plus ≡ false → 1 ≤ g.size)
+some_rows laws layout port told es left c key g is_key was types can taken =
+    let of = taken_is layout left key c.row (group_of layout.shape.groups port key) (at_key key es) g (was.held key) is_key types taken in
+    let can_group = can_change laws c port was.port_bag can layout.shape.groups key (ties (key_of layout.shape.groups c.row) key is_key) in
+    (of, λ e. enough (size_of (less_one c.row (group_of layout.shape.groups port key))) (size_of (group_of layout.shape.groups port key)) g.size (laws.fewer 0 (group_of layout.shape.groups port key) c.row (laws.group layout.shape.groups port key was.port_bag).is_bag (can_group e)).size of.size)
   where
     enough : (a b n : ℕ) → a + 1 ≡ b → n ≡ b → 1 ≤ n
     enough a b n h i = omega (arith, h, i)
 
 -- a group changed where it stands
-pub changed_some : (items : List Item) (c : Change) (key : Row) (es now : Groups) (left more : List Row) (g new : Group) → Some g ≡ at_key key es → IsChangedGroup c (record g { pushed = true }) new
-    → now ≡ set_value (λ k. is_eq (row_cmp key k)) es new → ((q : Row) → at_key q now ≡ cond (is_eq (row_cmp key q)) (Some new) (at_key q es)) → more ≡ waiting g.pushed left key → IsChangedAt items c key es now left more
-changed_some items c key es now left more g new there turned is looks waits = record {
+pub changed_some : (asked : List Asked) (c : Change) (key : Row) (es now : Groups) (left more : List Row) (old_count new_count : ℕ) (g new : Group) → Some g ≡ at_key key es → IsChangedGroup c (record g { pushed = true }) new
+    → now ≡ set_value (λ k. is_eq (row_cmp key k)) es new → ((q : Row) → at_key q now ≡ cond (is_eq (row_cmp key q)) (Some new) (at_key q es)) → more ≡ waiting g.pushed left key → new_count + one_if g.lacks ≡ old_count + one_if new.lacks → IsChangedAt asked c key es now left more old_count new_count
+changed_some asked c key es now left more old_count new_count g new there turned is looks waits counts = record {
   was = g;
   now = new;
-  taken = subst (λ o. IsTaken items c.row o g) there refl;
+  taken = subst (λ o. IsTaken asked c.row o g) there refl;
   turned = turned;
   looks = looks;
   told = λ q. ap (λ l. count q (told_rows l)) is ∙ ap (count q) (told_set key es g new (sym there) turned.told);
   waits = waits;
+  counted = counts;
 }
 
 -- and one that is put in
-pub changed_none : (items : List Item) (c : Change) (key : Row) (es now : Groups) (left more : List Row) (g new : Group) → None ≡ at_key key es → IsNew items c.row g → IsChangedGroup c (record g { pushed = true }) new
-    → now ≡ insert_entry row_cmp es key new → ((q : Row) → at_key q now ≡ cond (is_eq (row_cmp key q)) (Some new) (at_key q es)) → more ≡ waiting g.pushed left key → IsChangedAt items c key es now left more
-changed_none items c key es now left more g new none is_new turned is looks waits = record {
+pub changed_none : (asked : List Asked) (c : Change) (key : Row) (es now : Groups) (left more : List Row) (old_count new_count : ℕ) (g new : Group) → None ≡ at_key key es → IsNew asked c.row g → IsChangedGroup c (record g { pushed = true }) new
+    → now ≡ insert_entry row_cmp es key new → ((q : Row) → at_key q now ≡ cond (is_eq (row_cmp key q)) (Some new) (at_key q es)) → more ≡ waiting g.pushed left key → new_count + one_if g.lacks ≡ old_count + one_if new.lacks → IsChangedAt asked c key es now left more old_count new_count
+changed_none asked c key es now left more old_count new_count g new none is_new turned is looks waits counts = record {
   was = g;
   now = new;
-  taken = subst (λ o. IsTaken items c.row o g) none is_new;
+  taken = subst (λ o. IsTaken asked c.row o g) none is_new;
   turned = turned;
   looks = looks;
   told = λ q. ap (λ l. count q (told_rows l)) is ∙ told_put q key es new (sym none) (turned.told ∙ is_new.told);
   waits = waits;
+  counted = counts;
 }
 
 pub on_ok_both : {X E : Type 0} (r : Result X E) (P Q T : Type 0) → (P → Q → T) → OnOk r P → OnOk r Q → OnOk r T
 on_ok_both (Ok x) P Q T f p q = f p q
 on_ok_both (Err e) P Q T f p q = tt
 
-pub can_change_at : (laws : Laws) (shape : Shape) (port told : Counts) (es : Groups) (left : List Row) (c : Change) (key : Row) → key_of shape.groups c.row ≡ key → IsGrouping shape port told es left → HasTypes shape.columns c.row → CanChange c port
-    → CanChangeAt shape.items c (at_key key es)
-can_change_at laws shape port told es left c key is_key was types can g taken =
-    let of = some_rows laws shape port told es left c key g is_key was types can taken in
-    (of.0.few, of.1)
+pub on_ok_all : {X E : Type 0} (r : Result X E) (P Q R T : Type 0) → (P → Q → R → T) → OnOk r P → OnOk r Q → OnOk r R → OnOk r T
+on_ok_all (Ok x) P Q R T f p q s = f p q s
+on_ok_all (Err e) P Q R T f p q s = tt
+
+-- whether the group that was taken lacks a value
+taken_lacks : (layout : Layout) (left : List Row) (key row : Row) (rows : Counts) (o : Option Group) (g : Group) → IsHeldAt layout left key rows o → IsTaken layout.asked row o g → one_if g.lacks ≡ times_lacking layout.shape.items rows
+taken_lacks layout left key row rows None g none new = ap one_if new.lacks ∙ sym (ap (times_lacking layout.shape.items) none)
+taken_lacks layout left key row rows (Some h) g held same = ap (λ (x : Group). one_if x.lacks) same ∙ held.lacks
+
+pub can_change_at : (laws : Laws) (layout : Layout) (port told : Counts) (es : Groups) (left : List Row) (lacking : ℕ) (c : Change) (key : Row) → key_of layout.shape.groups c.row ≡ key → IsGrouping layout port told es left → lacking ≡ lacking_groups layout.shape port → HasTypes layout.shape.columns c.row → CanChange c port
+    → CanChangeAt layout.asked c (at_key key es) lacking
+can_change_at laws layout port told es left lacking c key is_key was counts types can g taken =
+    let of = some_rows laws layout port told es left c key g is_key was types can taken in
+    let lacks = taken_lacks layout left key c.row (group_of layout.shape.groups port key) (at_key key es) g (was.held key) taken in
+    (of.0.few, of.1, λ e. subst (λ n. 1 ≤ n) (sym counts) (among_lacking laws layout.shape port key was.layout.keyed was.port_bag (one_more g.lacks (times_lacking layout.shape.items (group_of layout.shape.groups port key)) e lacks)))
+  where
+    one_more : (b : Bool) (n : ℕ) → b ≡ true → one_if b ≡ n → 1 ≤ n
+    one_more true n e h = (let i : 1 ≡ n = h in omega (arith, i))
+    one_more false n e h = absurd cc
 
 pub looks_both : {A : Type 0} (b : Bool) (w x : Option A) → cond b w (cond b None x) ≡ cond b w x
 looks_both true w x = refl
 looks_both false w x = refl
 
-row_waits : (laws : Laws) (shape : Shape) (port told : Counts) (es now : Groups) (left : List Row) (c : Change) (key : Row) (g new : Group) → key_of shape.groups c.row ≡ key → IsGrouping shape port told es left → HasTypes shape.columns c.row → CanChange c port
-    → IsTaken shape.items c.row (at_key key es) g → IsChangedGroup c (record g { pushed = true }) new
-    → ((q : Row) → at_key q now ≡ cond (is_eq (row_cmp key q)) (Some new) (at_key q es))
-    → ((q : Row) → count q (told_rows now) ≡ count q (told_rows es))
-    → IsGrouping shape (changed c port) told now (waiting g.pushed left key)
-row_waits laws shape port told es now left c key g new is_key was types can taken turned looks same_told =
-    let more = waiting g.pushed left key in
-    let of = (some_rows laws shape port told es left c key g is_key was types can taken).0 in
-    let its = group_of shape.groups port key in
-    let its_bag : IsBag its = (laws.group shape.groups port key was.port_bag).is_bag in
-    let at_it = ties (key_of shape.groups c.row) key is_key in
-    let can_group = can_change laws c port was.port_bag can shape.groups key at_it in
-    let marked : IsGroupOf shape key its (record g { pushed = true }) = record { size = of.size; few = of.few; cells = of.cells; sample = of.sample; types = of.types } in
-    let after : IsGroupOf shape key (changed c its) new = group_after laws c its its_bag can_group shape key (record g { pushed = true }) new marked turned in
-    let same_rows : group_of shape.groups (changed c port) key ≡ changed c its = group_changed laws c port was.port_bag can shape.groups key at_it in
-    let held_new : IsHeldOf shape more key (group_of shape.groups (changed c port) key) new
-    = record {
-      group = subst (λ r. IsGroupOf shape key r new) (sym same_rows) after;
-      waits = λ p. now_waits g.pushed left key (taken_waits shape left key c.row its (at_key key es) g (was.held key) taken);
-      settled = λ p. absurd (let t : new.pushed ≡ true = turned.pushed in cc);
-      typed = λ typed. subst (none_typed (item_types shape.columns shape.items)) (sym turned.told) (taken_typed shape left key c.row its (at_key key es) g (was.held key) taken typed);
-    } in
-    record {
-      keyed = was.keyed;
-      in_port = laws.changes shape.columns c port was.in_port types;
-      port_bag = IsBag-changed_by laws.same laws.puts laws.takes (c ∷ []) port was.port_bag;
-      told_bag = was.told_bag;
-      held = held_by (λ k o. IsHeldAt shape more k (group_of shape.groups (changed c port) k) o) key (Some new) es now looks held_new
-          (λ q t. more_waits shape left more q (group_of shape.groups port q) (group_of shape.groups (changed c port) q) (at_key q es) (group_stays laws c port was.port_bag can shape.groups q (ap (λ k. is_eq (row_cmp k q)) is_key ∙ t)) (λ _ h. still g.pushed left key q h) (was.held q));
-      rows = λ q. was.rows q ∙ sym (same_told q);
-    }
+-- a row that came or went in the group of its key
+module _ (laws : Laws) (layout : Layout) (port told : Counts) (es : Groups) (left : List Row) (c : Change) (key : Row) (is_key : key_of layout.shape.groups c.row ≡ key) (was : IsGrouping layout port told es left) (types : HasTypes layout.shape.columns c.row) (can : CanChange c port)
+    (g new : Group) (taken : IsTaken layout.asked c.row (at_key key es) g) (turned : IsChangedGroup c (record g { pushed = true }) new) where
+  abbrev its : Counts
+  its = group_of layout.shape.groups port key
 
-pub row_pushed : (laws : Laws) (shape : Shape) (port told : Counts) (es now : Groups) (left more : List Row) (c : Change) (key : Row) → key_of shape.groups c.row ≡ key → IsGrouping shape port told es left → HasTypes shape.columns c.row → CanChange c port
-    → IsChangedAt shape.items c key es now left more → IsGrouping shape (changed c port) told now more
-row_pushed laws shape port told es now left more c key is_key was types can changed_at =
-    subst (IsGrouping shape (changed c port) told now) (sym changed_at.waits) (row_waits laws shape port told es now left c key changed_at.was changed_at.now is_key was types can changed_at.taken changed_at.turned changed_at.looks changed_at.told)
+  abbrev its_after : Counts
+  its_after = group_of layout.shape.groups (changed c port) key
+
+  at_it : is_eq (row_cmp (key_of layout.shape.groups c.row) key) ≡ true
+  at_it = ties (key_of layout.shape.groups c.row) key is_key
+
+  bag_after : IsBag (changed c port)
+  bag_after = IsBag-changed_by laws.same laws.puts laws.takes (c ∷ []) port was.port_bag
+
+  types_after : AreOf layout.shape.columns (changed c port)
+  types_after = laws.changes layout.shape.columns c port was.in_port types
+
+  new_of : IsGroupOf layout key its_after new
+  new_of =
+      let of = (some_rows laws layout port told es left c key g is_key was types can taken).0 in
+      let its_bag : IsBag its = (laws.group layout.shape.groups port key was.port_bag).is_bag in
+      let can_group = can_change laws c port was.port_bag can layout.shape.groups key at_it in
+      let marked : IsGroupOf layout key its (record g { pushed = true }) = record { size = of.size; few = of.few; parts = of.parts; sample = of.sample; types = of.types } in
+      subst (λ r. IsGroupOf layout key r new) (sym (group_changed laws c port was.port_bag can layout.shape.groups key at_it)) (group_after laws c its its_bag can_group layout key (record g { pushed = true }) new marked turned)
+
+  new_lacks : one_if new.lacks ≡ times_lacking layout.shape.items its_after
+  new_lacks = lacks_is laws layout was.layout (changed c port) bag_after types_after key new new_of turned.lacks
+
+  held_new : IsHeldOf layout (waiting g.pushed left key) key its_after new
+  held_new = record {
+    group = new_of;
+    lacks = new_lacks;
+    waits = λ p. now_waits g.pushed left key (taken_waits layout left key c.row its (at_key key es) g (was.held key) taken);
+    settled = λ p. absurd (let t : new.pushed ≡ true = turned.pushed in cc);
+    typed = λ typed. subst (none_typed (item_types layout.shape.columns layout.shape.items)) (sym turned.told) (taken_typed layout left key c.row its (at_key key es) g (was.held key) taken typed);
+  }
+
+  row_waits : (now : Groups) → ((q : Row) → at_key q now ≡ cond (is_eq (row_cmp key q)) (Some new) (at_key q es)) → ((q : Row) → count q (told_rows now) ≡ count q (told_rows es)) → IsGrouping layout (changed c port) told now (waiting g.pushed left key)
+  row_waits now looks same_told = record {
+    layout = was.layout;
+    in_port = types_after;
+    port_bag = bag_after;
+    told_bag = was.told_bag;
+    held = held_by (λ k o. IsHeldAt layout (waiting g.pushed left key) k (group_of layout.shape.groups (changed c port) k) o) key (Some new) es now looks held_new
+        (λ q t. more_waits layout left (waiting g.pushed left key) q (group_of layout.shape.groups port q) (group_of layout.shape.groups (changed c port) q) (at_key q es) (group_stays laws c port was.port_bag can layout.shape.groups q (ap (λ k. is_eq (row_cmp k q)) is_key ∙ t)) (λ _ h. still g.pushed left key q h) (was.held q));
+    rows = λ q. was.rows q ∙ sym (same_told q);
+  }
+
+  -- one group lacks a value more, or one fewer, or as many do
+  counted : (before after : ℕ) → before ≡ lacking_groups layout.shape port → after + one_if g.lacks ≡ before + one_if new.lacks → after ≡ lacking_groups layout.shape (changed c port)
+  counted before after is counts =
+      let one = laws.one_group layout.shape.groups (times_lacking layout.shape.items) port c was.port_bag can refl in
+      let at_key_of : lacking_groups layout.shape (changed c port) + times_lacking layout.shape.items its ≡ lacking_groups layout.shape port + times_lacking layout.shape.items its_after = subst (λ k. lacking_groups layout.shape (changed c port) + times_lacking layout.shape.items (group_of layout.shape.groups port k) ≡ lacking_groups layout.shape port + times_lacking layout.shape.items (group_of layout.shape.groups (changed c port) k)) is_key one in
+      cancel after before (lacking_groups layout.shape port) (lacking_groups layout.shape (changed c port)) (one_if g.lacks) (one_if new.lacks) (times_lacking layout.shape.items its) (times_lacking layout.shape.items its_after) counts is
+      (taken_lacks layout left key c.row its (at_key key es) g (was.held key) taken) new_lacks at_key_of
+    where
+      cancel : (a b m n x y u v : ℕ) → a + x ≡ b + y → b ≡ m → x ≡ u → y ≡ v → n + u ≡ m + v → a ≡ n
+      cancel a b m n x y u v h i j k e = omega (arith, h, i, j, k, e)
+
+module _ (laws : Laws) (layout : Layout) (port told : Counts) (es now : Groups) (left more : List Row) (before after : ℕ) (c : Change) (key : Row) (is_key : key_of layout.shape.groups c.row ≡ key) (was : IsGrouping layout port told es left) (types : HasTypes layout.shape.columns c.row) (can : CanChange c port)
+    (at : IsChangedAt layout.asked c key es now left more before after) where
+  pub row_pushed : IsGrouping layout (changed c port) told now more
+  row_pushed = subst (IsGrouping layout (changed c port) told now) (sym at.waits) (row_waits laws layout port told es left c key is_key was types can at.was at.now at.taken at.turned now at.looks at.told)
+
+  pub count_pushed : before ≡ lacking_groups layout.shape port → after ≡ lacking_groups layout.shape (changed c port)
+  count_pushed is = counted laws layout port told es left c key is_key was types can at.was at.now at.taken at.turned before after is at.counted
 
 pub on_ok_from : {X E : Type 0} (r : Result X E) (P Q : Type 0) → (P → Q) → OnOk r P → OnOk r Q
 on_ok_from (Ok x) P Q f p = f p

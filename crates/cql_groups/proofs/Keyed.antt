@@ -19,7 +19,7 @@ has_column [] at lt = absurd (omega (arith, lt))
 has_column (t ∷ columns) zero lt = (t, refl)
 has_column (t ∷ columns) (suc at) lt = has_column columns at (omega (arith, lt))
 
-all_more : {A : Type 0} (P : A → Type 0) (xs : List A) (x : A) → AllByRecursion P xs → P x → AllByRecursion P (xs ++ x ∷ [])
+pub all_more : {A : Type 0} (P : A → Type 0) (xs : List A) (x : A) → AllByRecursion P xs → P x → AllByRecursion P (xs ++ x ∷ [])
 all_more P [] x all p = (p, tt)
 all_more P (y ∷ xs) x all p = (all.0, all_more P xs x all.1 p)
 

@@ -1,8 +1,11 @@
 pub mod Greatest
 pub mod Written
 pub mod Changes
-pub mod CellLaws
+pub mod Keyed
+pub mod Layouts
+pub mod PartLaws
+pub mod GroupKeys
 pub mod GroupingLaws
 pub mod GroupValue
-pub mod Keyed
+pub mod Faults
 pub mod Crosses

@@ -1,5 +1,6 @@
--- A shape by its groups: what is kept of each, and what is told.
-use Rattle.std.specs.Prelude.{◌≡◌, ◌++◌, ◌+◌, ◌<◌, ◌≤◌, ◌^◌, List, [], ◌∷◌, Option, Some, None, IfSome, true, false, map, if◌then◌else◌}
+-- A shape by its groups: what is kept of each, what is told, and how many have no value.
+use Rattle.std.specs.Prelude.{◌≡◌, ◌++◌, ◌+◌, ◌<◌, ◌≤◌, ◌^◌, ℕ, List, [], ◌∷◌, Option, Some, None, IfSome, Bool, true, false, ◌&&◌, nat_lt, map, if◌then◌else◌}
+use Rattle.std.specs.List.{list_any}
 use Rattle.std.specs.Map.{lookup}
 use Rattle.std.specs.Ordering.{is_eq}
 use Rattle.cql_value.specs.Order.{row_cmp}
@@ -8,97 +9,113 @@ use Rattle.cql_value.specs.declared.value.Value.{Value}
 use Rattle.cql_bag.specs.Bag.{Counts, IsBag, count, size_of}
 use Rattle.cql_bag.specs.Changes.{changed_by, CanChangeBy}
 use Rattle.cql_bag.specs.declared.change.Change.{Change}
-use Rattle.cql_plan.specs.declared.node.Item.{Item}
 use Rattle.cql_plan.specs.declared.node.Shape.{Shape}
 use Rattle.cql_plan.specs.Fit.{IsTyped}
 use Rattle.cql_plan.specs.Node.{item_types}
+use Rattle.cql_algebra.specs.GroupChanges.{over_groups, times_lacking}
 use Rattle.cql_algebra.specs.Shape.{key_of, group_of, items_over}
 use Rattle.cql_algebra.specs.Typed.{AreOf}
-use Rattle.cql_groups.specs.Cells.{IsKeyed, cell_of, cell_changed, row_of_cells}
+use Rattle.cql_groups.specs.Parts.{part_of, part_changed, is_outside}
+use Rattle.cql_groups.specs.Layouts.{IsLayout, row_of_parts}
 use Rattle.cql_ops.specs.Clauses.{AreChangesOf}
 use Rattle.cql_ops.specs.Linear.{with_entry}
 use Rattle.cql_ops.specs.Settle.{is_among}
 use Rattle.cql_groups.specs.declared.grouped.Group.{Group}
+use Rattle.cql_groups.specs.declared.layout.Layout.{Layout}
+use Rattle.cql_groups.specs.declared.layout.Source.{Source}
+use Rattle.cql_groups.specs.declared.part.Asked.{Asked}
 
--- what is kept of the rows of a key: how many there are, one row that has the key, and what each item needs
-pub record IsGroupOf (shape : Shape) (key : List Value) (rows : Counts) (g : Group) : Type 0 where
+-- what is kept of the rows of a key: how many there are, one row that has the key, and what is asked of columns
+pub record IsGroupOf (l : Layout) (key : List Value) (rows : Counts) (g : Group) : Type 0 where
   pub size : g.size ≡ size_of rows
   pub few : g.size < 2 ^ 63
-  pub cells : g.cells.items ≡ map (cell_of rows) shape.items
-  pub sample : key_of shape.groups g.sample ≡ key
-  pub types : HasTypes shape.columns g.sample
+  pub parts : g.parts.items ≡ map (part_of rows) l.asked
+  pub sample : key_of l.shape.groups g.sample ≡ key
+  pub types : HasTypes l.shape.columns g.sample
 
 -- after one of its rows came or went
 pub record IsChangedGroup (c : Change) (old new : Group) : Type 0 where
   pub size : new.size + (if c.plus then 0 else 1) ≡ old.size + (if c.plus then 1 else 0)
   pub few : new.size < 2 ^ 63
-  pub cells : new.cells.items ≡ map (cell_changed c) old.cells.items
+  pub parts : new.parts.items ≡ map (part_changed c) old.parts.items
+  pub lacks : new.lacks ≡ (nat_lt 0 new.size && list_any is_outside new.parts.items)
   pub sample : new.sample ≡ old.sample
   pub told : new.told ≡ old.told
   pub pushed : new.pushed ≡ old.pushed
 
 -- the row of a group that has rows; one without rows has none
-abbrev pub IsDue : Group → Option (List Value) → Type 0
-IsDue g None = g.size ≡ 0
-IsDue g (Some row) = (1 ≤ g.size) × (row_of_cells g.size g.sample g.cells.items ≡ Some row)
+abbrev pub IsDue : List Source → Group → Option (List Value) → Type 0
+IsDue sources g None = g.size ≡ 0
+IsDue sources g (Some row) = (1 ≤ g.size) × (row_of_parts sources g.size g.sample g.parts.items ≡ Some row)
 
 -- some item has no value
-abbrev pub IsLacking : Group → Type 0
-IsLacking g = (1 ≤ g.size) × (row_of_cells g.size g.sample g.cells.items ≡ None)
+abbrev pub IsLacking : List Source → Group → Type 0
+IsLacking sources g = (1 ≤ g.size) × (row_of_parts sources g.size g.sample g.parts.items ≡ None)
+
+-- 1 of one that is so
+abbrev pub one_if : Bool → ℕ
+one_if b = if b then 1 else 0
 
 -- what is held of a key, where some keys are left to be told: a group that isn't left has told its row
-pub record IsHeldOf (shape : Shape) (left : List (List Value)) (key : List Value) (rows : Counts) (g : Group) : Type 0 where
-  pub group : IsGroupOf shape key rows g
+pub record IsHeldOf (l : Layout) (left : List (List Value)) (key : List Value) (rows : Counts) (g : Group) : Type 0 where
+  pub group : IsGroupOf l key rows g
+  pub lacks : one_if g.lacks ≡ times_lacking l.shape.items rows
   pub waits : g.pushed ≡ true → is_among left key ≡ true
-  pub settled : g.pushed ≡ false → (row : List Value) × (g.told ≡ Some row) × (1 ≤ g.size) × (items_over shape.items rows ≡ Some row)
-  pub typed : IsTyped shape → IfSome g.told (HasTypes (item_types shape.columns shape.items))
+  pub settled : g.pushed ≡ false → (row : List Value) × (g.told ≡ Some row) × (1 ≤ g.size) × (items_over l.shape.items rows ≡ Some row)
+  pub typed : IsTyped l.shape → IfSome g.told (HasTypes (item_types l.shape.columns l.shape.items))
 
-abbrev pub IsHeldAt : Shape → List (List Value) → List Value → Counts → Option Group → Type 0
-IsHeldAt shape left key rows None = rows ≡ []
-IsHeldAt shape left key rows (Some g) = IsHeldOf shape left key rows g
+abbrev pub IsHeldAt : Layout → List (List Value) → List Value → Counts → Option Group → Type 0
+IsHeldAt l left key rows None = rows ≡ []
+IsHeldAt l left key rows (Some g) = IsHeldOf l left key rows g
 
 abbrev pub at_key : List Value → List (List Value × Group) → Option Group
 at_key key groups = lookup (λ k. is_eq (row_cmp key k)) groups
 
 -- the group that was at a key, or one without a row, none of which was told
-pub record IsNew (items : List Item) (row : List Value) (g : Group) : Type 0 where
+pub record IsNew (asked : List Asked) (row : List Value) (g : Group) : Type 0 where
   pub size : g.size ≡ 0
   pub sample : g.sample ≡ row
-  pub cells : g.cells.items ≡ map (cell_of []) items
+  pub parts : g.parts.items ≡ map (part_of []) asked
+  pub lacks : g.lacks ≡ false
   pub told : g.told ≡ None
   pub pushed : g.pushed ≡ false
 
-abbrev pub IsTaken : List Item → List Value → Option Group → Group → Type 0
-IsTaken items row None g = IsNew items row g
-IsTaken items row (Some h) g = g ≡ h
+abbrev pub IsTaken : List Asked → List Value → Option Group → Group → Type 0
+IsTaken asked row None g = IsNew asked row g
+IsTaken asked row (Some h) g = g ≡ h
 
 -- the rows told of some groups
 abbrev pub told_rows : List (List Value × Group) → Counts
 told_rows [] = []
 told_rows (e ∷ es) = with_entry e.1.told 1 (told_rows es)
 
--- a row may come or go where such a group is, or where there is none
-abbrev pub CanChangeAt : List Item → Change → Option Group → Type 0
-CanChangeAt items c at = (g : Group) → IsTaken items c.row at g → (g.size < 2 ^ 63) × (c.plus ≡ false → 1 ≤ g.size)
+-- a row may come or go where such a group is, or where there is none; one that lacks a value is among as many
+abbrev pub CanChangeAt : List Asked → Change → Option Group → ℕ → Type 0
+CanChangeAt asked c at lacking = (g : Group) → IsTaken asked c.row at g → (g.size < 2 ^ 63) × (c.plus ≡ false → 1 ≤ g.size) × (g.lacks ≡ true → 1 ≤ lacking)
 
 -- a row came or went in the group of its key, which waits: the groups of other keys, and what was told of each, are as they were
-pub record IsChangedAt (items : List Item) (c : Change) (key : List Value) (old new : List (List Value × Group)) (left more : List (List Value)) : Type 0 where
+pub record IsChangedAt (asked : List Asked) (c : Change) (key : List Value) (old new : List (List Value × Group)) (left more : List (List Value)) (before after : ℕ) : Type 0 where
   pub was : Group
   pub now : Group
-  pub taken : IsTaken items c.row (at_key key old) was
+  pub taken : IsTaken asked c.row (at_key key old) was
   pub turned : IsChangedGroup c (record was { pushed = true }) now
   pub looks : (q : List Value) → at_key q new ≡ (if is_eq (row_cmp key q) then Some now else at_key q old)
   pub told : (q : List Value) → count q (told_rows new) ≡ count q (told_rows old)
   pub waits : more ≡ (if was.pushed then left else left ++ key ∷ [])
+  pub counted : after + one_if was.lacks ≡ before + one_if now.lacks
 
 -- the groups of the port's bag, and the bag that was told of them
-pub record IsGrouping (shape : Shape) (port told : Counts) (groups : List (List Value × Group)) (left : List (List Value)) : Type 0 where
-  pub keyed : IsKeyed shape
-  pub in_port : AreOf shape.columns port
+pub record IsGrouping (l : Layout) (port told : Counts) (groups : List (List Value × Group)) (left : List (List Value)) : Type 0 where
+  pub layout : IsLayout l
+  pub in_port : AreOf l.shape.columns port
   pub port_bag : IsBag port
   pub told_bag : IsBag told
-  pub held : (key : List Value) → IsHeldAt shape left key (group_of shape.groups port key) (at_key key groups)
+  pub held : (key : List Value) → IsHeldAt l left key (group_of l.shape.groups port key) (at_key key groups)
   pub rows : (row : List Value) → count row told ≡ count row (told_rows groups)
+
+-- how many groups of the port have no value
+abbrev pub lacking_groups : Shape → Counts → ℕ
+lacking_groups shape port = over_groups shape.groups (times_lacking shape.items) port
 
 -- changes of the bag that was told, of rows of the items' types
 pub record AreTold (shape : Shape) (told after : Counts) (changes : List Change) : Type 0 where

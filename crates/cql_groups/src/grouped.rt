@@ -1,23 +1,28 @@
 // The groups of a shape, each with what its row needs.
-ghost use Rattle.std.specs.Prelude.{◌≡◌, ◌<◌, ◌≤◌, ◌^◌, ◌⊎◌, ◌++◌, [], ◌∷◌, Some, true, false, if◌then◌else◌, IfOk, IfErr, OnOk, OnErr};
+ghost use Rattle.std.specs.Prelude.{◌≡◌, ◌+◌, ◌<◌, ◌≤◌, ◌^◌, ◌⊎◌, ◌++◌, [], ◌∷◌, Some, true, false, if◌then◌else◌, IfOk, IfErr, OnOk, OnErr};
 ghost use Rattle.cql_bag.specs.Changes.{changed, changed_by, change_of, CanChange, Grows};
 ghost use Rattle.std.specs.BTreeMap.{insert_entry, Updates};
 ghost use Rattle.cql_value.specs.Order.{row_cmp};
 ghost use Rattle.cql_value.specs.Schema.{HasTypes};
-ghost use Rattle.cql_groups.specs.Grouped.{IsNew, at_key, IsChangedGroup, CanChangeAt, IsChangedAt, IsDue, IsLacking, IsGrouping, TellsGroups};
+ghost use Rattle.cql_groups.specs.Grouped.{IsNew, at_key, IsChangedGroup, CanChangeAt, IsChangedAt, IsDue, IsLacking, IsGrouping, lacking_groups, one_if, TellsGroups};
 ghost use Rattle.cql_groups.specs.GroupLaws.{Laws};
 ghost use Rattle.cql_ops.specs.Linear.{with_change};
 ghost use Rattle.cql_ops.specs.declared.error.OpError.TheVariants.{NoMemory, Overflow};
 ghost use Rattle.cql_plain.specs.Shaped.{TellsShape, FailsToShape};
 
-use crate::cell::{Cell, change_cells, new_cells, row_of_cells};
-use cql_algebra::law::{change_types_law, group_law, group_types_law, grouped_column_law, key_law};
-use cql_algebra::pushes::{ends_law, fewer_law, key_change_law, key_count_law, more_law};
+use crate::layout::{Layout, Source};
+use crate::part::{Asked, Part, change_parts, new_parts, some_outside};
+use crate::row::row_of_parts;
+use cql_algebra::law::{
+    change_types_law, group_law, group_types_law, grouped_column_law, key_law, max_law, min_law,
+};
+use cql_algebra::pushes::{
+    ends_law, fewer_law, key_change_law, key_count_law, more_law, of_groups_law, one_group_law,
+};
 use cql_bag::law::{own_entries, put_all_counts, same_counts, take_counts};
 use cql_bag::{Bag, Change};
 use cql_ops::OpError;
 use cql_plain::key;
-use cql_plan::{Item, Shape};
 use cql_value::Row;
 use std::alloc::{AllocError, Global};
 use std::collections::BTreeMap;
@@ -25,11 +30,14 @@ use std::collections::BTreeMap;
 /// How many rows a group may have.
 const MAX_SIZE: u64 = 9_223_372_036_854_775_807;
 
-/// What is kept of the rows of a key.
+/// What is kept of the rows of a key: how many there are, one of them, a part for each thing that is
+/// asked, and whether some sum is outside i64; the row that was told, and whether rows came or went
+/// since.
 pub(crate) struct Group {
     pub size: u64,
     pub sample: Row,
-    pub cells: Vec<Cell>,
+    pub parts: Vec<Part>,
+    pub lacks: bool,
     pub told: Option<Row>,
     pub pushed: bool,
 }
@@ -39,7 +47,8 @@ impl Drop for Group {
         let Group {
             size: _,
             sample: _,
-            cells: _,
+            parts: _,
+            lacks: _,
             told: _,
             pushed: _,
         } = self;
@@ -62,21 +71,26 @@ pub(crate) fn group_laws()
     more_law();
     fewer_law();
     ends_law();
+    min_law();
+    max_law();
+    one_group_law();
+    of_groups_law();
     group_types_law();
     change_types_law();
 }
 
 impl Group {
     // Without a row, and none was told.
-    fn new(alloc: Global, items: &[Item], sample: &Row) -> Result<Group, AllocError>
-        ensures { IfOk result (IsNew items.now sample.now) }
+    fn new(alloc: Global, asked: &[Asked], sample: &Row) -> Result<Group, AllocError>
+        ensures { IfOk result (IsNew asked.now sample.now) }
     {
         let sample = sample.try_clone(alloc)?;
-        let cells = new_cells(alloc, items)?;
+        let parts = new_parts(alloc, asked)?;
         Ok(Group {
             size: 0,
             sample,
-            cells,
+            parts,
+            lacks: false,
             told: None,
             pushed: false,
         })
@@ -96,20 +110,33 @@ impl Group {
         } else {
             self.size -= 1;
         }
-        change_cells(alloc, &mut self.cells, change)
+        change_parts(alloc, &mut self.parts, change)?;
+        self.lacks = self.size > 0 && some_outside(self.parts.as_slice());
+        Ok(())
     }
 
     // Its row, where it has rows; or `Overflow`.
-    fn row(&self, alloc: Global, remade: &mut u64) -> Result<Option<Row>, OpError>
+    fn row(
+        &self,
+        alloc: Global,
+        sources: &[Source],
+        remade: &mut u64,
+    ) -> Result<Option<Row>, OpError>
         requires { self.now.size < 2 ^ 63 }
-        ensures ok { IfOk result (IsDue self.now) }
-        ensures err { IfErr result (λ e. (e ≡ NoMemory) ⊎ ((e ≡ Overflow) × IsLacking self.now)) }
+        ensures ok { IfOk result (IsDue sources.now self.now) }
+        ensures err { IfErr result (λ e. (e ≡ NoMemory) ⊎ ((e ≡ Overflow) × IsLacking sources.now self.now)) }
     {
         if self.size == 0 {
             return Ok(None);
         }
         *remade = remade.saturating_add(1);
-        match row_of_cells(alloc, self.cells.as_slice(), self.size, &self.sample)? {
+        match row_of_parts(
+            alloc,
+            sources,
+            self.size,
+            &self.sample,
+            self.parts.as_slice(),
+        )? {
             Some(row) => Ok(Some(row)),
             None => Err(OpError::Overflow),
         }
@@ -184,6 +211,18 @@ fn mark(
     Ok(())
 }
 
+// How many groups lack a value, after one of them changed.
+fn counted(lacking: u64, lacked: bool, lacks: bool) -> Result<u64, AllocError>
+    requires { lacked ≡ true → 1 ≤ lacking }
+    ensures { IfOk result (λ n. n + one_if lacked ≡ lacking + one_if lacks) }
+{
+    match (lacked, lacks) {
+        (false, true) => lacking.checked_add(1).ok_or(AllocError),
+        (true, false) => Ok(lacking - 1),
+        _ => Ok(lacking),
+    }
+}
+
 // A row comes or goes, and the group's key is noted.
 fn change_group(
     alloc: Global,
@@ -191,33 +230,40 @@ fn change_group(
     change: &Change,
     group: &mut Group,
     touched: &mut Vec<Row>,
+    lacking: &mut u64,
 ) -> Result<(), AllocError>
     requires few { group.old.size < 2 ^ 63 }
     requires some { change.now.plus ≡ false → 1 ≤ group.old.size }
+    requires among { group.old.lacks ≡ true → 1 ≤ lacking.old }
     ensures group { OnOk result (IsChangedGroup change.now (record group.old { pushed = true }) group.new) }
     ensures touched { OnOk result (touched.new.items ≡ (if group.old.pushed then touched.old.items else touched.old.items ++ key.now ∷ [])) }
+    ensures lacking { OnOk result (lacking.new + one_if group.old.lacks ≡ lacking.old + one_if group.new.lacks) }
 {
     mark(alloc, key, group, touched)?;
-    group.change(alloc, change)
+    let lacked = group.lacks;
+    group.change(alloc, change)?;
+    *lacking = counted(*lacking, lacked, group.lacks)?;
+    Ok(())
 }
 
 // The group of the row's key is changed where it stands; where there is none, one is put in.
 fn change_at(
     alloc: Global,
-    items: &[Item],
+    asked: &[Asked],
     key: &Row,
     change: &Change,
     groups: &mut BTreeMap<Row, Group>,
     touched: &mut Vec<Row>,
+    lacking: &mut u64,
 ) -> Result<(), AllocError>
-    requires { CanChangeAt items.now change.now (at_key key.now groups.old.entries) }
-    ensures { OnOk result (IsChangedAt items.now change.now key.now groups.old.entries groups.new.entries touched.old.items touched.new.items) }
+    requires { CanChangeAt asked.now change.now (at_key key.now groups.old.entries) lacking.old }
+    ensures { OnOk result (IsChangedAt asked.now change.now key.now groups.old.entries groups.new.entries touched.old.items touched.new.items lacking.old lacking.new) }
 {
     match groups.get_mut(key) {
-        Some(group) => change_group(alloc, key, change, group, touched),
+        Some(group) => change_group(alloc, key, change, group, touched, lacking),
         None => {
-            let mut group = Group::new(alloc, items, &change.row)?;
-            change_group(alloc, key, change, &mut group, touched)?;
+            let mut group = Group::new(alloc, asked, &change.row)?;
+            change_group(alloc, key, change, &mut group, touched, lacking)?;
             put_group(alloc, key, group, groups)
         }
     }
@@ -226,29 +272,40 @@ fn change_at(
 /// A row of the port comes or goes.
 pub(crate) fn push_row(
     alloc: Global,
-    shape: &Shape,
+    layout: &Layout,
     change: &Change,
     port: &mut Bag,
     told: &Bag,
     groups: &mut BTreeMap<Row, Group>,
     touched: &mut Vec<Row>,
+    lacking: &mut u64,
 ) -> Result<(), AllocError>
-    requires held { IsGrouping shape.now port.old told.now groups.old.entries touched.old.items }
-    requires types { HasTypes shape.now.columns change.now.row }
+    requires held { IsGrouping layout.now port.old told.now groups.old.entries touched.old.items }
+    requires lacking { lacking.old ≡ lacking_groups layout.now.shape port.old }
+    requires types { HasTypes layout.now.shape.columns change.now.row }
     requires there { CanChange change.now port.old }
     ensures port { OnOk result (port.new ≡ changed change.now port.old) }
-    ensures held { OnOk result (IsGrouping shape.now port.new told.now groups.new.entries touched.new.items) }
+    ensures held { OnOk result (IsGrouping layout.now port.new told.now groups.new.entries touched.new.items) }
+    ensures lacking { OnOk result (lacking.new ≡ lacking_groups layout.now.shape port.new) }
 {
     group_laws();
-    let key = key(alloc, shape.groups.as_slice(), change.row.values())?;
-    change_at(alloc, shape.items.as_slice(), &key, change, groups, touched)?;
+    let key = key(alloc, layout.shape.groups.as_slice(), change.row.values())?;
+    change_at(
+        alloc,
+        layout.asked.as_slice(),
+        &key,
+        change,
+        groups,
+        touched,
+        lacking,
+    )?;
     port.change(alloc, change)
 }
 
 // Computes the row of a key, and tells it in the place of the one told before.
 fn settle_key(
     alloc: Global,
-    shape: &Shape,
+    layout: &Layout,
     port: &Bag,
     key: &Row,
     rest: &[Row],
@@ -257,17 +314,17 @@ fn settle_key(
     remade: &mut u64,
     out: &mut Vec<Change>,
 ) -> Result<(), OpError>
-    requires { IsGrouping shape.now port.now told.old groups.old.entries (key.now ∷ rest.now) }
-    ensures groups { OnOk result (IsGrouping shape.now port.now told.new groups.new.entries rest.now) }
-    ensures told { OnOk result (TellsGroups shape.now told.old told.new out.old.items out.new.items) }
+    requires { IsGrouping layout.now port.now told.old groups.old.entries (key.now ∷ rest.now) }
+    ensures groups { OnOk result (IsGrouping layout.now port.now told.new groups.new.entries rest.now) }
+    ensures told { OnOk result (TellsGroups layout.now.shape told.old told.new out.old.items out.new.items) }
     ensures kept { OnErr result (Grows out.old.items out.new.items) }
-    ensures err { IfErr result (FailsToShape shape.now port.now) }
+    ensures err { IfErr result (FailsToShape layout.now.shape port.now) }
 {
     group_laws();
     let Some(mut group) = groups.remove(key) else {
         return Ok(());
     };
-    let row = group.row(alloc, remade)?;
+    let row = group.row(alloc, layout.sources.as_slice(), remade)?;
     tell_any(alloc, false, &group.told, told, out)?;
     tell_any(alloc, true, &row, told, out)?;
     match row {
@@ -284,7 +341,7 @@ fn settle_key(
 // Tells the rows of these keys, one after another.
 fn settle_keys(
     alloc: Global,
-    shape: &Shape,
+    layout: &Layout,
     port: &Bag,
     touched: &[Row],
     groups: &mut BTreeMap<Row, Group>,
@@ -292,15 +349,15 @@ fn settle_keys(
     remade: &mut u64,
     out: &mut Vec<Change>,
 ) -> Result<(), OpError>
-    requires { IsGrouping shape.now port.now told.old groups.old.entries touched.now }
-    ensures groups { OnOk result (IsGrouping shape.now port.now told.new groups.new.entries []) }
-    ensures told { OnOk result (TellsGroups shape.now told.old told.new out.old.items out.new.items) }
+    requires { IsGrouping layout.now port.now told.old groups.old.entries touched.now }
+    ensures groups { OnOk result (IsGrouping layout.now port.now told.new groups.new.entries []) }
+    ensures told { OnOk result (TellsGroups layout.now.shape told.old told.new out.old.items out.new.items) }
     ensures kept { OnErr result (Grows out.old.items out.new.items) }
-    ensures err { IfErr result (FailsToShape shape.now port.now) }
+    ensures err { IfErr result (FailsToShape layout.now.shape port.now) }
 {
     let mut left = touched;
     while let Some((key, rest)) = left.split_first() {
-        settle_key(alloc, shape, port, key, rest, groups, told, remade, out)?;
+        settle_key(alloc, layout, port, key, rest, groups, told, remade, out)?;
         left = rest;
     }
     Ok(())
@@ -309,7 +366,7 @@ fn settle_keys(
 /// Tells what the groups that were pushed have more or less than was told of them; or `Overflow`.
 pub(crate) fn tell_groups(
     alloc: Global,
-    shape: &Shape,
+    layout: &Layout,
     port: &Bag,
     groups: &mut BTreeMap<Row, Group>,
     touched: &mut Vec<Row>,
@@ -317,14 +374,14 @@ pub(crate) fn tell_groups(
     remade: &mut u64,
     out: &mut Vec<Change>,
 ) -> Result<(), OpError>
-    requires { IsGrouping shape.now port.now told.old groups.old.entries touched.old.items }
-    ensures held { OnOk result (IsGrouping shape.now port.now told.new groups.new.entries touched.new.items) }
-    ensures told { OnOk result (TellsShape shape.now port.now told.old told.new out.old.items out.new.items) }
+    requires { IsGrouping layout.now port.now told.old groups.old.entries touched.old.items }
+    ensures held { OnOk result (IsGrouping layout.now port.now told.new groups.new.entries touched.new.items) }
+    ensures told { OnOk result (TellsShape layout.now.shape port.now told.old told.new out.old.items out.new.items) }
     ensures kept { OnErr result (Grows out.old.items out.new.items) }
-    ensures err { IfErr result (FailsToShape shape.now port.now) }
+    ensures err { IfErr result (FailsToShape layout.now.shape port.now) }
 {
     group_laws();
-    settle_keys(alloc, shape, port, touched, groups, told, remade, out)?;
+    settle_keys(alloc, layout, port, touched, groups, told, remade, out)?;
     let _ = groups.iter();
     touched.clear();
     Ok(())

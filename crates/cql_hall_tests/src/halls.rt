@@ -57,7 +57,7 @@ pub(crate) fn receipt<J: Journal>(
     command: Command,
 ) -> Result<Receipt, AllocError> {
     let prepared = prepare(alloc, command)?;
-    let pending = hall.call(rt, seat, prepared);
+    let pending = hall.call(rt, gate, seat, prepared);
     Ok(finish(alloc, pending, gate))
 }
 
@@ -286,7 +286,7 @@ fn make_stream(
     let Ok(prepared) = prepare(alloc, command) else {
         return Ok(None);
     };
-    let pending = hall.call(rt, seat, prepared);
+    let pending = hall.call(rt, &OpenGate, seat, prepared);
     Ok(Some(finish(alloc, pending, &OpenGate)))
 }
 

@@ -63,6 +63,7 @@ impl<C: Clock + Sync> Gate for Holding<C> {
             Point::Answered => {
                 self.answered.fetch_add(1, Ordering::SeqCst);
             }
+            _ => {}
         }
     }
 }

@@ -7,7 +7,7 @@ use Rattle.cql_value.specs.Element.{Element}
 use Rattle.cql_value.specs.Name.{is_name}
 use Rattle.cql_window.specs.Window.{charge}
 use Rattle.cql_window.specs.Pin.{Pinned}
-use Rattle.cql_tenants.specs.declared.readable.ReadStream.{ReadStream}
+use Rattle.cql_tenants.specs.Granted.{ReadStream}
 use Rattle.cql_tenants.specs.declared.refusal.StreamRefusal.{StreamRefusal}
 use Rattle.cql_tenants.specs.declared.refusal.StreamRefusal.TheVariants as refused
 use Rattle.cql_tenants.specs.declared.stream.Stream.{Stream as stream}

@@ -10,7 +10,7 @@ use crate::error::OpError;
 use crate::operator::Operator;
 use crate::set_operation::SetOperation;
 use cql_bag::Change;
-use cql_plan::{Node, OperatorKind};
+use cql_plan::{Fault, Node, OperatorKind};
 use std::alloc::Global;
 
 /// An operator: a join and a shape of the caller's choice, and the two that there is one make of.
@@ -59,6 +59,15 @@ impl<J: Operator, S: Operator> Operator for Mixed<J, S> {
             Mixed::Shape(op) => op.push(port, change),
             Mixed::Distinct(op) => op.push(port, change),
             Mixed::SetOp(op) => op.push(port, change),
+        }
+    }
+
+    fn fault(&self) -> Option<Fault> {
+        match self {
+            Mixed::Join(op) => op.fault(),
+            Mixed::Shape(op) => op.fault(),
+            Mixed::Distinct(op) => op.fault(),
+            Mixed::SetOp(op) => op.fault(),
         }
     }
 

@@ -27,6 +27,25 @@ fn counts_by_number(alloc: Global) -> Result<Node, AllocError>
     }))
 }
 
+// The node of `Select Sum(v), Min(v), Sum(v), Max(v), Min(v) From s`.
+fn sum_and_ends(alloc: Global) -> Result<Node, AllocError>
+    ensures { IfOk result IsOfNumbers }
+{
+    let columns = Items::from_slice(alloc, &[ColumnType::Number])?;
+    let items = vec![in alloc;
+        Item::Sum(0),
+        Item::Min(0),
+        Item::Sum(0),
+        Item::Max(0),
+        Item::Min(0),
+    ]?;
+    Ok(Node::Shape(Shape {
+        columns,
+        items: Items::from_vec(items),
+        groups: Items::new(alloc),
+    }))
+}
+
 // A row of one number comes.
 fn number(alloc: Global, n: i64) -> Result<Change, AllocError>
     ensures { IfOk result IsNumber }
@@ -57,6 +76,60 @@ fn push_all<O: Operator>(op: &mut O, changes: &[Change]) -> Result<(), OpError>
 {
     for change in changes {
         op.push(0, change)?;
+    }
+    Ok(())
+}
+
+// The row comes so many times.
+#[tactic(auto, using(crate::proofs::Numbers::can_push, crate::proofs::Numbers::has_pushed))]
+fn push_often<O: Operator>(op: &mut O, change: &Change, times: u64) -> Result<(), OpError>
+    requires held { HasNumbers (O.seen_in op.old) }
+    requires row { IsNumber change.now }
+    ensures held { OnOk result (HasNumbers (O.seen_in op.new)) }
+{
+    for _ in 0..times {
+        op.push(0, change)?;
+    }
+    Ok(())
+}
+
+// Started anew, the operator tells of some rows, and of one that comes so many times more.
+#[tactic(auto, using(crate::proofs::Numbers::can_push, crate::proofs::Numbers::has_started))]
+fn tell_often<O: Operator>(
+    op: &mut O,
+    node: &Node,
+    changes: &[Change],
+    one: &Change,
+    times: u64,
+    out: &mut Vec<Change>,
+) -> Result<(), OpError>
+    requires kind { (O.seen_in op.old).kind ≡ shape_kind }
+    requires node { IsOfNumbers node.now }
+    requires rows { All IsNumber changes.now }
+    requires one { IsNumber one.now }
+{
+    op.start(node, 1000)?;
+    push_all(op, changes)?;
+    push_often(op, one, times)?;
+    op.emit(out)
+}
+
+// Started anew, the operator tells of each row as it comes.
+#[tactic(auto, using(crate::proofs::Numbers::can_push, crate::proofs::Numbers::has_pushed, crate::proofs::Numbers::has_started, crate::proofs::Numbers::has_emitted))]
+fn tell_each<O: Operator>(
+    op: &mut O,
+    node: &Node,
+    changes: &[Change],
+    out: &mut Vec<Change>,
+) -> Result<(), OpError>
+    requires kind { (O.seen_in op.old).kind ≡ shape_kind }
+    requires node { IsOfNumbers node.now }
+    requires rows { All IsNumber changes.now }
+{
+    op.start(node, 1000)?;
+    for change in changes {
+        op.push(0, change)?;
+        op.emit(out)?;
     }
     Ok(())
 }
@@ -164,5 +237,57 @@ fn one_group_is_computed_anew(rt: HostRuntime) -> Result<(), Fail> {
     }
     assert!(rt; shape.remade() == 101);
     assert!(rt; are_told(&out));
+    Ok(())
+}
+
+// 4,000 groups, and 6,001 rows of one of them.
+#[test]
+fn many_groups_and_many_rows_of_one(rt: HostRuntime) -> Result<(), Fail> {
+    let alloc = rt.alloc();
+    let node = counts_by_number(alloc)?;
+    let many = numbers(alloc, 0, 4000)?;
+    let one = number(alloc, 1)?;
+    let mut out = Vec::new(alloc);
+    let mut shape = GroupShape::new(alloc);
+    tell_often(&mut shape, &node, many.as_slice(), &one, 6000, &mut out)?;
+    assert!(rt; shape.remade() == 4000);
+    assert!(rt; out.len() == 4000);
+    assert!(rt; is_of(&out[1], true, 1, 6001));
+    Ok(())
+}
+
+// Whether it is a change of the row of the numbers from 1 to this one.
+fn is_of_all(change: &Change, plus: bool, to: i64, sum: i64) -> bool {
+    match change.row.values() {
+        [
+            Value::Number(a),
+            Value::Number(least),
+            Value::Number(b),
+            Value::Number(greatest),
+            Value::Number(c),
+        ] => {
+            change.plus == plus
+                && *a == sum
+                && *b == sum
+                && *least == 1
+                && *c == 1
+                && *greatest == to
+        }
+        _ => false,
+    }
+}
+
+#[test]
+fn a_shape_without_columns_is_one_group(rt: HostRuntime) -> Result<(), Fail> {
+    let alloc = rt.alloc();
+    let node = sum_and_ends(alloc)?;
+    let hundred = numbers(alloc, 1, 101)?;
+    let mut out = Vec::new(alloc);
+    let mut shape = GroupShape::new(alloc);
+    tell_each(&mut shape, &node, hundred.as_slice(), &mut out)?;
+    assert!(rt; shape.remade() == 100);
+    assert!(rt; out.len() == 199);
+    assert!(rt; is_of_all(&out[197], false, 99, 4950));
+    assert!(rt; is_of_all(&out[198], true, 100, 5050));
     Ok(())
 }

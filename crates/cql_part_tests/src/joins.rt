@@ -169,7 +169,7 @@ fn few_are_found_past_the_limit(rt: HostRuntime) -> Result<(), Fail> {
     let mut out = Vec::new(alloc);
     let mut join = KeyedJoin::new(alloc);
     assert!(rt; tell_at_last(&mut join, &node, 9, &hundred, &mut out) == Err(OpError::Oversize));
-    // Ten till the changes are let go, and ten more where they are looked up anew.
-    assert!(rt; join.tried() == 20);
+    // The rows are counted on past the limit, and nothing is looked up anew.
+    assert!(rt; join.tried() == 100);
     Ok(())
 }

@@ -9,6 +9,8 @@ mod groups;
 #[cfg(test)]
 mod joins;
 #[cfg(test)]
+mod lookups;
+#[cfg(test)]
 mod parts;
 #[cfg(test)]
 mod splits;

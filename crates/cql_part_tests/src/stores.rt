@@ -2,6 +2,7 @@
 ghost use Rattle.std.specs.Prelude.{◌≡◌, IfOk, length};
 ghost use Rattle.cql_store.specs.Next.{FitsWindow};
 
+use cql_chunks::Chunks;
 use cql_store::{Store, StubId};
 use cql_value::{Items, Row, Timed, Value, are_same};
 use cql_window::{Count, Length, Window, WindowPin};
@@ -226,6 +227,65 @@ fn a_refused_call(rt: HostRuntime) -> Result<(), Fail> {
         assert!(rt; round_or_same(alloc, &mut tried, &ids, at)?);
     }
     assert!(rt; tried.store.rows_held() == 6);
+    Ok(())
+}
+
+const PARTS: i64 = 24;
+
+fn of_parts(alloc: Global, tried: &mut Tried) -> Result<StubId, Refused> {
+    tried.attach(parts(alloc, 1)?, 100)
+}
+
+// A row of a part, of the first instant.
+fn put_first(alloc: Global, tried: &mut Tried, number: i64) -> Result<(), Refused> {
+    tried.put(row(alloc, 0, number)?)
+}
+
+// A row of each part, and the stub goes behind them. What is refused is done once more.
+fn fill(alloc: Global, tried: &mut Tried, id: StubId) -> Result<(), Refused> {
+    for number in 0..PARTS {
+        if let Err(_why) = put_first(alloc, tried, number) {
+            put_first(alloc, tried, number)?;
+        }
+    }
+    match tried.go(id, 1) {
+        Ok(()) => Ok(()),
+        Err(_why) => tried.go(id, 1),
+    }
+}
+
+// Whether the last row is of that instant, and all others, which are as many as the other parts,
+// are of the first.
+fn is_newest(content: &Chunks, at: u64) -> bool {
+    let mut left = content.len();
+    for row in content.iter() {
+        left = left.saturating_sub(1);
+        if row.at() != if left == 0 { at } else { 0 } {
+            return false;
+        }
+    }
+    content.len() == 24
+}
+
+// Of many parts one has a row more, and the stub passes it: with one allocation refused, at whatever
+// place, the call that needed it has changed nothing.
+#[test]
+fn a_refused_ack_of_few_rows(rt: HostRuntime) -> Result<(), Fail> {
+    let alloc = rt.alloc();
+    let mut tried = Tried::new(alloc);
+    let id = match of_parts(alloc, &mut tried) {
+        Ok(id) => id,
+        Err(_why) => of_parts(alloc, &mut tried)?,
+    };
+    fill(alloc, &mut tried, id)?;
+    for at in 1..5 {
+        assert!(rt; round_or_same(alloc, &mut tried, &[id], at)?);
+    }
+    let pin = match tried.pin(id, GREATEST) {
+        Ok(pin) => pin,
+        Err(_why) => tried.pin(id, GREATEST)?,
+    };
+    assert!(rt; is_newest(pin.content(), 4));
     Ok(())
 }
 

@@ -11,6 +11,8 @@ pub mod Behind
 pub mod Entries
 pub mod Gathering
 pub mod Linked
+pub mod Knowing
+pub mod Saying
 pub mod Grouping
 pub mod Lacking
 pub mod Keeping

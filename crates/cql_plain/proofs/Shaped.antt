@@ -15,13 +15,14 @@ use Rattle.cql_algebra.specs.Shape.{items_on, plain_value, grouped_value, shape_
 use Rattle.cql_algebra.specs.Typed.{HasTypes, AreOf}
 use Rattle.cql_algebra.specs.Value.{or_overflow}
 use Rattle.cql_ops.specs.Clauses.{AreChangesOf, IsFaulty}
-use Rattle.cql_ops.specs.Linear.{with_change, turned_changes, how_many, lacks}
+use Rattle.cql_ops.specs.Linear.{with_change, turned_changes, image}
 use Rattle.cql_ops.specs.Seen.{Seen}
 use Rattle.cql_ops.specs.declared.error.OpError.{OpError}
 use Rattle.cql_ops.specs.declared.error.OpError.TheVariants.{NoMemory, Overflow}
-use Rattle.cql_plain.specs.Logs.{Logged, logged_bag, told_all, told_image, IsTellsLaw}
+use Rattle.cql_plain.specs.Logs.{logged_bag, told_all, told_image, IsTellsLaw}
 use Rattle.cql_plain.specs.Shaped.{KeepsRows, KeepsGroups, TellsShape, FailsToShape}
 use Rattle.cql_plain.specs.Telling.{TellsOf}
+use Rattle.cql_plain.specs.declared.projected.Projected.{Projected}
 use Rattle.cql_ops.proofs.ByRow.{whole_value, no_value}
 use Rattle.cql_ops.proofs.Linear.{IsBag-changed_by}
 
@@ -76,21 +77,27 @@ turned_types items shape typed (c ∷ cs) all =
       | Some row ↦ λ e. (items shape c.row row typed all.0 e, turned_types items shape typed cs all.1)
     ] refl
 
-module _ (same : IsSameCountsLaw) (puts : IsPutAllLaw) (takes : IsTakeLaw) (shape : Shape) (log : Logged) (has : KeepsRows shape log) where
-  pub rows_fail : (n : ℕ) → n ≡ how_many (lacks shape.items) (logged_bag log) → 0 < n → shape_value shape (logged_bag log) ≡ None
-  rows_fail n is some = of_rows shape (logged_bag log) has.plain ∙ no_value shape.items (logged_bag log) (subst (λ m. 0 < m) is some)
+module _ (same : IsSameCountsLaw) (puts : IsPutAllLaw) (takes : IsTakeLaw) (shape : Shape) (rows : Projected) (has : KeepsRows shape rows) where
+  abbrev bag : Counts
+  bag = logged_bag rows.log
 
-  pub rows_told : IsTellsLaw → IsItemTypesLaw → (before out : List Change) → how_many (lacks shape.items) (logged_bag log) ≡ 0 → out ≡ before ++ turned_changes (items_on shape.items) log.untold → TellsShape shape (logged_bag log) (told_image (items_on shape.items) log) (told_image (items_on shape.items) (told_all log)) before out
+  pub rows_fail : 0 < rows.lacking → shape_value shape bag ≡ None
+  rows_fail some = of_rows shape bag has.plain ∙ no_value shape.items bag (subst (λ n. 0 < n) has.lacking some)
+
+  pub rows_whole : rows.lacking ≡ 0 → shape_value shape bag ≡ Some (image (items_on shape.items) bag)
+  rows_whole none = of_rows shape bag has.plain ∙ whole_value shape.items bag (IsBag-changed_by same puts takes (rows.log.told ++ rows.log.untold) [] tt) (sym has.lacking ∙ none)
+
+  pub rows_told : IsTellsLaw → IsItemTypesLaw → (before out : List Change) → rows.lacking ≡ 0 → out ≡ before ++ rows.untold.items → TellsShape shape bag (told_image (items_on shape.items) rows.log) (told_image (items_on shape.items) (told_all rows.log)) before out
   rows_told tells items before out none is =
       let f = items_on shape.items in
-      let rest = tells f log has.is_log in (
-        turned_changes f log.untold,
-        is,
+      let rest = tells f rows.log has.is_log in (
+        turned_changes f rows.log.untold,
+        is ∙ ap (λ l. before ++ l) has.untold,
         record {
           there = rest.there;
           leads = sym rest.told;
-          value = of_rows shape (logged_bag log) has.plain ∙ whole_value shape.items (logged_bag log) (IsBag-changed_by same puts takes (log.told ++ log.untold) [] tt) none ∙ ap (λ b. Some b) (sym rest.whole);
-          columns = λ typed. turned_types items shape typed log.untold has.columns;
+          value = rows_whole none ∙ ap (λ b. Some b) (sym rest.whole);
+          columns = λ typed. turned_types items shape typed rows.log.untold has.columns;
         },
       )
 

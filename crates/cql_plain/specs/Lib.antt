@@ -8,3 +8,4 @@ pub mod Grouping
 pub mod Made
 pub mod Shaped
 pub mod Plain
+pub mod Once

@@ -1,21 +1,13 @@
 // The items of a shape without groups.
-ghost use Rattle.std.specs.Prelude.{◌≡◌, ◌++◌, List, IfOk, IfErr, IsTrue, OnOk, OnErr, Some, slice_get};
+ghost use Rattle.std.specs.Prelude.{◌≡◌, List, IfOk, IsTrue, OnOk, Some, slice_get};
 ghost use Rattle.cql_value.specs.declared.value.Value.{Value as CqlValue};
-ghost use Rattle.cql_bag.specs.Changes.{Grows};
 ghost use Rattle.cql_algebra.specs.Shape.{item_value, items_on};
-ghost use Rattle.cql_ops.specs.Linear.{turned_changes, how_many, lacks};
-ghost use Rattle.cql_plain.specs.Logs.{logged_bag, told_image};
 ghost use Rattle.cql_plain.specs.Made.{AreMade};
-ghost use Rattle.cql_plain.specs.Shaped.{KeepsRows, TellsShape, FailsToShape};
 
 use crate::made::{Made, keep, taken};
 use crate::numbers::number_of;
-use crate::passed::{Log, adds_law, tells_law};
-use cql_algebra::law::item_types_law;
 use cql_bag::Change;
-use cql_bag::law::{put_all_counts, same_counts, take_counts};
-use cql_ops::OpError;
-use cql_plan::{Expr, Item, Shape, evaluate};
+use cql_plan::{Expr, Item, evaluate};
 use cql_value::{Row, Value};
 use std::alloc::{AllocError, Global};
 use std::collections::VecDeque;
@@ -73,9 +65,9 @@ fn computed(alloc: Global, items: &[Item], row: &[Value]) -> Result<Option<Row>,
     Ok(Some(Row::new(alloc, values)?))
 }
 
-// The items on the row of a change, unless one is outside i64: the row itself where they are its
-// columns; else what was made of it when it came, or a new row, which is kept if it comes.
-fn row_of_items(
+/// The items on the row of a change, unless one is outside i64: the row itself where they are its
+/// columns; else what was made of it when it came, or a new row, which is kept if it comes.
+pub(crate) fn row_of_items(
     alloc: Global,
     items: &[Item],
     change: &Change,
@@ -99,65 +91,4 @@ fn row_of_items(
         keep(made, &change.row, row)?;
     }
     Ok(row)
-}
-
-// Tells what the items turn the rows to that came and went since it was last told. Answers on how
-// many rows of the port some item has no value.
-fn tell_untold(
-    alloc: Global,
-    shape: &Shape,
-    log: &Log,
-    made: &mut VecDeque<Made>,
-    out: &mut Vec<Change>,
-) -> Result<u64, AllocError>
-    requires keeps { KeepsRows shape.now log.now }
-    requires made { AreMade shape.now.items made.old.items }
-    ensures lacking { IfOk result (λ n. n ≡ how_many (lacks shape.now.items) (logged_bag log.now)) }
-    ensures told { OnOk result (out.new.items ≡ out.old.items ++ turned_changes (items_on shape.now.items) log.now.untold) }
-    ensures made { OnOk result (AreMade shape.now.items made.new.items) }
-    ensures kept { OnErr result (Grows out.old.items out.new.items) }
-{
-    adds_law();
-    let mut lacking: u64 = 0;
-    for change in log.untold() {
-        match row_of_items(alloc, shape.items.as_slice(), change, made)? {
-            Some(row) => out.push(Change {
-                plus: change.plus,
-                row,
-            })?,
-            None if change.plus => lacking += 1,
-            None => lacking -= 1,
-        }
-    }
-    Ok(lacking)
-}
-
-/// Tells the changes of a shape without groups, or `Overflow` where an item is outside i64 on some
-/// row.
-pub(crate) fn emit_rows(
-    alloc: Global,
-    shape: &Shape,
-    log: &mut Log,
-    made: &mut VecDeque<Made>,
-    out: &mut Vec<Change>,
-) -> Result<(), OpError>
-    requires keeps { KeepsRows shape.now log.old }
-    requires made { AreMade shape.now.items made.old.items }
-    ensures told { OnOk result (TellsShape shape.now (logged_bag log.old) (told_image (items_on shape.now.items) log.old) (told_image (items_on shape.now.items) log.new) out.old.items out.new.items) }
-    ensures keeps { OnOk result (KeepsRows shape.now log.new) }
-    ensures made { OnOk result (AreMade shape.now.items made.new.items) }
-    ensures port { OnOk result (logged_bag log.new ≡ logged_bag log.old) }
-    ensures kept { OnErr result (Grows out.old.items out.new.items) }
-    ensures err { IfErr result (FailsToShape shape.now (logged_bag log.old)) }
-{
-    item_types_law();
-    tells_law();
-    same_counts();
-    put_all_counts();
-    take_counts();
-    if tell_untold(alloc, shape, log, made, out)? > 0 {
-        return Err(OpError::Overflow);
-    }
-    log.tell();
-    Ok(())
 }

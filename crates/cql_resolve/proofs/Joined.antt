@@ -10,7 +10,3 @@ one_more [] source = append-nil source.fields
 one_more (first ∷ sources) source =
     ap (λ row. first.fields ++ row) (one_more sources source)
     ∙ sym (append_assoc first.fields (joined_row sources) source.fields)
-
-pub none : joined_row [] ≡ []
-unfolding joined_row
-none = refl

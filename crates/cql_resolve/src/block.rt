@@ -8,7 +8,7 @@ use crate::error::{PlanError, PlanFault};
 use crate::item::{TypedItem, groups_of, is_grouped, items_of};
 use crate::lookup::Lookup;
 use crate::row::{Field, kinds_of};
-use crate::source::{Joined, Source, are_apart, joined_of, sources};
+use crate::source::{Source, are_apart, joined_of, sources};
 use crate::typed::where_of;
 use cql_plan::{Branch, Input, Item, Join, Node, Shape};
 use cql_syntax::syntax::SelectBlock;
@@ -93,7 +93,7 @@ fn checked_of(
 fn body_of(alloc: Global, sources: Vec<Source>, block: &SelectBlock) -> Result<Checked, PlanError>
     ensures { Answers (spec.body_of sources.items block.now) result }
 {
-    let Joined { inputs, ports, row } = joined_of(alloc, sources)?;
+    let (inputs, ports, row) = joined_of(alloc, sources)?.into_parts();
     let row = row.as_slice();
     let condition = where_of(alloc, row, &block.condition)?;
     let join = Node::Join(Join { ports, condition });

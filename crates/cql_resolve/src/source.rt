@@ -1,8 +1,9 @@
 // The inputs of a block.
-ghost use Rattle.std.specs.Prelude.{◌≡◌, ◌<◌, ◌^◌, IfOk, Some, option_copied};
+ghost use Rattle.std.specs.Prelude.{◌≡◌, ◌<◌, ◌^◌, ◌++◌, ◌∷◌, [], IfOk, OnOk, Some, option_copied};
 ghost use Rattle.std.specs.List.{list_any};
 ghost use Rattle.std.specs.Str.{bytes_eq};
 ghost use Rattle.cql_resolve.specs.Outcome.{Answers, AnswersList, each};
+ghost use Rattle.cql_resolve.specs.Columns.{kinds_of};
 ghost use Rattle.cql_resolve.specs.Sources as spec;
 ghost use Rattle.cql_resolve.specs.Visible.{visible_of};
 
@@ -49,7 +50,6 @@ impl Source {
 }
 
 /// The inputs of a block, put together.
-#[derive(Drop)]
 pub(crate) struct Joined {
     /// What the plan keeps of each input.
     pub(crate) inputs: Items<Input>,
@@ -57,6 +57,53 @@ pub(crate) struct Joined {
     pub(crate) ports: Items<Items<ColumnType>>,
     /// The columns of all inputs, in order.
     pub(crate) row: Items<Field>,
+}
+
+impl Drop for Joined {
+    fn drop(self) {
+        let Joined {
+            inputs: _,
+            ports: _,
+            row: _,
+        } = self;
+    }
+}
+
+impl Joined {
+    // Of no input.
+    #[tactic(auto, unfolding(crate::specs::Sources::joined_row))]
+    fn new(alloc: Global) -> Joined
+        ensures { result ≡ spec.joined_of [] }
+    {
+        Joined {
+            inputs: Items::new(alloc),
+            ports: Items::new(alloc),
+            row: Items::new(alloc),
+        }
+    }
+
+    // With one input more.
+    fn push(&mut self, alloc: Global, source: Source) -> Result<(), AllocError>
+        ensures inputs { OnOk result (self.new.inputs ≡ self.old.inputs ++ source.input ∷ []) }
+        ensures ports { OnOk result (self.new.ports ≡ self.old.ports ++ kinds_of source.fields ∷ []) }
+        ensures row { OnOk result (self.new.row ≡ self.old.row ++ source.fields) }
+    {
+        let (input, fields) = source.into_parts();
+        self.ports.push(kinds_of(alloc, fields.as_slice())?)?;
+        self.row.append(fields)?;
+        self.inputs.push(input)?;
+        Ok(())
+    }
+
+    /// What the plan keeps of each input, the types of their columns, and all columns.
+    pub(crate) fn into_parts(self) -> (Items<Input>, Items<Items<ColumnType>>, Items<Field>)
+        ensures inputs { result.0 ≡ self.inputs }
+        ensures ports { result.1 ≡ self.ports }
+        ensures row { result.2 ≡ self.row }
+    {
+        let Joined { inputs, ports, row } = self;
+        (inputs, ports, row)
+    }
 }
 
 // A column by which an input is parted: its place among those that are seen.
@@ -140,6 +187,31 @@ fn alias_of(input: &syntax::Input) -> Result<Name, AllocError>
     }
 }
 
+// What the plan keeps of an input, whose window is over the whole rows.
+fn input_of(
+    alloc: Global,
+    input: &syntax::Input,
+    places: &[usize],
+    window: Window,
+) -> Result<Input, AllocError>
+    ensures { IfOk result (λ i. i ≡ record { owner = input.now.stream.qualifier; stream = input.now.stream.name; window = window; places = places.now }) }
+{
+    let places = Items::from_slice(alloc, places)?;
+    let stream = input.stream.name.try_clone()?;
+    let owner = input
+        .stream
+        .qualifier
+        .as_ref()
+        .map(|owner| owner.try_clone())
+        .transpose()?;
+    Ok(Input {
+        owner,
+        stream,
+        window,
+        places,
+    })
+}
+
 // An input of a stream of which this is seen.
 fn source_with(
     alloc: Global,
@@ -153,21 +225,9 @@ fn source_with(
     let fields = fields_of(alloc, &alias, readable.schema.columns())?;
     let window = window_of(alloc, fields.as_slice(), &input.window)?;
     let window = wide_window(alloc, readable.places, window)?;
-    let owner = input
-        .stream
-        .qualifier
-        .as_ref()
-        .map(|owner| owner.try_clone())
-        .transpose()?;
-    let stream = input.stream.name.try_clone()?;
-    let places = Items::from_slice(alloc, readable.places)?;
+    let input = input_of(alloc, input, readable.places, window)?;
     Ok(Source {
-        input: Input {
-            owner,
-            stream,
-            window,
-            places,
-        },
+        input,
         alias,
         fields,
     })
@@ -242,14 +302,9 @@ pub(crate) fn are_apart(sources: &[Source]) -> bool
 pub(crate) fn joined_of(alloc: Global, sources: Vec<Source>) -> Result<Joined, AllocError>
     ensures { IfOk result (λ joined. joined ≡ spec.joined_of sources.items) }
 {
-    let mut inputs = Items::new(alloc);
-    let mut ports = Items::new(alloc);
-    let mut row = Items::new(alloc);
+    let mut joined = Joined::new(alloc);
     for source in sources {
-        let (input, fields) = source.into_parts();
-        ports.push(kinds_of(alloc, fields.as_slice())?)?;
-        row.append(fields)?;
-        inputs.push(input)?;
+        joined.push(alloc, source)?;
     }
-    Ok(Joined { inputs, ports, row })
+    Ok(joined)
 }

@@ -1,5 +1,5 @@
 -- A stub's places at a later cursor.
-use Rattle.std.proofs.Common.{◌≡◌, ℕ, ◌+◌, ◌-◌, ◌≤◌, Bool, false, List, [], ◌++◌, length, take, drop, nat_lt, nat_le, subst, sym, ap, ◌∙◌, arith, cond, length-append, length-drop, append_assoc, ◌⊎◌, inl, inr}
+use Rattle.std.proofs.Common.{◌≡◌, ℕ, ◌+◌, ◌-◌, ◌≤◌, ◌<◌, Bool, false, List, [], ◌++◌, length, take, drop, nat_lt, nat_le, subst, sym, ap, ◌∙◌, arith, cond, length-append, length-drop, append_assoc, ◌⊎◌, inl, inr}
 use Rattle.std.specs.List.{filter, prefix_len}
 use Rattle.std.proofs.Math.Seq.{take-add}
 use Rattle.std.proofs.lemmas.List.{drop-drop, drop-take, length-take, take-append-drop, append-nil, take_all}
@@ -10,14 +10,17 @@ use Rattle.cql_window.specs.declared.window.Window.TheVariants.{Range, Rows, All
 use Rattle.cql_window.specs.Laws.{HasNoParts}
 use Rattle.cql_window.specs.Pin.{AreRows}
 use Rattle.cql_window.specs.Places.{end_in}
-use Rattle.cql_window.specs.Window.{AreAscending, front_len, kept, content, beyond, count_before}
+use Rattle.cql_window.specs.Window.{AreAscending, front_len, kept, content, beyond, count_before, last_of_parts}
 use Rattle.cql_window.proofs.Ends.{before_mono, before_rest}
 use Rattle.cql_window.proofs.Law.{kept_le}
+use Rattle.cql_window.proofs.Newest.{parts_twice}
+use Rattle.cql_window.proofs.Coming.{more_come}
+use Rattle.cql_window.specs.Coming.{with_all, AreNewestOf}
 use Rattle.cql_window.proofs.Places.{range_between}
 use Rattle.cql_store.proofs.Fit.{asc_take, fit_drop, fit_behind, fit_front, fit_newest}
 use Rattle.cql_store.proofs.Keeps.{whole}
 use Rattle.cql_store.specs.declared.stub.Stub.{Stub}
-use Rattle.cql_store.specs.Held.{advanced, HasParts, IsKeptFor, IsReady, pinned}
+use Rattle.cql_store.specs.Held.{advanced, CanAdvance, HasParts, IsKeptFor, IsReady, pinned}
 use Rattle.cql_store.specs.Places.{shown, shifted, IsSound, IsKept}
 use Rattle.cql_window.proofs.Walked.{end_rises as end_later}
 
@@ -72,6 +75,10 @@ gone_to rows to counted ahead gone s none live order is bound keeps =
     (λ i. none i ++ new i) ∙ sym keeps ∙ ap (kept s.window to) (sym joined) ∙ (λ i. kept s.window to ((sym none i ++ take (s.seen - s.first) (drop s.first rows)) ++ take (front_len s.window to (drop s.seen rows)) (drop s.seen rows))) in
     let now_unseen : drop (s.seen + ahead) rows ≡ beyond s.window to (drop s.seen rows) = sym (drop-drop ahead s.seen rows) ∙ ap (λ n. drop n (drop s.seen rows)) is in
     grind (arith, live, now_content, now_unseen)
+
+-- the newest of each part are the newest of each part among themselves
+newest_of_newest : (columns : List ℕ) (n : ℕ) (xs : List Element) → last_of_parts columns n (last_of_parts columns n xs) ≡ last_of_parts columns n xs
+newest_of_newest columns n xs = ap (last_of_parts columns n) (sym (append-nil (last_of_parts columns n xs))) ∙ parts_twice columns n xs [] ∙ ap (last_of_parts columns n) (append-nil xs)
 
 plain_none : (w : Window) (kept : List Element) (first seen : ℕ) → HasNoParts w → IsKept w kept first seen → kept ≡ []
 plain_none (Range l s) kept first seen plain is = is
@@ -138,13 +145,13 @@ parts_same : (w : Window) (kept : List Element) (first seen : ℕ) → HasParts 
 parts_same (Range l s) kept first seen parts is = absurd parts
 parts_same (Rows n s) kept first seen parts is = absurd parts
 parts_same all kept first seen parts is = absurd parts
-parts_same (Parts columns n) kept first seen parts is = is
+parts_same (Parts columns n) kept first seen parts is = is.0
 
-same_parts : (w : Window) (kept : List Element) (first seen : ℕ) → HasParts w → first ≡ seen → IsKept w kept first seen
-same_parts (Range l s) kept first seen parts is = absurd parts
-same_parts (Rows n s) kept first seen parts is = absurd parts
-same_parts all kept first seen parts is = absurd parts
-same_parts (Parts columns n) kept first seen parts is = is
+same_parts : (w : Window) (to : ℕ) (own xs : List Element) (first seen : ℕ) → HasParts w → own ≡ kept w to xs → first ≡ seen → IsKept w own first seen
+same_parts (Range l s) to own xs first seen parts newest is = absurd parts
+same_parts (Rows n s) to own xs first seen parts newest is = absurd parts
+same_parts all to own xs first seen parts newest is = absurd parts
+same_parts (Parts columns n) to own xs first seen parts newest is = (is, ap (last_of_parts columns n) newest ∙ newest_of_newest columns n xs ∙ sym newest)
 
 pub plain_or_parts : (w : Window) → HasNoParts w ⊎ HasParts w
 plain_or_parts (Range l s) = inl tt
@@ -185,7 +192,7 @@ parts_sound rows to counted ahead gone k s parts is count within order front bou
       counted = order;
       known = known_on s.window rows to s.seen counted ahead count order;
       within = within;
-      kept = same_parts s.window k (s.first + gone) (s.seen + ahead) parts at;
+      kept = same_parts s.window to k looked (s.first + gone) (s.seen + ahead) parts kept_is at;
       fit = subst (AreRows s.window) (λ i. sym kept_is i ++ sym rest i) fit;
       room = omega (arith, is.room, fewer, counts, ap length kept_is, at, same, within, order);
     }
@@ -212,9 +219,59 @@ go_sound rows to counted ahead gone k s ready count within order front bound par
       | inr parts ↦ parts_sound rows to counted ahead gone k s parts is count within order front (partly parts) keeps
     ]
 
+-- what a window of parts keeps is the newest of its parts
+pub own_newest : (rows : List Element) (columns : List ℕ) (count : ℕ) (s : Stub) → s.window ≡ Parts columns count → IsSound rows s → AreNewestOf columns count s.kept
+own_newest rows columns count s window is =
+    let own : (s.first ≡ s.seen) × (last_of_parts columns count s.kept ≡ s.kept) = subst (λ w. IsKept w s.kept s.first s.seen) window is.kept in
+    own.1
+
+-- where a window of parts passes no row, it keeps what it has
+pub none_passed : (rows : List Element) (to : ℕ) (columns : List ℕ) (count : ℕ) (s : Stub) → s.window ≡ Parts columns count → IsSound rows s → 0 ≡ front_len s.window to (drop s.seen rows) → s.kept ≡ content (Parts columns count) to (s.kept ++ take (s.seen - s.first) (drop s.first rows)) (drop s.seen rows)
+none_passed rows to columns count s window is none =
+    let own : (s.first ≡ s.seen) × (last_of_parts columns count s.kept ≡ s.kept) = subst (λ w. IsKept w s.kept s.first s.seen) window is.kept in
+    let no_more : s.seen - s.first ≡ 0 = omega (arith, own.0) in
+    let no_front : front_len (Parts columns count) to (drop s.seen rows) ≡ 0 = sym (none ∙ ap (λ w. front_len w to (drop s.seen rows)) window) in
+    let settled : s.kept ++ take (s.seen - s.first) (drop s.first rows) ≡ s.kept = ap (λ n. s.kept ++ take n (drop s.first rows)) no_more ∙ append-nil s.kept in
+    sym own.1 ∙ ap (last_of_parts columns count) (sym (ap (λ n. (s.kept ++ take (s.seen - s.first) (drop s.first rows)) ++ take n (drop s.seen rows)) no_front ∙ append-nil (s.kept ++ take (s.seen - s.first) (drop s.first rows)) ∙ settled))
+
+-- where it passes some, it keeps what these make of what it has
+pub some_passed : (rows : List Element) (to : ℕ) (columns : List ℕ) (count ahead : ℕ) (s : Stub) → s.window ≡ Parts columns count → IsSound rows s → 0 < count → ahead ≡ front_len s.window to (drop s.seen rows) → with_all columns count s.kept (take ahead (drop s.seen rows)) ≡ content (Parts columns count) to (s.kept ++ take (s.seen - s.first) (drop s.first rows)) (drop s.seen rows)
+some_passed rows to columns count ahead s window is some front =
+    let own : (s.first ≡ s.seen) × (last_of_parts columns count s.kept ≡ s.kept) = subst (λ w. IsKept w s.kept s.first s.seen) window is.kept in
+    let no_more : s.seen - s.first ≡ 0 = omega (arith, own.0) in
+    let at : ahead ≡ front_len (Parts columns count) to (drop s.seen rows) = front ∙ ap (λ w. front_len w to (drop s.seen rows)) window in
+    let settled : s.kept ++ take (s.seen - s.first) (drop s.first rows) ≡ s.kept = ap (λ n. s.kept ++ take n (drop s.first rows)) no_more ∙ append-nil s.kept in
+    sym (more_come columns count s.kept (take ahead (drop s.seen rows)) some own.1)
+    ∙ (λ i. last_of_parts columns count (sym settled i ++ take (at i) (drop s.seen rows)))
+
+-- and so it is ready
+pub some_ready : (rows : List Element) (to : ℕ) (columns : List ℕ) (count ahead : ℕ) (k : List Element) (s : Stub) → s.window ≡ Parts columns count → IsSound rows s → CanAdvance to (shown rows s) → 0 < count → ahead ≡ front_len s.window to (drop s.seen rows) → k ≡ with_all columns count s.kept (take ahead (drop s.seen rows)) → IsReady to k (shown rows s)
+some_ready rows to columns count ahead k s window is can some front made =
+    let settled : List Element = s.kept ++ take (s.seen - s.first) (drop s.first rows) in
+    let keeps : IsKeptFor s.window to k settled (drop s.seen rows) = subst (λ (w : Window). IsKeptFor w to k settled (drop s.seen rows)) (sym window) (made ∙ some_passed rows to columns count ahead s window is some front) in
+    record {
+      can = can;
+      keeps = subst (λ (o : Bool). IsKeptFor s.window to k (cond o [] settled) (cond o [] (drop s.seen rows))) (sym can.live) keeps;
+    }
+
 -- the rows of a stub in the store
 pub fit_store : (rows : List Element) (s : Stub) → IsSound rows s → AreAscending (drop s.first rows)
 fit_store rows s is = (fit_behind s.window s.kept (drop s.first rows) is.fit).0
+
+-- its rows from a place on
+fit_from : (rows : List Element) (place : ℕ) (s : Stub) → IsSound rows s → s.first ≤ place → AreAscending (drop place rows)
+fit_from rows place s is order =
+    let sum : s.first + (place - s.first) ≡ place = omega (arith, order) in
+    subst AreAscending (drop-drop (place - s.first) s.first rows ∙ ap (λ n. drop n rows) sum)
+    (fit_drop s.window (place - s.first) (drop s.first rows) (fit_behind s.window s.kept (drop s.first rows) is.fit)).0
+
+-- its rows from the place that was counted to on
+pub fit_counted : (rows : List Element) (s : Stub) → IsSound rows s → AreAscending (drop s.counted rows)
+fit_counted rows s is = fit_from rows s.counted s is (omega (arith, is.order, is.counted))
+
+-- its unseen rows
+pub fit_unseen : (rows : List Element) (s : Stub) → IsSound rows s → AreAscending (drop s.seen rows)
+fit_unseen rows s is = fit_from rows s.seen s is is.order
 
 -- the rows of a pin
 pub fit_pin : (rows : List Element) (n : ℕ) (s : Stub) → IsSound rows s → AreRows s.window ((s.kept ++ take (s.seen - s.first) (drop s.first rows)) ++ take n (drop s.seen rows))

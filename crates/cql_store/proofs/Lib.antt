@@ -1,3 +1,4 @@
+pub mod Crosses
 pub mod Fit
 pub mod Keeps
 pub mod Numbers
@@ -6,3 +7,4 @@ pub mod Trims
 pub mod Next
 pub mod Later
 pub mod Told
+pub mod Search

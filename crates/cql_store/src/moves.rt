@@ -1,59 +1,76 @@
 // A stub goes to a later cursor.
-ghost use Rattle.std.specs.Prelude.{◌≡◌, ◌≤◌, ◌<◌, ◌+◌, ◌-◌, ◌^◌, ◌++◌, IfOk, OnErr, length, drop, take, nat_le, false};
+ghost use Rattle.std.specs.Prelude.{◌≡◌, ◌⊎◌, [], ◌≤◌, ◌<◌, ◌+◌, ◌-◌, ◌^◌, ◌++◌, IfOk, OnErr, length, drop, take, nat_le, false};
 ghost use Rattle.std.specs.List.{prefix_len};
+ghost use Rattle.cql_window.specs.Coming.{with_all};
 ghost use Rattle.cql_window.specs.Laws.{HasNoParts};
 ghost use Rattle.cql_window.specs.Places.{end_in};
-ghost use Rattle.cql_window.specs.Window.{AreAscending, count_before, front_len, kept};
+ghost use Rattle.cql_window.specs.Window.{AreAscending, count_before, front_len, kept, last_of_parts};
 ghost use Rattle.cql_store.specs.Held.{advanced, HasParts, CanAdvance, IsReady, pinned};
 ghost use Rattle.cql_store.specs.Places.{shown, shifted, greatest, IsSound, IsPlaced};
 
 use crate::stub::{Kept, Stub};
+use cql_chunks::Chunks;
+use cql_kept::Kept as KeptParts;
 use cql_value::{Timed, TryClone};
-use cql_window::{Window, WindowPin, end_in, is_past, newest_of_parts, whole_slides};
+use cql_window::{Count, Window, WindowPin, end_in, newest_of_parts, whole_slides};
 use std::alloc::{AllocError, Global};
-use std::collections::VecDeque;
+
+// All rows are made anew where more come than such a share of those that are kept.
+const SHARE: usize = 10;
+
+// How many rows of a stretch came before the end. They are in the order of their times: it looks at
+// a few rows alone.
+fn rows_between(rows: &Chunks, from: usize, to: usize, end: u64) -> usize
+    requires order { from ≤ to }
+    requires within { to ≤ length rows.now }
+    requires ascending { AreAscending (drop from rows.now) }
+    ensures value { result ≡ count_before end (take (to - from) (drop from rows.now)) }
+    ensures within { from + result ≤ to }
+{
+    let mut low = from;
+    let mut high = to;
+    while low < high {
+        let middle = low + (high - low) / 2;
+        if rows.get(middle).at() < end {
+            low = middle + 1;
+        } else {
+            high = middle;
+        }
+    }
+    low - from
+}
 
 // How many rows from a place on came before the end.
-fn rows_before(rows: &VecDeque<Timed>, from: usize, end: u64) -> usize
-    requires { from ≤ length rows.now.items }
-    ensures { result ≡ count_before end (drop from rows.now.items) }
+fn rows_before(rows: &Chunks, from: usize, end: u64) -> usize
+    requires within { from ≤ length rows.now }
+    requires ascending { AreAscending (drop from rows.now) }
+    ensures value { result ≡ count_before end (drop from rows.now) }
+    ensures small { from + result < 2 ^ 63 }
 {
     rows_between(rows, from, rows.len(), end)
 }
 
-// How many rows of a stretch came before the end.
-fn rows_between(rows: &VecDeque<Timed>, from: usize, to: usize, end: u64) -> usize
-    requires order { from ≤ to }
-    requires within { to ≤ length rows.now.items }
-    ensures { result ≡ count_before end (take (to - from) (drop from rows.now.items)) }
-{
-    rows.range(from..to)
-        .take_while(|row| row.at() < end)
-        .count()
-}
-
 // How many rows of a stretch a range of so many ticks, seen up to before the end, no longer
 // reaches.
-fn rows_past(rows: &VecDeque<Timed>, from: usize, to: usize, ticks: u64, end: u64) -> usize
+fn rows_past(rows: &Chunks, from: usize, to: usize, ticks: u64, end: u64) -> usize
     requires order { from ≤ to }
-    requires within { to ≤ length rows.now.items }
+    requires within { to ≤ length rows.now }
+    requires ascending { AreAscending (drop from rows.now) }
     requires short { ticks < 2 ^ 62 }
-    ensures { result ≡ prefix_len (λ x. nat_le (x.at + ticks + 2) end) (take (to - from) (drop from rows.now.items)) }
+    ensures { result ≡ prefix_len (λ x. nat_le (x.at + ticks + 2) end) (take (to - from) (drop from rows.now)) }
 {
-    rows.range(from..to)
-        .take_while(|row| is_past(end, ticks, row.at()))
-        .count()
+    rows_between(rows, from, to, end.saturating_sub(ticks + 1))
 }
 
 // The place, from the front, before which the rows came before the end that the window looks up to
 // at the cursor.
 // Only rows from the place that was counted to are looked at.
-fn counted_at(stub: &Stub, rows: &VecDeque<Timed>, gone: usize, to: u64) -> usize
-    requires sound { IsSound rows.now.items (shifted gone stub.now) }
+fn counted_at(stub: &Stub, rows: &Chunks, gone: usize, to: u64) -> usize
+    requires sound { IsSound rows.now (shifted gone stub.now) }
     requires later { stub.now.cursor ≤ to }
-    ensures value { let seen = stub.now.seen - gone in result ≡ seen + count_before (end_in stub.now.window to) (drop seen rows.now.items) }
+    ensures value { let seen = stub.now.seen - gone in result ≡ seen + count_before (end_in stub.now.window to) (drop seen rows.now) }
     ensures order { stub.now.seen - gone ≤ result }
-    ensures within { result ≤ length rows.now.items }
+    ensures within { result ≤ length rows.now }
 {
     let end = end_in(&stub.window, to);
     let counted = stub.counted.saturating_sub(gone);
@@ -62,22 +79,22 @@ fn counted_at(stub: &Stub, rows: &VecDeque<Timed>, gone: usize, to: u64) -> usiz
 
 // How many rows more the window sees at the cursor, where it sees them up to a place, and they are
 // counted to another.
-fn ahead_of(window: &Window, rows: &VecDeque<Timed>, seen: usize, counted: usize, to: u64) -> usize
+fn ahead_of(window: &Window, rows: &Chunks, seen: usize, counted: usize, to: u64) -> usize
     requires order { seen ≤ counted }
-    requires within { counted ≤ length rows.now.items }
-    requires counted { counted ≡ seen + count_before (end_in window.now to) (drop seen rows.now.items) }
-    ensures value { result ≡ front_len window.now to (drop seen rows.now.items) }
+    requires within { counted ≤ length rows.now }
+    requires counted { counted ≡ seen + count_before (end_in window.now to) (drop seen rows.now) }
+    ensures value { result ≡ front_len window.now to (drop seen rows.now) }
     ensures within { seen + result ≤ counted }
 {
     whole_slides(window, counted - seen)
 }
 
 // How many rows of a stretch a window keeps no more at the cursor.
-fn passed(window: &Window, rows: &VecDeque<Timed>, first: usize, seen: usize, to: u64) -> usize
+fn passed(window: &Window, rows: &Chunks, first: usize, seen: usize, to: u64) -> usize
     requires order { first ≤ seen }
-    requires within { seen ≤ length rows.now.items }
-    requires ascending { AreAscending (drop first rows.now.items) }
-    ensures value { let held = take (seen - first) (drop first rows.now.items) in HasNoParts window.now → kept window.now to held ≡ drop result held }
+    requires within { seen ≤ length rows.now }
+    requires ascending { AreAscending (drop first rows.now) }
+    ensures value { let held = take (seen - first) (drop first rows.now) in HasNoParts window.now → kept window.now to held ≡ drop result held }
     ensures parts { HasParts window.now → result ≡ seen - first }
     ensures bound { result ≤ seen - first }
 {
@@ -93,12 +110,12 @@ fn passed(window: &Window, rows: &VecDeque<Timed>, first: usize, seen: usize, to
 }
 
 /// The stub's places at a later cursor, with the rows that it is to keep itself.
-pub(crate) fn go_to(stub: &mut Stub, rows: &VecDeque<Timed>, gone: usize, to: u64, kept: Kept)
-    requires sound { IsSound rows.now.items (shifted gone stub.old) }
-    requires ready { IsReady to kept (shown rows.now.items (shifted gone stub.old)) }
-    requires fits { gone + length rows.now.items ≤ greatest }
-    ensures content { shown rows.now.items (shifted gone stub.new) ≡ advanced to (shown rows.now.items (shifted gone stub.old)) }
-    ensures placed { IsPlaced rows.now.items gone stub.new }
+pub(crate) fn go_to(stub: &mut Stub, rows: &Chunks, gone: usize, to: u64, kept: Kept)
+    requires sound { IsSound rows.now (shifted gone stub.old) }
+    requires ready { IsReady to kept (shown rows.now (shifted gone stub.old)) }
+    requires fits { gone + length rows.now ≤ greatest }
+    ensures content { shown rows.now (shifted gone stub.new) ≡ advanced to (shown rows.now (shifted gone stub.old)) }
+    ensures placed { IsPlaced rows.now gone stub.new }
     ensures live { stub.new.overrun ≡ false }
 {
     let counted = counted_at(stub, rows, gone, to);
@@ -113,38 +130,102 @@ pub(crate) fn go_to(stub: &mut Stub, rows: &VecDeque<Timed>, gone: usize, to: u6
     stub.first = gone + first;
 }
 
-// The rows that a stub keeps itself, and then so many of the store's. All are shared.
+// The kept rows after so many of the store's, from a place on. They are made beside the kept ones,
+// with which they share all but a few nodes for each row that comes.
+fn after(
+    alloc: Global,
+    kept: &Kept,
+    columns: &[usize],
+    count: Count,
+    rows: &Chunks,
+    from: usize,
+    ahead: usize,
+) -> Result<KeptParts, AllocError>
+    requires within { from + ahead ≤ length rows.now }
+    requires fits { from + ahead < 2 ^ 64 }
+    ensures { IfOk result (λ k. k ≡ with_all columns.now count kept.now (take ahead (drop from rows.now))) }
+{
+    let mut own = kept.parts(alloc, columns)?;
+    for row in rows.range(from, from + ahead) {
+        own = own.come(alloc, columns, count, row)?;
+    }
+    Ok(own)
+}
+
+// The kept rows, and then so many of the store's. All are shared.
 fn joined(
     alloc: Global,
     kept: &Kept,
-    rows: &VecDeque<Timed>,
+    rows: &Chunks,
     from: usize,
     ahead: usize,
 ) -> Result<Vec<Timed>, AllocError>
-    requires { from + ahead ≤ length rows.now.items }
-    ensures { IfOk result (λ r. r.items ≡ kept.now ++ take ahead (drop from rows.now.items)) }
+    requires within { from + ahead ≤ length rows.now }
+    requires fits { from + ahead < 2 ^ 64 }
+    ensures { IfOk result (λ r. r.items ≡ kept.now ++ take ahead (drop from rows.now)) }
 {
     let mut all = Vec::new(alloc);
-    for row in kept.rows().iter() {
-        all.push(row.try_clone()?)?;
-    }
-    for row in rows.range(from..from + ahead) {
+    kept.push_rows(&mut all)?;
+    for row in rows.range(from, from + ahead) {
         all.push(row.try_clone()?)?;
     }
     Ok(all)
 }
 
-/// The rows that a stub is to keep itself at a later cursor.
+// The newest of the kept rows and so many of the store's, by a look at all of them.
+fn anew(
+    alloc: Global,
+    kept: &Kept,
+    columns: &[usize],
+    count: Count,
+    rows: &Chunks,
+    from: usize,
+    ahead: usize,
+) -> Result<KeptParts, AllocError>
+    requires within { from + ahead ≤ length rows.now }
+    requires fits { from + ahead < 2 ^ 64 }
+    ensures { IfOk result (λ k. k ≡ last_of_parts columns.now count (kept.now ++ take ahead (drop from rows.now))) }
+{
+    let all = joined(alloc, kept, rows, from, ahead)?;
+    let newest = newest_of_parts(alloc, columns, count, &all)?;
+    KeptParts::of(alloc, columns, newest)
+}
+
+// The kept rows after so many more: one by one, or all anew where that takes less time.
+fn behind(
+    alloc: Global,
+    kept: &Kept,
+    columns: &[usize],
+    count: Count,
+    rows: &Chunks,
+    from: usize,
+    ahead: usize,
+) -> Result<KeptParts, AllocError>
+    requires within { from + ahead ≤ length rows.now }
+    requires fits { from + ahead < 2 ^ 64 }
+    requires newest { last_of_parts columns.now count kept.now ≡ kept.now }
+    requires some { 0 < count }
+    ensures { IfOk result (λ k. k ≡ with_all columns.now count kept.now (take ahead (drop from rows.now))) }
+{
+    if ahead <= kept.len() / SHARE {
+        after(alloc, kept, columns, count, rows, from, ahead)
+    } else {
+        anew(alloc, kept, columns, count, rows, from, ahead)
+    }
+}
+
+/// The rows that a stub is to keep itself at a later cursor. Where it passes none they are those
+/// that it has, and none is looked at.
 pub(crate) fn kept_at(
     alloc: Global,
     stub: &Stub,
-    rows: &VecDeque<Timed>,
+    rows: &Chunks,
     gone: usize,
     to: u64,
 ) -> Result<Kept, AllocError>
-    requires sound { IsSound rows.now.items (shifted gone stub.now) }
-    requires can { CanAdvance to (shown rows.now.items (shifted gone stub.now)) }
-    ensures ok { IfOk result (λ kept. IsReady to kept (shown rows.now.items (shifted gone stub.now))) }
+    requires sound { IsSound rows.now (shifted gone stub.now) }
+    requires can { CanAdvance to (shown rows.now (shifted gone stub.now)) }
+    ensures ok { IfOk result (λ kept. IsReady to kept (shown rows.now (shifted gone stub.now))) }
     ensures err { OnErr result (HasParts stub.now.window) }
 {
     match &stub.window {
@@ -152,11 +233,36 @@ pub(crate) fn kept_at(
             let counted = counted_at(stub, rows, gone, to);
             let seen = stub.seen.saturating_sub(gone);
             let ahead = ahead_of(&stub.window, rows, seen, counted, to);
-            let all = joined(alloc, &stub.kept, rows, seen, ahead)?;
-            let newest = newest_of_parts(alloc, columns.as_slice(), *count, &all)?;
-            Ok(Kept::of(newest))
+            if ahead == 0 {
+                return stub.kept.share();
+            }
+            stub.window.keeps_bounds();
+            let columns = columns.as_slice();
+            let kept = behind(alloc, &stub.kept, columns, *count, rows, seen, ahead)?;
+            Ok(Kept::of(kept))
         }
-        _ => Ok(Kept::new(alloc)),
+        _ => Ok(Kept::new()),
+    }
+}
+
+// What a stub that isn't overrun holds of the content: the rows that it keeps itself, or the
+// store's.
+fn settled_of(
+    alloc: Global,
+    kept: &Kept,
+    rows: &Chunks,
+    first: usize,
+    seen: usize,
+) -> Result<Chunks, AllocError>
+    requires order { first ≤ seen }
+    requires within { seen ≤ length rows.now }
+    requires either { (kept.now ≡ []) ⊎ (first ≡ seen) }
+    ensures { IfOk result (λ r. r ≡ kept.now ++ take (seen - first) (drop first rows.now)) }
+{
+    if kept.len() == 0 {
+        rows.part(alloc, first, seen)
+    } else {
+        kept.rows(alloc)
     }
 }
 
@@ -164,19 +270,19 @@ pub(crate) fn kept_at(
 pub(crate) fn pin_of(
     alloc: Global,
     stub: &Stub,
-    rows: &VecDeque<Timed>,
+    rows: &Chunks,
     gone: usize,
     until: u64,
 ) -> Result<WindowPin, AllocError>
-    requires sound { IsSound rows.now.items (shifted gone stub.now) }
+    requires sound { IsSound rows.now (shifted gone stub.now) }
     requires live { stub.now.overrun ≡ false }
-    ensures { IfOk result (λ p. p ≡ pinned until (shown rows.now.items (shifted gone stub.now))) }
+    ensures { IfOk result (λ p. p ≡ pinned until (shown rows.now (shifted gone stub.now))) }
 {
     let window = stub.window.try_clone(alloc)?;
     let first = stub.first.saturating_sub(gone);
     let seen = stub.seen.saturating_sub(gone);
-    let content = joined(alloc, &stub.kept, rows, first, seen - first)?;
+    let content = settled_of(alloc, &stub.kept, rows, first, seen)?;
     let ahead = rows_before(rows, seen, until);
-    let unseen = joined(alloc, &Kept::new(alloc), rows, seen, ahead)?;
+    let unseen = rows.part(alloc, seen, seen + ahead)?;
     Ok(WindowPin::new(window, content, unseen))
 }

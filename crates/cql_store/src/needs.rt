@@ -4,11 +4,11 @@ ghost use Rattle.std.specs.List.{All, Contains};
 ghost use Rattle.cql_store.specs.Places.{greatest, AreLonger, AreKnown, AreWithin, IsKnown, IsStore, Slots, all_shown, at_some, marked, live_count};
 
 use crate::stub::{Stub, mark};
+use cql_chunks::Chunks;
 use cql_least::Least;
-use cql_value::Timed;
+use cql_seq::Waste;
 use slab::Slab;
 use std::alloc::{AllocError, Global};
-use std::collections::VecDeque;
 use std::marker::Model;
 
 /// By slot, the first row that its stub needs, and how many rows may have come before the stub has
@@ -85,7 +85,7 @@ fn reach_in(numbers: &mut Least, alloc: Global, slot: usize) -> Result<(), Alloc
 }
 
 // Marks the stub of a slot that has one too many.
-fn mark_one(stubs: &mut Slab<Stub>, needs: &mut Needs, slot: usize, count: u64)
+fn mark_one(stubs: &mut Slab<Stub>, needs: &mut Needs, waste: &mut Waste, slot: usize, count: u64)
     requires known { AreKnown stubs.old.slots needs.old.firsts needs.old.limits }
     requires slot { slot < length needs.old.limits }
     requires over { slice_index needs.old.limits slot < count }
@@ -95,38 +95,38 @@ fn mark_one(stubs: &mut Slab<Stub>, needs: &mut Needs, slot: usize, count: u64)
     ensures fewer { live_count stubs.new.slots < live_count stubs.old.slots }
 {
     match stubs.get_mut(slot) {
-        Some(stub) => mark(stub),
+        Some(stub) => mark(stub, waste),
         None => unreachable!(),
     }
     needs.put(slot, u64::MAX, u64::MAX);
 }
 
 /// Marks each stub that has more than it may hold where so many rows have come. It looks at no
-/// other stub.
-pub(crate) fn mark_all(stubs: &mut Slab<Stub>, needs: &mut Needs, count: u64)
+/// other stub. What the stubs kept is let go later.
+pub(crate) fn mark_all(stubs: &mut Slab<Stub>, needs: &mut Needs, waste: &mut Waste, count: u64)
     requires known { AreKnown stubs.old.slots needs.old.firsts needs.old.limits }
     requires within { AreWithin stubs.old.slots }
     ensures stubs { stubs.new.slots ≡ map (at_some (marked count)) stubs.old.slots }
     ensures known { AreKnown stubs.new.slots needs.new.firsts needs.new.limits }
 {
     while let Some(slot) = needs.overdue(count) {
-        mark_one(stubs, needs, slot, count);
+        mark_one(stubs, needs, waste, slot, count);
     }
 }
 
 // Lets go of so many rows at the front.
-fn drop_front(rows: &mut VecDeque<Timed>, behind: usize)
-    requires { behind ≤ length rows.old.items }
-    ensures { rows.new.items ≡ drop behind rows.old.items }
+fn drop_front(rows: &mut Chunks, behind: usize)
+    requires { behind ≤ length rows.old }
+    ensures { rows.new ≡ drop behind rows.old }
 {
-    rows.drain(..behind);
+    rows.drop_front(behind);
 }
 
 /// Lets go of the rows before the first that some stub needs. Tells how many are gone then.
-pub(crate) fn trim(rows: &mut VecDeque<Timed>, gone: usize, needs: &Needs) -> usize
-    requires { gone + length rows.old.items ≤ greatest }
-    ensures store { (slots : Slots) → IsKnown rows.old.items gone slots needs.now.firsts needs.now.limits → IsStore rows.new.items result slots needs.now.firsts needs.now.limits }
-    ensures same { (slots : Slots) → IsKnown rows.old.items gone slots needs.now.firsts needs.now.limits → all_shown rows.new.items result slots ≡ all_shown rows.old.items gone slots }
+pub(crate) fn trim(rows: &mut Chunks, gone: usize, needs: &Needs) -> usize
+    requires { gone + length rows.old ≤ greatest }
+    ensures store { (slots : Slots) → IsKnown rows.old gone slots needs.now.firsts needs.now.limits → IsStore rows.new result slots needs.now.firsts needs.now.limits }
+    ensures same { (slots : Slots) → IsKnown rows.old gone slots needs.now.firsts needs.now.limits → all_shown rows.new result slots ≡ all_shown rows.old gone slots }
 {
     let first = needs.first() as usize;
     let behind = first.saturating_sub(gone).min(rows.len());

@@ -7,21 +7,24 @@ use crate::moves::{go_to, kept_at, pin_of};
 use crate::needs::{Needs, mark_all, trim};
 use crate::ready::Ready;
 use crate::stub::{Kept, Stub, StubId, limit_of};
+use cql_chunks::Chunks;
+use cql_seq::Waste;
 use cql_value::Timed;
 use cql_window::{Window, WindowPin};
 use slab::Slab;
 use std::alloc::{AllocError, Global};
-use std::collections::VecDeque;
 use std::marker::Model;
 
 /// The rows of a stream that some stub on it still needs, and the stubs.
 pub struct Store {
     alloc: Global,
-    rows: VecDeque<Timed>,
+    rows: Chunks,
     // So many rows came before them.
     gone: usize,
     stubs: Slab<Stub>,
     needs: Needs,
+    // What stubs kept that are gone.
+    waste: Waste,
 }
 
 impl Drop for Store {
@@ -32,6 +35,7 @@ impl Drop for Store {
             gone: _,
             stubs: _,
             needs: _,
+            waste: _,
         } = self;
     }
 }
@@ -42,9 +46,9 @@ impl Model for Store {
 
     ghost Value = { Stubs };
 
-    ghost view = { λ s. all_shown s.rows.items s.gone s.stubs.slots };
+    ghost view = { λ s. all_shown s.rows s.gone s.stubs.slots };
 
-    ghost invariant = { λ s. IsStore s.rows.items s.gone s.stubs.slots s.needs.firsts s.needs.limits };
+    ghost invariant = { λ s. IsStore s.rows s.gone s.stubs.slots s.needs.firsts s.needs.limits };
 }
 
 impl Store {
@@ -54,10 +58,11 @@ impl Store {
     {
         Store {
             alloc,
-            rows: VecDeque::new(alloc),
+            rows: Chunks::new(alloc),
             gone: 0,
             stubs: Slab::new(alloc),
             needs: Needs::new(alloc),
+            waste: Waste::new(alloc),
         }
     }
 
@@ -81,7 +86,7 @@ impl Store {
             seen: place,
             counted: place,
             overrun: false,
-            kept: Kept::new(self.alloc),
+            kept: Kept::new(),
         };
         self.needs.put(slot, place as u64, limit_of(&stub));
         self.stubs.insert_reserved(stub);
@@ -100,8 +105,13 @@ impl Store {
         if count == usize::MAX {
             return Err(AllocError);
         }
-        self.rows.push_back(row)?;
-        mark_all(&mut self.stubs, &mut self.needs, count as u64 + 1);
+        self.rows.push(self.alloc, row)?;
+        mark_all(
+            &mut self.stubs,
+            &mut self.needs,
+            &mut self.waste,
+            count as u64 + 1,
+        );
         self.gone = trim(&mut self.rows, self.gone, &self.needs);
         Ok(())
     }
@@ -162,6 +172,14 @@ impl Store {
         self.gone = trim(&mut self.rows, self.gone, &self.needs);
     }
 
+    /// Lets go of a few of the rows that no stub needs any more, and that no call let go of yet.
+    pub fn settle(&mut self)
+        ensures { self.new ≡ self.old }
+    {
+        self.rows.settle();
+        self.waste.settle();
+    }
+
     /// How many rows the store holds: as many as the stub that needs the most.
     pub fn rows_held(&self) -> u64
         ensures { IsRowsHeld self.now result }
@@ -184,24 +202,26 @@ impl Store {
         requires { IsSome (stub_of self.old id) }
         ensures { Updates self.old self.new id None }
     {
-        self.stubs.try_remove(id.slot);
+        let_go(self.stubs.try_remove(id.slot), &mut self.waste);
         self.needs.put(id.slot, u64::MAX, u64::MAX);
         self.gone = trim(&mut self.rows, self.gone, &self.needs);
     }
 }
 
-// One stub goes to a later cursor.
-fn move_one(
-    stubs: &mut Slab<Stub>,
-    needs: &mut Needs,
-    rows: &VecDeque<Timed>,
-    gone: usize,
-    ready: Ready,
-)
-    requires known { IsKnown rows.now.items gone stubs.old.slots needs.old.firsts needs.old.limits }
-    requires can { IsSomeAnd (slot_of stubs.old.slots ready.id) (λ s. IsReady ready.to ready.kept (shown rows.now.items (shifted gone s))) }
-    ensures known { IsKnown rows.now.items gone stubs.new.slots needs.new.firsts needs.new.limits }
-    ensures moved { IfSome (slot_of stubs.old.slots ready.id) (λ s. Updates (all_shown rows.now.items gone stubs.old.slots) (all_shown rows.now.items gone stubs.new.slots) ready.id (Some (advanced ready.to (shown rows.now.items (shifted gone s))))) }
+// Lets go of a stub that was taken away, and of the rows that it kept a few at a time.
+fn let_go(stub: Option<Stub>, waste: &mut Waste) {
+    if let Some(mut stub) = stub {
+        stub.kept.clear(waste);
+    }
+}
+
+// One stub goes to a later cursor. Of the rows that it kept it lets go of those alone that are not
+// among those that it is to keep.
+fn move_one(stubs: &mut Slab<Stub>, needs: &mut Needs, rows: &Chunks, gone: usize, ready: Ready)
+    requires known { IsKnown rows.now gone stubs.old.slots needs.old.firsts needs.old.limits }
+    requires can { IsSomeAnd (slot_of stubs.old.slots ready.id) (λ s. IsReady ready.to ready.kept (shown rows.now (shifted gone s))) }
+    ensures known { IsKnown rows.now gone stubs.new.slots needs.new.firsts needs.new.limits }
+    ensures moved { IfSome (slot_of stubs.old.slots ready.id) (λ s. Updates (all_shown rows.now gone stubs.old.slots) (all_shown rows.now gone stubs.new.slots) ready.id (Some (advanced ready.to (shown rows.now (shifted gone s))))) }
 {
     let Ready { id, to, kept } = ready;
     match stubs.get_mut(id.slot) {

@@ -1,11 +1,15 @@
 // A window on the store's rows.
-ghost use Rattle.std.specs.Prelude.{◌≡◌, [], length};
+ghost use Rattle.std.specs.Prelude.{◌≡◌, ◌++◌, [], length, IfOk, OnOk};
 ghost use Rattle.cql_store.specs.Places.{emptied, limit};
 
+use cql_chunks::Chunks;
+use cql_kept::Kept as KeptParts;
+use cql_seq::Waste;
 use cql_value::Timed;
 use cql_window::Window;
-use std::alloc::Global;
+use std::alloc::{AllocError, Global};
 use std::marker::Model;
+use std::sync::Arc;
 
 /// The number of a stub, which its store gave to it. It is given again once the stub is detached.
 #[derive(Clone, Copy)]
@@ -23,57 +27,99 @@ impl Model for StubId {
     ghost inverse = { λ n. record { slot = n } };
 }
 
-/// The rows that a stub keeps itself: the content of a window of parts.
+/// The rows that a stub keeps itself: the content of a window of parts. What is made ready shares
+/// them where they stay as they are. There is nothing before the window passes a row.
 #[derive(Drop)]
 pub(crate) struct Kept {
-    rows: Vec<Timed>,
+    rows: Option<KeptParts>,
 }
 
 impl Model for Kept {
     ghost use Rattle.std.specs.Prelude.{List};
     ghost use Rattle.cql_value.specs.Element.{Element};
+    ghost use Rattle.cql_store.specs.Held.{rows_if_any};
 
     ghost Value = { List Element };
 
-    ghost view = { λ k. k.rows.items };
+    ghost view = { λ k. rows_if_any k.rows (λ r. r) };
 }
 
 impl Kept {
     /// No rows.
-    pub(crate) fn new(alloc: Global) -> Kept
+    pub(crate) fn new() -> Kept
         ensures { result ≡ [] }
     {
-        Kept {
-            rows: Vec::new(alloc),
-        }
+        Kept { rows: None }
     }
 
     /// These rows.
-    pub(crate) fn of(rows: Vec<Timed>) -> Kept
-        ensures { result ≡ rows.items }
+    pub(crate) fn of(rows: KeptParts) -> Kept
+        ensures { result ≡ rows }
     {
-        Kept { rows }
+        Kept { rows: Some(rows) }
     }
 
-    /// The rows.
-    pub(crate) fn rows(&self) -> &[Timed]
-        ensures { result.now ≡ self.now }
+    /// The same, with places for a window that parts by these columns.
+    pub(crate) fn parts(&self, alloc: Global, columns: &[usize]) -> Result<KeptParts, AllocError>
+        ensures { IfOk result (λ k. k ≡ self.now) }
     {
-        self.rows.as_slice()
+        match &self.rows {
+            None => KeptParts::new(alloc, columns),
+            Some(rows) => rows.share(),
+        }
+    }
+
+    /// The same rows with one more holder: no row is looked at, and no memory is taken. It fails
+    /// where no more holders can be counted.
+    pub(crate) fn share(&self) -> Result<Kept, AllocError>
+        ensures { IfOk result (λ k. k ≡ self.now) }
+    {
+        match &self.rows {
+            None => Ok(Kept { rows: None }),
+            Some(rows) => {
+                let rows = rows.share()?;
+                Ok(Kept { rows: Some(rows) })
+            }
+        }
+    }
+
+    /// The rows as a list that shares them: none is looked at.
+    pub(crate) fn rows(&self, alloc: Global) -> Result<Chunks, AllocError>
+        ensures { IfOk result (λ r. r ≡ self.now) }
+    {
+        match &self.rows {
+            None => Ok(Chunks::new(alloc)),
+            Some(rows) => Chunks::of_tree(Arc::try_clone(rows.tree())?),
+        }
+    }
+
+    /// The rows come behind others. They are shared.
+    pub(crate) fn push_rows(&self, all: &mut Vec<Timed>) -> Result<(), AllocError>
+        ensures { OnOk result (all.new.items ≡ all.old.items ++ self.now) }
+    {
+        match &self.rows {
+            None => Ok(()),
+            Some(rows) => rows.tree().push_rows(all),
+        }
     }
 
     /// How many rows there are.
     pub(crate) fn len(&self) -> usize
         ensures { result ≡ length self.now }
     {
-        self.rows.len()
+        match &self.rows {
+            None => 0,
+            Some(rows) => rows.len(),
+        }
     }
 
-    /// Lets the rows go.
-    pub(crate) fn clear(&mut self)
+    /// Lets the rows go, a few of them at a time.
+    pub(crate) fn clear(&mut self, waste: &mut Waste)
         ensures { self.new ≡ [] }
     {
-        self.rows.clear();
+        if let Some(rows) = self.rows.take() {
+            rows.let_go(waste);
+        }
     }
 }
 
@@ -109,11 +155,11 @@ impl Drop for Stub {
 }
 
 /// Lets the rows go: there are more than the stub may hold.
-pub(crate) fn mark(stub: &mut Stub)
+pub(crate) fn mark(stub: &mut Stub, waste: &mut Waste)
     ensures { stub.new ≡ emptied stub.old }
 {
     stub.overrun = true;
-    stub.kept.clear();
+    stub.kept.clear(waste);
 }
 
 /// So many rows may have come before the stub has one too many.

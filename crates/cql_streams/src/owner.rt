@@ -100,4 +100,18 @@ impl OwnerStreams {
     {
         self.stores[stream].detach(id);
     }
+
+    /// The store of a stream lets go of a few of the rows that nothing needs any more. Whether there
+    /// is such a stream.
+    pub(crate) fn settle(&mut self, stream: usize) -> bool
+        ensures { self.new ≡ self.old }
+    {
+        match self.stores.get_mut(stream) {
+            Some(store) => {
+                store.settle();
+                true
+            }
+            None => false,
+        }
+    }
 }

@@ -16,6 +16,34 @@ use std::marker::Model;
 #[derive(Drop)]
 pub struct Stores {
     owners: Vec<OwnerStreams>,
+    turn: Turn,
+}
+
+// The stream that settles next.
+#[derive(Clone, Copy)]
+struct Turn {
+    owner: usize,
+    stream: usize,
+}
+
+impl Turn {
+    // The next stream of the same owner, or else the first one of the next owner, or of the first.
+    fn next(self, is_stream: bool, is_owner: bool) -> Turn {
+        match (is_stream, is_owner) {
+            (true, _) => Turn {
+                owner: self.owner,
+                stream: self.stream.wrapping_add(1),
+            },
+            (false, true) => Turn {
+                owner: self.owner.wrapping_add(1),
+                stream: 0,
+            },
+            (false, false) => Turn {
+                owner: 0,
+                stream: 0,
+            },
+        }
+    }
 }
 
 impl Model for Stores {
@@ -33,6 +61,10 @@ impl Stores {
     {
         Stores {
             owners: Vec::new(alloc),
+            turn: Turn {
+                owner: 0,
+                stream: 0,
+            },
         }
     }
 
@@ -161,5 +193,18 @@ impl Stores {
         ensures { IsRowsHeld (store_at self.now owner stream) result }
     {
         self.owners[owner.place()].store(stream).rows_held()
+    }
+
+    /// The store of one stream lets go of a few of the rows that nothing needs any more; the next call
+    /// settles the next stream's.
+    pub fn settle(&mut self)
+        ensures { self.new ≡ self.old }
+    {
+        let turn = self.turn;
+        let (is_stream, is_owner) = match self.owners.get_mut(turn.owner) {
+            Some(streams) => (streams.settle(turn.stream), true),
+            None => (false, false),
+        };
+        self.turn = turn.next(is_stream, is_owner);
     }
 }

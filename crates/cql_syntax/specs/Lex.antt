@@ -85,7 +85,7 @@ text_of (Some p) = Some (t.Text p.0, p.1 + 1)
 -- ---- signs
 
 -- the longest sign that fits
-abbrev pub sign : ℕ → ℕ → Option (Fixed × ℕ)
+unfoldable pub sign : ℕ → ℕ → Option (Fixed × ℕ)
 sign b next =
     if b == 40 then Some (k.Open, 1) else if b == 41 then Some (k.Close, 1)
     else if b == 91 then Some (k.OpenSquare, 1) else if b == 93 then Some (k.CloseSquare, 1)

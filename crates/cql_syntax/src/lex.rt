@@ -143,6 +143,7 @@ fn number(z: &[u8]) -> (Token, usize)
     (Token::Number(value(&z[..len])), len)
 }
 
+#[tactic(auto, unfolding(crate::specs::Lex::sign))]
 fn sign(b: u8, next: u8) -> Option<(Fixed, usize)>
     ensures value { result ≡ spec.sign b next }
     ensures within { IfSome result (λ found. (1 ≤ found.1) × (found.1 ≤ 2) × (next ≡ 0 → found.1 ≡ 1)) }

@@ -15,7 +15,7 @@ use Rattle.cql_places.specs.Places.{at_places}
 use Rattle.cql_places.specs.Chosen.{is_shown}
 use Rattle.cql_tenants.specs.Home.{Home, Stream, Grant, nothing_made, is_place, home_at, tenant_named, stream_at, is_of, grant_of, without_grant}
 use Rattle.cql_tenants.specs.Checks.{grantee_refused, grant_refused}
-use Rattle.cql_tenants.specs.Directory.{StreamCommand, Make, Share, Revoke, Put, Beat, opens, with_stream, with_time, with_grant, grant_over, grant_to, new_grant, revoke_from, refused, done, directory_after}
+use Rattle.cql_tenants.specs.Directory.{StreamCommand, Make, Share, Revoke, Put, Beat, opens, with_stream, with_time, with_grant, place_at, grant_over, grant_to, new_grant, revoke_from, refused, done, directory_after}
 use Rattle.cql_tenants.specs.Law.{IsGrantOf, AreOfStreams, IsGrantLaw, directory_from}
 use Rattle.cql_places.proofs.Choices.{shown_within}
 use Rattle.cql_tenants.proofs.Kept.{Has, still, grow_at, streams_stay, timed, made}
@@ -43,15 +43,15 @@ find_one p x g h = by (p x) refl
     by false is = absurd (grind (arith, is, h))
 
 -- a grant of what may be shown
-pub granted_new : (homes : List Home) (user : ℕ) (stream : List ℕ) (schema : List Column) (columns : Option (List (List ℕ))) → option_map (λ s. s.schema) (stream_at homes user stream) ≡ Some schema
-    → is_shown schema columns ≡ true → Shown homes user stream (grant_over user stream schema columns)
-granted_new homes user stream schema columns there shown = by (stream_at homes user stream) refl there
+pub granted_new : (homes : List Home) (user place : ℕ) (stream : List ℕ) (schema : List Column) (columns : Option (List (List ℕ))) → option_map (λ s. s.schema) (stream_at homes user stream) ≡ Some schema
+    → is_shown schema columns ≡ true → Shown homes user stream (grant_over user place stream schema columns)
+granted_new homes user place stream schema columns there shown = by (stream_at homes user stream) refl there
   where
-    by : (o : Option Stream) → stream_at homes user stream ≡ o → option_map (λ s. s.schema) o ≡ Some schema → Shown homes user stream (grant_over user stream schema columns)
+    by : (o : Option Stream) → stream_at homes user stream ≡ o → option_map (λ s. s.schema) o ≡ Some schema → Shown homes user stream (grant_over user place stream schema columns)
     by None is h = absurd cc
     by (Some s) is h =
         let same : s.schema ≡ schema = cc in
-        (s, is, of_same (grant_over user stream schema columns) (record { schema = schema; clock = 0 }) s same (record { within = shown_within schema columns shown; schema = refl }))
+        (s, is, of_same (grant_over user place stream schema columns) (record { schema = schema; clock = 0 }) s same (record { within = shown_within schema columns shown; schema = refl }))
 
 -- an accepted grant is of a stream of the tenant's own
 granted_own : (homes : List Home) (user : ℕ) (stream to : List ℕ) (columns : Option (List (List ℕ))) → refused homes user (Share stream to columns) ≡ None → Shown homes user stream (new_grant homes user stream columns)
@@ -70,8 +70,8 @@ granted_own homes user stream to columns h = by (is_place homes user) (stream_at
     by false o is h = absurd cc
     by true None is h = absurd cc
     by true (Some s) is h =
-        subst (λ (o : Option Stream). Shown homes user stream (grant_over user stream (unwrap_or (option_map (λ s. s.schema) o) []) columns)) (sym is)
-        (granted_new homes user stream s.schema columns (ap (option_map (λ s. s.schema)) is) (shown s (tenant_named homes user to) h))
+        subst (λ (o : Option Stream). Shown homes user stream (grant_over user (place_at homes user stream) stream (unwrap_or (option_map (λ s. s.schema) o) []) columns)) (sym is)
+        (granted_new homes user (place_at homes user stream) stream s.schema columns (ap (option_map (λ s. s.schema)) is) (shown s (tenant_named homes user to) h))
 
 -- WITHOUT A GRANT
 -- no grant of the stream is left

@@ -4,7 +4,7 @@ use Rattle.cql_value.specs.declared.value.Value.{Value}
 use Rattle.cql_value.specs.declared.schema.Column.{Column}
 use Rattle.cql_tenants.specs.declared.refusal.StreamRefusal.{StreamRefusal}
 use Rattle.cql_tenants.specs.declared.refusal.StreamRefusal.TheVariants.{UnknownTenant}
-use Rattle.cql_tenants.specs.Named.{change_named}
+use Rattle.cql_tenants.specs.Named.{change_named, place_of}
 use Rattle.cql_places.specs.Places.{at_places}
 use Rattle.cql_places.specs.Chosen.{shown_places}
 use Rattle.cql_tenants.specs.Home.{Home, Stream, Grant, is_place, home_at, change_home, tenant_named, stream_at, without_grant}
@@ -48,10 +48,15 @@ with_grant grant home = record home { granted = home.granted ++ grant ∷ [] }
 abbrev pub schema_at : List Home → ℕ → List ℕ → List Column
 schema_at homes owner name = unwrap_or (option_map (λ s. s.schema) (stream_at homes owner name)) []
 
+-- the place of a stream among its owner's
+abbrev pub place_at : List Home → ℕ → List ℕ → ℕ
+place_at homes owner name = unwrap_or (place_of (home_at homes owner).streams name) 0
+
 -- a grant shows all columns of the stream, or those that it names
-abbrev pub grant_over : ℕ → List ℕ → List Column → Option (List (List ℕ)) → Grant
-grant_over user stream schema columns = record {
+abbrev pub grant_over : ℕ → ℕ → List ℕ → List Column → Option (List (List ℕ)) → Grant
+grant_over user place stream schema columns = record {
   owner = user;
+  place = place;
   stream = stream;
   schema = at_places schema (shown_places schema columns);
   places = shown_places schema columns;
@@ -59,7 +64,7 @@ grant_over user stream schema columns = record {
 }
 
 abbrev pub new_grant : List Home → ℕ → List ℕ → Option (List (List ℕ)) → Grant
-new_grant homes user stream columns = grant_over user stream (schema_at homes user stream) columns
+new_grant homes user stream columns = grant_over user (place_at homes user stream) stream (schema_at homes user stream) columns
 
 abbrev pub grant_to : List Home → Grant → Option ℕ → List Home
 grant_to homes grant None = homes

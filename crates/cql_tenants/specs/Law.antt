@@ -29,11 +29,23 @@ pub record IsGrantOf (g : Grant) (s : Stream) : Type 0 where
   pub within : AllByRecursion (λ place. place < length s.schema) g.places
   pub schema : g.schema ≡ at_places s.schema g.places
 
+-- the grant's stream stands at its place among its owner's
+abbrev pub IsPlaced : List Home → Grant → Type 0
+IsPlaced homes g = place_of (home_at homes g.owner).streams g.stream ≡ Some g.place
+
+abbrev pub ArePlaced : List Home → Type 0
+ArePlaced homes = (place : ℕ) → AllByRecursion (IsPlaced homes) (home_at homes place).granted
+
 -- each grant that a tenant has is of a stream that is there, and shows its columns at the grant's places
 abbrev pub AreOfStreams : List Home → Type 0
 AreOfStreams homes =
     (place owner : ℕ) (name : List ℕ) (g : Grant) → grant_of (home_at homes place) owner name ≡ Some g
     → (s : Stream) × (stream_at homes owner name ≡ Some s) × IsGrantOf g s
+
+-- what holds of the homes of a directory
+pub record AreHomes (homes : List Home) : Type 0 where
+  pub grants : AreOfStreams homes
+  pub places : ArePlaced homes
 
 abbrev pub IsGrantLaw : Type 0
 IsGrantLaw = (table : List Tenant) (calls : List (ℕ × StreamCommand)) → AreOfStreams (directory_from (nothing_made table) calls)

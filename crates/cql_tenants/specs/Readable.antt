@@ -6,8 +6,8 @@ use Rattle.cql_tenants.specs.declared.refusal.StreamRefusal.TheVariants.{Unknown
 use Rattle.cql_tenants.specs.declared.readable.Readable.{Readable}
 use Rattle.cql_tenants.specs.declared.readable.Found.{Found}
 use Rattle.cql_tenants.specs.declared.readable.OwnStream.{OwnStream}
-use Rattle.cql_tenants.specs.declared.readable.ReadStream.{ReadStream}
 use Rattle.cql_tenants.specs.Named.{Named}
+pub use Rattle.cql_tenants.specs.Granted.{ReadStream, named_columns}
 use Rattle.cql_places.specs.Places.{all_places}
 use Rattle.cql_tenants.specs.Home.{Home, Stream, Grant, is_place, home_at, tenant_named, stream_at, opened_at, grant_of}
 
@@ -29,10 +29,6 @@ readable_to homes user = if is_place homes user then Ok (all_readable homes (hom
 -- what a list shows of a stream of the tenant's own, and of one that was granted to it
 abbrev pub own_stream : Named Stream → OwnStream
 own_stream s = record { name = s.name; opened = s.item.clock }
-
--- the names of the columns, where the grant names them
-abbrev pub named_columns : Bool → List Column → Option (List (List ℕ))
-named_columns named columns = if named then Some (map (λ c. c.name) columns) else None
 
 abbrev pub read_stream : List Home → Grant → ReadStream
 read_stream homes g = record { owner = (home_at homes g.owner).name; stream = g.stream; columns = named_columns g.named g.schema; opened = opened_at homes g.owner g.stream }

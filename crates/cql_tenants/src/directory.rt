@@ -10,8 +10,9 @@ ghost use Rattle.cql_tenants.specs.Checks.{grantee_refused, taken_refused};
 ghost use Rattle.cql_tenants.specs.Directory.{Make, Share, Revoke, Put, Beat, with_time, refused, directory_after};
 ghost use Rattle.cql_tenants.specs.Readable.{readable_to, own_stream, read_stream, owner_meant, seen_of, own_found, granted_found, found, granted_places, places_seen};
 
-use crate::home::{Grant, Home};
-use crate::homes::{home_at, tenant_named};
+use crate::grant::Grant;
+use crate::home::Home;
+use crate::homes::{home_at, opened_at, tenant_named};
 use crate::readable::{
     Found, OwnStream, ReadStream, Readable, granted_listed, granted_shown, own_listed, own_shown,
 };
@@ -21,6 +22,15 @@ use cql_places::{all_places, is_shown};
 use cql_value::{Items, Row, Schema, Text};
 use std::alloc::{AllocError, Global};
 use std::marker::Model;
+
+// What may be granted, and to whom: the stream's place among the tenant's own, its columns, and the
+// place of the tenant that gets it.
+#[derive(Clone, Copy)]
+struct Granting<'a> {
+    stream: usize,
+    schema: &'a Schema,
+    to: usize,
+}
 
 /// What streams and grants there are, by the places of the tenants. Contracts see the list of the
 /// homes.
@@ -32,13 +42,13 @@ pub struct Directory {
 impl Model for Directory {
     ghost use Rattle.std.specs.Prelude.{List};
     ghost use Rattle.cql_tenants.specs.Home.{Home};
-    ghost use Rattle.cql_tenants.specs.Law.{AreOfStreams};
+    ghost use Rattle.cql_tenants.specs.Law.{AreHomes};
 
     ghost Value = { List Home };
 
     ghost view = { λ d. d.homes.items };
 
-    ghost invariant = { λ d. AreOfStreams d.homes.items };
+    ghost invariant = { λ d. AreHomes d.homes.items };
 }
 
 impl Directory {
@@ -158,6 +168,21 @@ impl Directory {
         }
     }
 
+    /// The least time, in ticks, that the stream under a name still takes, of the owner that stands
+    /// before the dot, or with no dot of the tenant's own, where the tenant reads it. It looks at no
+    /// grant. Takes no memory.
+    pub fn opened_under(&self, tenant: TenantId, owner: Option<&str>, stream: &str) -> u64
+        ensures { IfSome (found self.now tenant (option_copied owner.entry) stream.now) (λ s. result ≡ s.opened) }
+    {
+        if !self.has(tenant) {
+            return 0;
+        }
+        let Some(owner) = self.owner_meant(tenant, owner) else {
+            return 0;
+        };
+        opened_at(&self.homes, owner, stream)
+    }
+
     /// A heartbeat, of a time in ticks, of a stream of the tenant's own: 31, 30, 42, 41, in this
     /// order. Takes no memory.
     pub fn beat(&mut self, tenant: TenantId, stream: &str, at: u64) -> Result<(), StreamRefusal>
@@ -201,28 +226,33 @@ impl Directory {
         Ok(place)
     }
 
-    // What a grant is of: the stream's columns, and the place of the tenant that gets it.
+    // What a grant is of.
     fn granting(
         &self,
         tenant: TenantId,
         stream: &str,
         columns: Option<&Items<Text>>,
         to: &str,
-    ) -> Result<(&Schema, usize), StreamRefusal>
+    ) -> Result<Granting<'_>, StreamRefusal>
         ensures refused { result_err result ≡ refused self.now tenant (Share stream.now to.now (option_copied columns.entry)) }
-        ensures shown { IfOk result (λ p. is_shown p.0.now (option_copied columns.entry) ≡ true) }
-        ensures schema { IfOk result (λ p. option_map (λ s. s.schema) (stream_at self.now tenant stream.now) ≡ Some p.0.now) }
-        ensures place { IfOk result (λ p. tenant_named self.now tenant to.now ≡ Some p.1) }
-        ensures within { IfOk result (λ p. p.1 < length self.now) }
+        ensures shown { IfOk result (λ p. is_shown p.schema.now (option_copied columns.entry) ≡ true) }
+        ensures schema { IfOk result (λ p. option_map (λ s. s.schema) (stream_at self.now tenant stream.now) ≡ Some p.schema.now) }
+        ensures own { IfOk result (λ p. place_of (home_at self.now tenant).streams stream.now ≡ Some p.stream) }
+        ensures place { IfOk result (λ p. tenant_named self.now tenant to.now ≡ Some p.to) }
+        ensures within { IfOk result (λ p. p.to < length self.now) }
     {
         if !self.has(tenant) {
             return Err(StreamRefusal::UnknownTenant);
         }
-        let Some(own) = home_at(&self.homes, tenant.place()).streams.get(stream) else {
+        let Some((own, made)) = home_at(&self.homes, tenant.place()).streams.find(stream) else {
             return Err(StreamRefusal::UnknownStream);
         };
-        let place = self.grantee(tenant, stream, &own.schema, columns, to)?;
-        Ok((&own.schema, place))
+        let to = self.grantee(tenant, stream, &made.schema, columns, to)?;
+        Ok(Granting {
+            stream: own,
+            schema: &made.schema,
+            to,
+        })
     }
 
     /// Grants a stream of the tenant's own to the tenant of a name, with the columns of these names,
@@ -240,11 +270,19 @@ impl Directory {
         ensures err { OnErr result (self.new ≡ self.old) }
         ensures memory { OnErr result (refused self.old tenant (Share stream.now to.now (option_copied columns.entry)) ≡ None) }
     {
-        let (schema, place) = match self.granting(tenant, stream, columns, to) {
+        let granting = match self.granting(tenant, stream, columns, to) {
             Ok(granting) => granting,
             Err(refusal) => return Ok(Err(refusal)),
         };
-        let grant = Grant::new(alloc, tenant, stream, schema, columns)?;
+        let place = granting.to;
+        let grant = Grant::new(
+            alloc,
+            tenant,
+            granting.stream,
+            stream,
+            granting.schema,
+            columns,
+        )?;
         self.homes[place].granted.push(grant)?;
         Ok(Ok(()))
     }
@@ -391,14 +429,15 @@ impl Directory {
     {
         let home = home_at(&self.homes, tenant.place());
         let grant = home.grant_of(owner, stream)?;
-        let place = self.place(grant.owner, stream)?;
+        let owner = grant.owner();
+        let place = self.place(owner, stream)?;
         Some(Found {
-            owner: grant.owner,
+            owner,
             place,
-            schema: &grant.schema,
-            places: grant.places.as_slice(),
-            named: grant.named,
-            opened: self.opened(grant.owner, place),
+            schema: grant.schema(),
+            places: grant.places(),
+            named: grant.is_named(),
+            opened: self.opened(owner, place),
         })
     }
 

@@ -2,79 +2,21 @@
 ghost use Rattle.std.specs.Prelude.{◌≡◌, ◌≤◌, ◌^◌, not, true, IfOk, IfSome, OnOk, OnErr, option_copied, slice_get, Some, None};
 ghost use Rattle.std.specs.Result.{result_err};
 ghost use Rattle.std.specs.List.{filter};
-ghost use Rattle.cql_places.specs.Chosen.{is_shown};
 ghost use Rattle.cql_tenants.specs.Home.{empty_home, is_of, grant_of, without_grant};
 ghost use Rattle.cql_tenants.specs.Checks.{make_refused, room_refused};
-ghost use Rattle.cql_tenants.specs.Directory.{with_stream, grant_over};
+ghost use Rattle.cql_tenants.specs.Directory.{with_stream};
 
+use crate::grant::Grant;
 use crate::refusal::StreamRefusal;
+use crate::shared::Shared;
 use crate::shelf::Shelf;
 use crate::stream::Stream;
-use crate::tenants::{Quotas, Tenant, TenantId};
+use crate::tenants::{Quotas, Tenant};
 use cql_order::Clock;
-use cql_places::{schema_at, shown_places};
 use cql_value::name::is_name;
-use cql_value::{Items, Name, Schema, Text};
+use cql_value::{Items, Name, Schema};
 use std::alloc::{AllocError, Global};
-
-/// A stream that another tenant granted: its owner, its name, and the columns that the reader sees.
-pub struct Grant {
-    pub owner: TenantId,
-    pub stream: Text,
-    pub schema: Schema,
-    /// Where these columns stand among the stream's own.
-    pub places: Items<usize>,
-    /// Whether the grant names them.
-    pub named: bool,
-}
-
-impl Drop for Grant {
-    fn drop(self) {
-        let Grant {
-            owner: _,
-            stream: _,
-            schema: _,
-            places: _,
-            named: _,
-        } = self;
-    }
-}
-
-impl Grant {
-    /// A grant of a stream of this schema, which shows the columns of these names, or all where
-    /// none are named.
-    pub fn new(
-        alloc: Global,
-        owner: TenantId,
-        stream: &str,
-        schema: &Schema,
-        columns: Option<&Items<Text>>,
-    ) -> Result<Grant, AllocError>
-        requires { is_shown schema.now (option_copied columns) ≡ true }
-        ensures { IfOk result (λ g. g ≡ grant_over owner stream.now schema.now (option_copied columns.entry)) }
-    {
-        // asking for the columns tells the proof that they are those of a schema
-        let _all = schema.columns();
-        let places = shown_places(alloc, schema, columns)?;
-        let shown = schema_at(alloc, schema, places.as_slice())?;
-        let stream = Text::new(alloc, stream)?;
-        Ok(Grant {
-            owner,
-            stream,
-            schema: shown,
-            places,
-            named: columns.is_some(),
-        })
-    }
-
-    // Whether it is a grant of that stream.
-    #[tactic(auto, unfolding(crate::specs::Named::same_name))]
-    fn is_of(&self, owner: usize, stream: &str) -> bool
-        ensures { result ≡ is_of owner stream.now self.now }
-    {
-        owner == self.owner.place() && stream == self.stream.as_str()
-    }
-}
+use std::sync::Arc;
 
 // Takes the grants of that stream away.
 fn take_grants(granted: &mut Items<Grant>, owner: usize, stream: &str)
@@ -90,10 +32,10 @@ fn take_grants(granted: &mut Items<Grant>, owner: usize, stream: &str)
     }
 }
 
-/// A tenant's name and quotas, its streams in order of making, and the streams that were granted to
-/// it, in order of the grants.
+/// A tenant's name, which lists share, and quotas, its streams in order of making, and the streams
+/// that were granted to it, in order of the grants.
 pub struct Home {
-    pub name: Name,
+    pub name: Shared<Name>,
     pub quotas: Quotas,
     pub streams: Shelf<Stream>,
     pub granted: Items<Grant>,
@@ -115,9 +57,9 @@ impl Home {
     pub fn new(alloc: Global, tenant: &Tenant) -> Result<Home, AllocError>
         ensures { IfOk result (λ home. home ≡ empty_home tenant.now.name tenant.now.quotas) }
     {
-        let name = tenant.name.try_clone()?;
+        let name = Arc::new(alloc, tenant.name.try_clone()?)?;
         Ok(Home {
-            name,
+            name: Shared::new(name),
             quotas: tenant.quotas,
             streams: Shelf::new(alloc),
             granted: Items::new(alloc),

@@ -1,16 +1,25 @@
 // Streams as their readers see them.
-ghost use Rattle.std.specs.Prelude.{◌≡◌, IfOk, map};
+ghost use Rattle.std.specs.Prelude.{◌≡◌, ◌<◌, ◌++◌, IfOk, OnOk, length, map, option_map};
+ghost use Rattle.std.specs.List.{AllByRecursion};
 ghost use Rattle.cql_value.specs.declared.schema.Column.{Column as column};
-ghost use Rattle.cql_tenants.specs.Readable.{own_readable, granted_readable, own_stream, named_columns, read_stream};
+ghost use Rattle.cql_tenants.specs.Home.{opened_at};
+ghost use Rattle.cql_tenants.specs.Law.{IsPlaced};
+ghost use Rattle.cql_tenants.specs.Readable.{own_readable, granted_readable, own_stream, read_stream};
 
-use crate::home::{Grant, Home};
-use crate::homes::{opened_at, owner_name};
+use crate::grant::{Grant, Shown};
+use crate::home::Home;
+use crate::homes::{home_at, opened_at, owner_name};
+use crate::shared::Shared;
 use crate::shelf::Shelf;
 use crate::stream::Stream;
 use crate::tenants::TenantId;
 use cql_places::all_places;
 use cql_value::{Column, Items, Name, Schema, Text};
 use std::alloc::{AllocError, Global};
+use std::marker::Model;
+
+/// How many grants are listed at once.
+const BLOCK: usize = 64;
 
 /// A stream that a tenant reads: under its name alone where it is the tenant's own, else under its
 /// owner's and its name.
@@ -66,24 +75,64 @@ impl Drop for OwnStream {
     }
 }
 
-/// A stream that another tenant granted, as a list shows it.
+/// A stream that another tenant granted, as a list shows it. It shares its texts with the grant, so
+/// that none is copied where a list is made.
 pub struct ReadStream {
-    pub owner: Text,
-    pub stream: Text,
-    /// The names of the columns, where the grant names them.
-    pub columns: Option<Items<Name>>,
-    /// The least time, in ticks, that the stream still takes.
-    pub opened: u64,
+    owner: Shared<Name>,
+    shown: Shared<Shown>,
+    opened: u64,
 }
 
 impl Drop for ReadStream {
     fn drop(self) {
         let ReadStream {
             owner: _,
-            stream: _,
-            columns: _,
+            shown: _,
             opened: _,
         } = self;
+    }
+}
+
+impl Model for ReadStream {
+    ghost use Rattle.cql_tenants.specs.Granted.{ReadStream as read, named_columns};
+
+    ghost Value = { read };
+
+    ghost view = { λ s. record { owner = s.owner; stream = s.shown.stream; columns = named_columns s.shown.named s.shown.schema; opened = s.opened } };
+}
+
+impl ReadStream {
+    /// The name of the stream's owner.
+    pub fn owner(&self) -> &str
+        ensures { result.now ≡ self.now.owner }
+    {
+        self.owner.get().as_str()
+    }
+
+    /// The stream's name.
+    pub fn stream(&self) -> &str
+        ensures { result.now ≡ self.now.stream }
+    {
+        self.shown.get().stream.as_str()
+    }
+
+    /// The columns, where the grant names them.
+    pub fn columns(&self) -> Option<&[Column]>
+        ensures { option_map (λ cs. map (λ (c : column). c.name) cs.now) result ≡ self.now.columns }
+    {
+        let shown = self.shown.get();
+        if shown.named {
+            Some(shown.schema.columns())
+        } else {
+            None
+        }
+    }
+
+    /// The least time, in ticks, that the stream still takes.
+    pub fn opened(&self) -> u64
+        ensures { result ≡ self.now.opened }
+    {
+        self.opened
     }
 }
 
@@ -107,17 +156,17 @@ fn own_readable(alloc: Global, name: &str, stream: &Stream) -> Result<Readable, 
 fn granted_readable(alloc: Global, homes: &[Home], grant: &Grant) -> Result<Readable, AllocError>
     ensures { IfOk result (λ r. r ≡ granted_readable homes.now grant.now) }
 {
-    let owner = grant.owner.place();
+    let owner = grant.owner().place();
     let owner_text = Text::new(alloc, owner_name(homes, owner))?;
-    let name = grant.stream.try_clone(alloc)?;
-    let schema = grant.schema.try_clone(alloc)?;
-    let places = Items::from_slice(alloc, grant.places.as_slice())?;
+    let name = Text::new(alloc, grant.stream())?;
+    let schema = grant.schema().try_clone(alloc)?;
+    let places = Items::from_slice(alloc, grant.places())?;
     Ok(Readable {
         owner: Some(owner_text),
         name,
         schema,
         places,
-        opened: opened_at(homes, owner, grant.stream.as_str()),
+        opened: opened_at(homes, owner, grant.stream()),
     })
 }
 
@@ -158,44 +207,39 @@ fn own_stream(alloc: Global, name: &str, stream: &Stream) -> Result<OwnStream, A
     })
 }
 
-// The names of columns.
-fn names_of(alloc: Global, columns: &[Column]) -> Result<Items<Name>, AllocError>
-    ensures { IfOk result (λ names. names ≡ map (λ (c : column). c.name) columns.now) }
+// The least time, in ticks, that the stream of a grant still takes.
+fn time_of(homes: &[Home], grant: &Grant) -> u64
+    requires { IsPlaced homes.now grant.now }
+    ensures { result ≡ opened_at homes.now grant.now.owner grant.now.stream }
 {
-    let mut names = Items::new(alloc);
-    for column in columns {
-        names.push(column.name.try_clone()?)?;
-    }
-    Ok(names)
+    let owner = home_at(homes, grant.owner().place());
+    owner.opened(grant.place())
 }
 
-// The names of columns, where a grant names them.
-fn named_columns(
-    alloc: Global,
-    named: bool,
-    schema: &Schema,
-) -> Result<Option<Items<Name>>, AllocError>
-    ensures { IfOk result (λ names. names ≡ named_columns named schema.now) }
+// The least times, in ticks, that the streams of these grants still take.
+fn times_of(alloc: Global, homes: &[Home], grants: &[Grant]) -> Result<Vec<u64>, AllocError>
+    requires { AllByRecursion (IsPlaced homes.now) grants.now }
+    ensures { IfOk result (λ times. times.items ≡ map (λ g. opened_at homes.now g.owner g.stream) grants.now) }
 {
-    if !named {
-        return Ok(None);
+    let mut times = Vec::with_capacity(alloc, grants.len())?;
+    for grant in grants {
+        times.push(time_of(homes, grant))?;
     }
-    let names = names_of(alloc, schema.columns())?;
-    Ok(Some(names))
+    Ok(times)
 }
 
-fn read_stream(alloc: Global, homes: &[Home], grant: &Grant) -> Result<ReadStream, AllocError>
+// A stream that was granted, and still takes a time: it shares the texts of the grant.
+fn read_stream(homes: &[Home], grant: &Grant, opened: u64) -> Result<ReadStream, AllocError>
+    requires there { grant.now.owner < length homes.now }
+    requires time { opened ≡ opened_at homes.now grant.now.owner grant.now.stream }
     ensures { IfOk result (λ s. s ≡ read_stream homes.now grant.now) }
 {
-    let owner = grant.owner.place();
-    let owner_text = Text::new(alloc, owner_name(homes, owner))?;
-    let stream = grant.stream.try_clone(alloc)?;
-    let columns = named_columns(alloc, grant.named, &grant.schema)?;
+    let owner = home_at(homes, grant.owner().place()).name.share()?;
+    let shown = grant.shown()?;
     Ok(ReadStream {
-        owner: owner_text,
-        stream,
-        columns,
-        opened: opened_at(homes, owner, grant.stream.as_str()),
+        owner,
+        shown,
+        opened,
     })
 }
 
@@ -211,17 +255,39 @@ pub fn own_listed(alloc: Global, streams: &Shelf<Stream>) -> Result<Items<OwnStr
     Ok(all)
 }
 
+// These grants, in order, as a list shows them, behind others. Their times are read first: reads of
+// places all over the memory overlap, while one more holder is counted only once all before it are.
+fn list_block(
+    alloc: Global,
+    homes: &[Home],
+    grants: &[Grant],
+    all: &mut Vec<ReadStream>,
+) -> Result<(), AllocError>
+    requires { AllByRecursion (IsPlaced homes.now) grants.now }
+    ensures { OnOk result (all.new.items ≡ all.old.items ++ map (read_stream homes.now) grants.now) }
+{
+    let times = times_of(alloc, homes, grants)?;
+    for i in 0..grants.len() {
+        all.push(read_stream(homes, &grants[i], times[i])?)?;
+    }
+    Ok(())
+}
+
 /// The streams of these grants, in order, as a list shows them.
 pub fn granted_listed(
     alloc: Global,
     homes: &[Home],
     grants: &[Grant],
 ) -> Result<Items<ReadStream>, AllocError>
+    requires { AllByRecursion (IsPlaced homes.now) grants.now }
     ensures { IfOk result (λ all. all ≡ map (read_stream homes.now) grants.now) }
 {
-    let mut all = Items::new(alloc);
-    for grant in grants {
-        all.push(read_stream(alloc, homes, grant)?)?;
+    let mut all = Vec::with_capacity(alloc, grants.len())?;
+    let mut rest = grants;
+    while !rest.is_empty() {
+        let (block, later) = rest.split_at(rest.len().min(BLOCK));
+        list_block(alloc, homes, block, &mut all)?;
+        rest = later;
     }
-    Ok(all)
+    Ok(Items::from_vec(all))
 }

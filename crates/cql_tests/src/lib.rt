@@ -13,6 +13,8 @@ mod outputs;
 #[cfg(test)]
 mod pins;
 #[cfg(test)]
+mod pools;
+#[cfg(test)]
 mod scripts;
 #[cfg(test)]
 mod tenants;

@@ -12,7 +12,7 @@ use Rattle.cql_syntax.specs.declared.token.Fixed.TheVariants as k
 use Rattle.cql_syntax.specs.declared.token.Token.{Token}
 use Rattle.cql_syntax.specs.declared.token.Token.TheVariants as t
 use Rattle.cql_syntax.specs.Tokens.{Tokens, tokens_of}
-use Rattle.cql_syntax.specs.Lex.{Bytes, scan, lexed, token, is_blank, quoted, reserved, word, number, value}
+use Rattle.cql_syntax.specs.Lex.{Bytes, scan, lexed, token, sign, is_blank, quoted, reserved, word, number, value}
 use Rattle.cql_syntax.specs.Spelling.{Piece, symbol, call, name, number as number_piece, text, Pieces, number_tokens, piece_tokens, pieces_tokens, doubled, symbol_text, piece_text, is_tight, is_opening, takes_space, leaves_space, space, spelled}
 use Rattle.cql_text.proofs.Laws.{ArePlain}
 use Rattle.cql_syntax.proofs.Reserved.{reserved_as_name}
@@ -137,7 +137,7 @@ word_read b w rest j s all known h =
     rw (s, n, f, known) refl
 
 fixed_cut : (j : Fixed) (rest : Bytes) → IsEnd rest → IsCut (t.Fixed j) (symbol_text j) rest
-unfolding symbol_text reserved token
+unfolding symbol_text reserved token sign
 fixed_cut k.All rest h = (65, 76 ∷ 76 ∷ [], refl, refl, word_read 65 (76 ∷ 76 ∷ []) rest k.All refl refl refl h)
 fixed_cut k.And rest h = (65, 78 ∷ 68 ∷ [], refl, refl, word_read 65 (78 ∷ 68 ∷ []) rest k.And refl refl refl h)
 fixed_cut k.As rest h = (65, 83 ∷ [], refl, refl, word_read 65 (83 ∷ []) rest k.As refl refl refl h)
@@ -183,14 +183,14 @@ fixed_cut k.GreaterOrEqual rest h = (62, 61 ∷ [], refl, refl, refl)
 
 -- what opens ends itself
 opening_cut : (j : Fixed) (rest : Bytes) → is_opening j ≡ true → IsCut (t.Fixed j) (symbol_text j) rest
-unfolding symbol_text is_opening token
+unfolding symbol_text is_opening token sign
 opening_cut k.Open rest h = (40, [], refl, refl, refl)
 opening_cut k.OpenSquare rest h = (91, [], refl, refl, refl)
 opening_cut k.Dot rest h = (46, [], refl, refl, refl)
 opening_cut _ rest h = cc
 
 minus_cut : (rest : Bytes) → IsCut (t.Fixed k.Minus) (45 ∷ []) rest
-unfolding token
+unfolding token sign
 minus_cut rest = (45, [], refl, refl, refl)
 
 -- ---- names
@@ -360,7 +360,7 @@ symbol_cuts j ps c = at (is_opening j) refl c
     at false e c = cut_on (t.Fixed j) (pieces_tokens ps) (symbol_text j) (spelled true ps) (fixed_cut j (spelled true ps) (end_spelled ps)) c
 
 piece_cuts : (p : Piece) (ps : Pieces) → ArePlain (piece_tokens p) → Cuts (pieces_tokens ps) (spelled (leaves_space p) ps) → Cuts (piece_tokens p ++ pieces_tokens ps) (piece_text p ++ spelled (leaves_space p) ps)
-unfolding symbol_text token
+unfolding symbol_text token sign
 piece_cuts (symbol j) ps h c = symbol_cuts j ps c
 piece_cuts (call j) ps h c =
     let rest = spelled false ps in

@@ -1,11 +1,11 @@
 // A walk over the rows of a pin.
-ghost use Rattle.std.specs.Prelude.{◌≡◌, ◌≤◌, ◌+◌, ◌++◌, List, [], take, length, IfOk, OnOk};
+ghost use Rattle.std.specs.Prelude.{◌≡◌, ◌≤◌, ◌+◌, ◌++◌, List, [], take, length, IfOk, IfSome, IsTrue, OnOk};
 ghost use Rattle.std.specs.List.{AllByRecursion};
 ghost use Rattle.std.specs.List.Sorted.{IsPermutation};
 ghost use Rattle.cql_value.specs.Element.{Element};
 ghost use Rattle.cql_window.specs.declared.window.Window.TheVariants.{Parts};
 ghost use Rattle.cql_window.specs.Laws.{between};
-ghost use Rattle.cql_window.specs.Pin.{HasColumns};
+ghost use Rattle.cql_window.specs.Pin.{HasColumns, IsPinned};
 ghost use Rattle.cql_window.specs.Places.{AreUpTo};
 ghost use Rattle.cql_window.specs.Queues.{AreQueued};
 ghost use Rattle.cql_window.specs.Window.{content, last_of_parts};
@@ -16,7 +16,8 @@ use crate::pin::WindowPin;
 use crate::place::{Places, segment};
 use crate::queues::Queues;
 use crate::window::Window;
-use cql_value::{Timed, copies_of};
+use cql_chunks::{Stretch, are_joined_same};
+use cql_value::{Same, Timed};
 use std::alloc::{AllocError, Global};
 use std::marker::Model;
 
@@ -107,6 +108,71 @@ impl<'a> Walk<'a> {
         Ok((walk, moved))
     }
 
+    /// The walk at a cursor that isn't below the one that it reached, where nobody asks for the rows
+    /// that came and left: without parts no row is copied. Without memory the walk is gone.
+    pub fn reach(self, alloc: Global, cursor: u64) -> Result<Walk<'a>, AllocError>
+        requires { self.cursor ≤ cursor }
+        ensures pin { IfOk result (λ r. r.pin ≡ self.entry.pin) }
+        ensures cursor { IfOk result (λ r. r.cursor ≡ cursor) }
+        ensures held { IfOk result (λ r. r.held ≡ content self.entry.pin.window cursor self.entry.pin.content self.entry.pin.unseen) }
+    {
+        let Walk {
+            pin,
+            cursor: _,
+            places: from,
+            mut queues,
+        } = self;
+        let to = from.at(pin, cursor);
+        match pin.window() {
+            Window::Parts { columns, count } => {
+                let columns = columns.as_slice();
+                let _moved = come(alloc, pin, columns, *count, &mut queues, from.high, to.high)?;
+            }
+            _ => {}
+        };
+        Ok(Walk {
+            pin,
+            cursor,
+            places: to,
+            queues,
+        })
+    }
+
+    // What the window holds where it has no parts, as one part of the rows and the next.
+    fn parts_held(&self) -> Option<(Stretch<'_>, Stretch<'_>)>
+        ensures { IfSome result (λ r. r.0 ++ r.1 ≡ self.now.held) }
+    {
+        match self.pin.window() {
+            Window::Parts { .. } => None,
+            _ => Some(segment(
+                self.pin.content(),
+                self.pin.unseen(),
+                self.places.low,
+                self.places.high,
+            )),
+        }
+    }
+
+    /// Whether both hold the same rows, in order. It may say no of windows with parts. Takes no
+    /// memory.
+    pub fn holds_same(&self, other: &Walk<'_>) -> bool
+        ensures { IsTrue result → self.now.held ≡ other.now.held }
+    {
+        match (self.parts_held(), other.parts_held()) {
+            (Some(held), Some(others)) => are_joined_same(held, others),
+            _ => false,
+        }
+    }
+
+    /// Whether both hold as many rows, of which the first is the same: no other is looked at. It says
+    /// no of windows with parts.
+    pub fn seems_same(&self, other: &Walk<'_>) -> bool {
+        match (self.parts_held(), other.parts_held()) {
+            (Some(held), Some(others)) => begin_alike(held, others),
+            _ => false,
+        }
+    }
+
     /// What the window holds at the cursor, in some order. The rows are shared. Takes as many steps
     /// as there are.
     pub fn held(&self, alloc: Global) -> Result<Vec<Timed>, AllocError>
@@ -119,6 +185,36 @@ impl<'a> Walk<'a> {
     }
 }
 
+// How many rows both have.
+fn count_of(first: &Stretch<'_>, second: &Stretch<'_>) -> u128 {
+    first.len() as u128 + second.len() as u128
+}
+
+// Whether two stretches after one another have as many rows as two others, and the same first one.
+fn begin_alike<'a, 'b>(one: (Stretch<'a>, Stretch<'a>), other: (Stretch<'b>, Stretch<'b>)) -> bool {
+    let (mut first, mut second) = one;
+    let (mut third, mut fourth) = other;
+    if count_of(&first, &second) != count_of(&third, &fourth) {
+        return false;
+    }
+    let row = first.next().or_else(|| second.next());
+    let another = third.next().or_else(|| fourth.next());
+    match (row, another) {
+        (Some(row), Some(another)) => row.is_same(another),
+        _ => true,
+    }
+}
+
+// Copies of more rows come behind others. They are shared.
+fn push_copies(rows: &mut Vec<Timed>, more: Stretch<'_>) -> Result<(), AllocError>
+    ensures { OnOk result (rows.new.items ≡ rows.old.items ++ more.entry) }
+{
+    for row in more {
+        rows.push(row.try_clone()?)?;
+    }
+    Ok(())
+}
+
 // The rows from one place to another. They are shared.
 fn rows_between(
     alloc: Global,
@@ -128,17 +224,13 @@ fn rows_between(
 ) -> Result<Vec<Timed>, AllocError>
     requires order { from ≤ to }
     requires within { to ≤ length pin.now.content + length pin.now.unseen }
-    ensures { IfOk result (λ r. r.items ≡ between from to (pin.now.content ++ pin.now.unseen)) }
+    ensures rows { IfOk result (λ r. r.items ≡ between from to (pin.now.content ++ pin.now.unseen)) }
+    ensures pinned { IsPinned pin.now }
 {
     let (first, second) = segment(pin.content(), pin.unseen(), from, to);
-    // mostly they are settled, or unseen
-    if first.is_empty() {
-        return copies_of(alloc, second);
-    }
-    let mut rows = copies_of(alloc, first)?;
-    if !second.is_empty() {
-        rows.append(&mut copies_of(alloc, second)?)?;
-    }
+    let mut rows = Vec::with_capacity(alloc, to - from)?;
+    push_copies(&mut rows, first)?;
+    push_copies(&mut rows, second)?;
     Ok(rows)
 }
 
@@ -196,10 +288,7 @@ fn come(
     ensures came { IfOk result (λ m. IsSegment (pin.now.content ++ pin.now.unseen) m.came.items) }
     ensures moved { IfOk result (λ m. IsExchange (last_of_parts columns.now count (take from (pin.now.content ++ pin.now.unseen))) m.came.items m.left.items (last_of_parts columns.now count (take to (pin.now.content ++ pin.now.unseen)))) }
 {
-    let (first, second) = segment(pin.content(), pin.unseen(), from, to);
-    let mut left = pushed_out(alloc, columns, count, queues, first)?;
-    let mut more = pushed_out(alloc, columns, count, queues, second)?;
-    left.append(&mut more)?;
     let came = rows_between(alloc, pin, from, to)?;
+    let left = pushed_out(alloc, columns, count, queues, &came)?;
     Ok(Moved { came, left })
 }

@@ -36,6 +36,11 @@ pub struct Config {
     pub idle: u32,
     /// How joins and groups are computed.
     pub join: JoinForm,
+    /// How many benches go on with the queries that they answered last, up to 1,024; at 0 each
+    /// answer begins anew.
+    pub warm: u16,
+    /// Every how many seconds what was done is told, up to 86,400; at 0 never.
+    pub log: u32,
     /// Whether each call is kept, and checked after the last session.
     pub audit: bool,
 }
@@ -45,6 +50,8 @@ pub fn read_words(alloc: Global, words: &[String]) -> Result<Config, Error>
     ensures workers { IfOk result (λ c. (1 ≤ c.workers) × (c.workers ≤ 64)) }
     ensures login { IfOk result (λ c. c.login ≤ 3600) }
     ensures idle { IfOk result (λ c. c.idle ≤ 86400) }
+    ensures warm { IfOk result (λ c. c.warm ≤ 1024) }
+    ensures log { IfOk result (λ c. c.log ≤ 86400) }
 {
     let matches = command(alloc)?.try_get_matches_from(words)?;
     Ok(Config {
@@ -54,6 +61,8 @@ pub fn read_words(alloc: Global, words: &[String]) -> Result<Config, Error>
         login: matches.get_one::<u16>("login").unwrap_or(10).min(3600),
         idle: matches.get_one::<u32>("idle").unwrap_or(0).min(86_400),
         join: join_form(matches.get_str("join")),
+        warm: matches.get_one::<u16>("warm").unwrap_or(64).min(1024),
+        log: matches.get_one::<u32>("log").unwrap_or(0).min(86_400),
         audit: matches.get_flag("audit"),
     })
 }
@@ -67,70 +76,82 @@ fn join_form(name: Option<&str>) -> JoinForm {
 }
 
 fn command<'a>(alloc: Global) -> Result<Command<'a>, Error> {
+    let words = vec![in alloc;
+        port(alloc),
+        workers(alloc),
+        sessions(alloc),
+        login(alloc),
+        idle(alloc),
+        join(alloc),
+        warm(alloc),
+        log(alloc),
+        audit(alloc),
+    ]?;
     let command = Command::new(alloc, "cqld").version(VERSION).about(
         "Serves continuous queries to the tenants of the first line of standard input",
     );
-    let command = command.arg(port(alloc))?;
-    let command = command.arg(workers(alloc))?;
-    let command = command.arg(sessions(alloc))?;
-    let command = command.arg(login(alloc))?;
-    let command = command.arg(idle(alloc))?;
-    let command = command.arg(join(alloc))?;
-    Ok(command.arg(audit(alloc))?)
+    Ok(command.args(words)?)
+}
+
+// A word that takes a value, what the value is called, and what it is where none is given.
+fn valued<'a>(
+    alloc: Global,
+    word: &'a str,
+    value: &'a str,
+    default: &'a str,
+    help: &'a str,
+) -> Arg<'a> {
+    Arg::new(alloc, word)
+        .long(word)
+        .value_name(value)
+        .default_value(default)
+        .help(help)
 }
 
 fn port<'a>(alloc: Global) -> Arg<'a> {
-    Arg::new(alloc, "port")
-        .long("port")
-        .value_name("N")
-        .value_parser(clap::value_parser!(u16))
-        .default_value("0")
-        .help("The port of 127.0.0.1, or 0 for one that the system chooses")
+    let help = "The port of 127.0.0.1, or 0 for one that the system chooses";
+    valued(alloc, "port", "N", "0", help).value_parser(clap::value_parser!(u16))
 }
 
 fn workers<'a>(alloc: Global) -> Arg<'a> {
-    Arg::new(alloc, "workers")
-        .long("workers")
-        .value_name("N")
-        .value_parser(clap::value_parser!(u8).range(1..=64))
-        .default_value("4")
-        .help("How many sessions are served at once, 1 to 64")
+    let help = "How many sessions are served at once, 1 to 64";
+    valued(alloc, "workers", "N", "4", help).value_parser(clap::value_parser!(u8).range(1..=64))
 }
 
 fn sessions<'a>(alloc: Global) -> Arg<'a> {
-    Arg::new(alloc, "sessions")
-        .long("sessions")
-        .value_name("N")
-        .value_parser(clap::value_parser!(u16))
-        .default_value("0")
-        .help("How many sessions are served in all, or 0 for no end")
+    let help = "How many sessions are served in all, or 0 for no end";
+    valued(alloc, "sessions", "N", "0", help).value_parser(clap::value_parser!(u16))
 }
 
 fn login<'a>(alloc: Global) -> Arg<'a> {
-    Arg::new(alloc, "login")
-        .long("login")
-        .value_name("SECONDS")
-        .value_parser(clap::value_parser!(u16).range(0..=3600))
-        .default_value("10")
-        .help("By when a session's login line has to be whole, or 0 for never")
+    let help = "By when a session's login line has to be whole, or 0 for never";
+    valued(alloc, "login", "SECONDS", "10", help).value_parser(clap::value_parser!(u16).range(
+        0..=3600,
+    ))
 }
 
 fn idle<'a>(alloc: Global) -> Arg<'a> {
-    Arg::new(alloc, "idle")
-        .long("idle")
-        .value_name("SECONDS")
-        .value_parser(clap::value_parser!(u32).range(0..=86_400))
-        .default_value("0")
-        .help("How long a session waits for its caller, or 0 for no end")
+    let help = "How long a session waits for its caller, or 0 for no end";
+    valued(alloc, "idle", "SECONDS", "0", help).value_parser(clap::value_parser!(u32).range(
+        0..=86_400,
+    ))
 }
 
 fn join<'a>(alloc: Global) -> Arg<'a> {
-    Arg::new(alloc, "join")
-        .long("join")
-        .value_name("FORM")
-        .value_parser(JOIN_FORMS)
-        .default_value("keyed")
-        .help("How joins and groups are computed: plain, all rows anew, or keyed, what changes")
+    let help = "How joins and groups are computed: plain, all rows anew, or keyed, what changes";
+    valued(alloc, "join", "FORM", "keyed", help).value_parser(JOIN_FORMS)
+}
+
+fn log<'a>(alloc: Global) -> Arg<'a> {
+    let help = "How often counts are told on standard error, or 0 for never";
+    valued(alloc, "log", "SECONDS", "0", help).value_parser(clap::value_parser!(u32).range(
+        0..=86_400,
+    ))
+}
+
+fn warm<'a>(alloc: Global) -> Arg<'a> {
+    let help = "How many answers are kept to go on from, or 0 for none";
+    valued(alloc, "warm", "N", "64", help).value_parser(clap::value_parser!(u16).range(0..=1024))
 }
 
 fn audit<'a>(alloc: Global) -> Arg<'a> {

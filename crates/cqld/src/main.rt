@@ -7,9 +7,8 @@ ghost use Rattle.cql_ops.specs.Bench.{IsBench};
 mod operators;
 
 use clap::error::ErrorKind;
-use cql_core::{Bench, Operator, TenantTable};
-use cql_hall::OpenGate;
-use cql_server::{Failure, Limits, benches_of, serve};
+use cql_core::{Operator, TenantTable};
+use cql_server::{Benches, Failure, Hub, Limits, Watch, benches_of, serve};
 use cql_wire::{TableFault, Watched, first_table};
 use cql_words::{Config, JoinForm, read_words};
 use operators::{Operators, keyed_operators, plain_operators};
@@ -66,7 +65,8 @@ fn config_of(rt: &HostRuntime) -> Result<Config, u8> {
     }
 }
 
-/// Reads the tenants line, makes a bench for each worker, listens, and serves.
+/// Reads the tenants line, makes a bench for each worker and those that they borrow, listens, and
+/// serves.
 fn outcome<R>(rt: &R, alloc: Global, config: Config) -> Result<(), Failure>
 where
     R: Threads
@@ -75,29 +75,27 @@ where
         + Net<Listener = TcpListener, Stream = TcpStream>
         + Input
         + Print
+        + Eprint
         + Sync,
 {
     if config.audit && config.sessions == 0 {
         return Err(Failure::NoSessions);
     }
     let table = first_table(alloc, &mut Watched::new(rt.reader())).map_err(failure_of)?;
-    let mut lists = Vec::new(alloc);
-    for _ in 0..config.workers {
-        let mut boxes: Vec<Box<dyn Operator + Send>> = Vec::new(alloc);
-        if boxes.reserve(7).is_err() {
-            return Err(Failure::NoMemory);
-        }
-        // Operators of the caller's own may stand in the place of these.
+    let workers = u16::from(config.workers);
+    let mut own = Vec::new(alloc);
+    let mut shared = Vec::new(alloc);
+    for place in 0..workers.saturating_add(config.warm) {
+        // Operators of the caller's own may stand in the place of these. They are boxed here, since
+        // a function that gave boxes of them out would hide what it gives.
+        let mut boxes: Vec<Box<dyn Operator + Send>> = Vec::with_capacity(alloc, 7)?;
         match config.join {
             JoinForm::Plain => {
-                let Ok(operators) = plain_operators(alloc) else {
-                    return Err(Failure::NoMemory);
-                };
                 let Operators {
                     left,
                     right,
                     set_op,
-                } = operators;
+                } = plain_operators(alloc)?;
                 boxes.push_reserved(left.join);
                 boxes.push_reserved(left.shape);
                 boxes.push_reserved(left.distinct);
@@ -107,14 +105,11 @@ where
                 boxes.push_reserved(set_op);
             }
             JoinForm::Keyed => {
-                let Ok(operators) = keyed_operators(alloc) else {
-                    return Err(Failure::NoMemory);
-                };
                 let Operators {
                     left,
                     right,
                     set_op,
-                } = operators;
+                } = keyed_operators(alloc)?;
                 boxes.push_reserved(left.join);
                 boxes.push_reserved(left.shape);
                 boxes.push_reserved(left.distinct);
@@ -124,14 +119,15 @@ where
                 boxes.push_reserved(set_op);
             }
         }
-        if lists.push(boxes).is_err() {
-            return Err(Failure::NoMemory);
+        if place < workers {
+            own.push(boxes)?;
+        } else {
+            shared.push(boxes)?;
         }
     }
-    let Ok(benches) = benches_of(alloc, lists) else {
-        return Err(Failure::NoMemory);
-    };
-    listen(rt, alloc, config, &table, benches)
+    let own = benches_of(alloc, own)?;
+    let shared = benches_of(alloc, shared)?;
+    listen(rt, alloc, config, &table, Benches { own, shared })
 }
 
 // Why no table of tenants was told, as the failure of the server.
@@ -149,14 +145,28 @@ fn listen<R>(
     alloc: Global,
     config: Config,
     table: &TenantTable,
-    benches: Vec<Bench>,
+    benches: Benches<Box<dyn Operator + Send>>,
 ) -> Result<(), Failure>
 where
-    R: Threads + Wait + Clock + Net<Listener = TcpListener, Stream = TcpStream> + Print + Sync,
-    requires benches { All (IsBench seen_in) benches.items }
+    R: Threads
+        + Wait
+        + Clock
+        + Net<Listener = TcpListener, Stream = TcpStream>
+        + Print
+        + Eprint
+        + Sync,
+    requires own { All (IsBench seen_in) benches.own.items }
+    requires shared { All (IsBench seen_in) benches.shared.items }
 {
     let Ok(listener) = TcpListener::bind(rt, ("127.0.0.1", config.port)) else {
         return Err(Failure::Listening);
+    };
+    // made before the port is told, so that what it takes of the system is taken by then
+    let Ok(hub) = Hub::new(rt, alloc, &listener) else {
+        return Err(Failure::Listening);
+    };
+    let Some(watch) = Watch::new(rt, config.log) else {
+        return Err(Failure::NoMemory);
     };
     let Ok(addr) = listener.local_addr() else {
         return Err(Failure::Listening);
@@ -168,13 +178,13 @@ where
     serve(
         rt,
         alloc,
-        &listener,
+        hub,
         Limits::of_seconds(config.login, config.idle),
         &mut io::writer(rt),
         table,
         benches,
         config.sessions,
         config.audit,
-        &OpenGate,
+        &watch,
     )
 }

@@ -1,8 +1,8 @@
 //! Runs a script: a tenants line and commands on standard input, replies on standard output.
 #![tactic(auto)]
 
-use cql_ops::{Bench, DistinctOp, Operator, SetOperation};
-use cql_plain::{PlainJoin, PlainShape};
+use cql_core::{Pool, Pooled};
+use cql_plain::plain_bench;
 use cql_wire::{Ending, Watched, program};
 use std::alloc::AllocError;
 use std::process::ExitCode;
@@ -24,18 +24,14 @@ fn outcome(rt: &HostRuntime) -> Result<(u8, &'static str), AllocError> {
     let Ok(args) = env::args(rt) else {
         return Ok(Ending::Words.outcome());
     };
-    // Operators of the caller's own may stand in the place of these.
-    let mut boxes: Vec<Box<dyn Operator + Send>> = Vec::with_capacity(alloc, 7)?;
-    boxes.push_reserved(Box::new(alloc, PlainJoin::new(alloc))?);
-    boxes.push_reserved(Box::new(alloc, PlainShape::new(alloc))?);
-    boxes.push_reserved(Box::new(alloc, DistinctOp::new(alloc))?);
-    boxes.push_reserved(Box::new(alloc, PlainJoin::new(alloc))?);
-    boxes.push_reserved(Box::new(alloc, PlainShape::new(alloc))?);
-    boxes.push_reserved(Box::new(alloc, DistinctOp::new(alloc))?);
-    boxes.push_reserved(Box::new(alloc, SetOperation::new(alloc))?);
-    let Ok(mut bench) = Bench::new(boxes) else {
-        return Ok(Ending::NoMemory.outcome());
-    };
+    // Benches of the caller's own operators may stand in the place of these.
+    let benches = vec![in alloc;
+        plain_bench(alloc),
+        plain_bench(alloc),
+        plain_bench(alloc),
+        plain_bench(alloc),
+    ]?;
+    let mut bench = Pooled::new(plain_bench(alloc), Pool::new(alloc, benches)?);
     let words = args.skip(1).collect::<Vec<String>>(alloc)?;
     let mut reader = Watched::new(rt.reader());
     let mut writer = Watched::new(io::writer(rt));

@@ -1,9 +1,10 @@
-//! Runs each script that lies in its folder by benches of every make, and tells where its replies
-//! aren't the expected ones.
+//! Runs each script that lies in its folder by benches of every make, which begin each answer anew
+//! or go on with the last one, and tells where its replies aren't the expected ones.
 #![tactic(auto)]
 
 ghost use Rattle.cql_ops.specs.Bench.{IsBench};
 
+use cql_core::{Evaluator, Warm};
 use cql_groups::GroupShape;
 use cql_joins::KeyedJoin;
 use cql_ops::{BenchOf, Operator, mixed_bench};
@@ -14,12 +15,8 @@ use std::process::ExitCode;
 use std::{fs, io};
 
 // The replies to a script, or what keeps it from its end.
-fn replies<O: Operator>(
-    alloc: Global,
-    text: &[u8],
-    bench: &mut BenchOf<O>,
-) -> Result<Vec<u8>, &'static str>
-    requires { IsBench O.seen_in bench.old }
+fn replies<E: Evaluator>(alloc: Global, text: &[u8], bench: &mut E) -> Result<Vec<u8>, &'static str>
+    requires { E.is_ready bench.old }
 {
     let mut reader = Watched::new(text);
     let mut writer = Watched::new(Vec::new(alloc));
@@ -27,6 +24,23 @@ fn replies<O: Operator>(
     match told {
         (0, _) => Ok(writer.into_inner()),
         (_, fault) => Err(fault),
+    }
+}
+
+// The same by a bench that goes on with its last answer, or by one that begins each answer anew.
+fn replies_by<O: Operator>(
+    alloc: Global,
+    text: &[u8],
+    goes_on: bool,
+    bench: BenchOf<O>,
+) -> Result<Vec<u8>, &'static str>
+    requires { IsBench O.seen_in bench }
+{
+    if goes_on {
+        replies(alloc, text, &mut Warm::new(bench))
+    } else {
+        let mut bench = bench;
+        replies(alloc, text, &mut bench)
     }
 }
 
@@ -51,23 +65,23 @@ impl Mix {
         }
     }
 
-    fn replies(self, alloc: Global, text: &[u8]) -> Result<Vec<u8>, &'static str> {
+    fn replies(self, alloc: Global, text: &[u8], goes_on: bool) -> Result<Vec<u8>, &'static str> {
         match self {
-            Mix::Plain => replies(alloc, text, &mut plain_bench(alloc)),
+            Mix::Plain => replies_by(alloc, text, goes_on, plain_bench(alloc)),
             Mix::KeyedJoins => {
                 let joins = (KeyedJoin::new(alloc), KeyedJoin::new(alloc));
                 let shapes = (PlainShape::new(alloc), PlainShape::new(alloc));
-                replies(alloc, text, &mut mixed_bench(alloc, joins, shapes))
+                replies_by(alloc, text, goes_on, mixed_bench(alloc, joins, shapes))
             }
             Mix::GroupShapes => {
                 let joins = (PlainJoin::new(alloc), PlainJoin::new(alloc));
                 let shapes = (GroupShape::new(alloc), GroupShape::new(alloc));
-                replies(alloc, text, &mut mixed_bench(alloc, joins, shapes))
+                replies_by(alloc, text, goes_on, mixed_bench(alloc, joins, shapes))
             }
             Mix::Keyed => {
                 let joins = (KeyedJoin::new(alloc), KeyedJoin::new(alloc));
                 let shapes = (GroupShape::new(alloc), GroupShape::new(alloc));
-                replies(alloc, text, &mut mixed_bench(alloc, joins, shapes))
+                replies_by(alloc, text, goes_on, mixed_bench(alloc, joins, shapes))
             }
         }
     }
@@ -90,19 +104,21 @@ fn first_difference<'a>(written: &'a str, wanted: &str) -> (u64, &'a str) {
 fn fault_by(
     alloc: Global,
     mix: Mix,
+    goes_on: bool,
     text: &[u8],
     wanted: &str,
 ) -> Result<Option<String>, AllocError> {
     let by = mix.name();
-    let written = match mix.replies(alloc, text) {
+    let how = if goes_on { "going on" } else { "anew" };
+    let written = match mix.replies(alloc, text, goes_on) {
         Ok(written) => String::from_utf8_lossy(alloc, written.as_slice())?,
-        Err(fault) => return Ok(Some(format!(in alloc; "by {by}: {fault}")?)),
+        Err(fault) => return Ok(Some(format!(in alloc; "by {by}, {how}: {fault}")?)),
     };
     if written.as_str() == wanted {
         return Ok(None);
     }
     let (number, line) = first_difference(written.as_str(), wanted);
-    Ok(Some(format!(in alloc; "by {by} first at line {number}: {line}")?))
+    Ok(Some(format!(in alloc; "by {by}, {how}, first at line {number}: {line}")?))
 }
 
 // What is wrong with the replies to the script of that name, if anything.
@@ -111,8 +127,10 @@ fn fault_of(rt: &HostRuntime, name: &str) -> io::Result<Option<String>> {
     let text = fs::read(rt, format!(in alloc; "{name}.in")?)?;
     let wanted = fs::read_to_string(rt, format!(in alloc; "{name}.out")?)?;
     for mix in MIXES {
-        if let Some(fault) = fault_by(alloc, mix, text.as_slice(), wanted.as_str())? {
-            return Ok(Some(fault));
+        for goes_on in [false, true] {
+            if let Some(fault) = fault_by(alloc, mix, goes_on, text.as_slice(), wanted.as_str())? {
+                return Ok(Some(fault));
+            }
         }
     }
     Ok(None)

@@ -5,6 +5,13 @@
 //! - `near`: a row comes that fills the last stub, which then goes on; the others lag.
 //! - `overrun`: a row comes, behind stubs of which all but the first are overrun.
 //! - `rounds`: a row comes, and then each stub, all of the last instant, goes on.
+//! - `pins`: a pin is taken of one stub, which has as many rows as there would be stubs.
+//! - `scans`: the same, and the pin's rows are looked at for changes of the first instant.
+//! - `walks`: the same, and a walk goes over all rows of the pin.
+//! - `parts`: one stub of a window of parts, which has a row of as many parts as there would be stubs;
+//!   then so many times some rows of them come, as many as the fourth word says, and the stub goes on.
+//! - `slides`: one stub of the last row at each slide of as many rows as there would be stubs, of which
+//!   half wait; then a row comes, and the stub goes on.
 //! - `detach`: a stub goes, and another comes; the stubs go in turn.
 //!
 //! Without words it is 1 stub and 1000 rows.
@@ -17,8 +24,8 @@ ghost use Rattle.cql_value.specs.declared.schema.ColumnType.TheVariants.{Number}
 
 use cql_store::law::next_law;
 use cql_store::{Store, StubId};
-use cql_value::{Row, Timed, Value};
-use cql_window::{Count, Length, Window};
+use cql_value::{Items, Row, Timed, Value};
+use cql_window::{Count, Length, Walk, Window, changes};
 use std::alloc::{AllocError, Global};
 use std::collections::VecDeque;
 use std::marker::Model;
@@ -86,6 +93,32 @@ impl Fed {
         if self.store.may_advance(id, self.opened) {
             self.store.detach(id);
         }
+    }
+
+    // Takes a pin of the stub, unless it is overrun, and lets it go.
+    fn pin(&self, id: StubId) -> Result<(), AllocError> {
+        if self.store.may_advance(id, self.opened) {
+            self.store.pin(id, GREATEST)?;
+        }
+        Ok(())
+    }
+
+    // Looks at each row of a pin of the stub.
+    fn scan(&self, alloc: Global, id: StubId) -> Result<(), AllocError> {
+        if self.store.may_advance(id, self.opened) {
+            let pin = self.store.pin(id, GREATEST)?;
+            changes(alloc, &pin, 0, 1)?;
+        }
+        Ok(())
+    }
+
+    // Walks over a pin of the stub.
+    fn walk(&self, alloc: Global, id: StubId) -> Result<(), AllocError> {
+        if self.store.may_advance(id, self.opened) {
+            let pin = self.store.pin(id, GREATEST)?;
+            Walk::new(alloc, &pin).advance(alloc, GREATEST)?;
+        }
+        Ok(())
     }
 
     // A stub goes to a later cursor, unless it is overrun.
@@ -202,6 +235,93 @@ fn detach(alloc: Global, fed: &mut Fed, stubs: u64, times: u64) -> Result<(), Al
     Ok(())
 }
 
+// A row of each of so many parts comes.
+fn fill(alloc: Global, fed: &mut Fed, parts: u64) -> Result<(), AllocError> {
+    for number in 0..parts {
+        let row = numbered(alloc, i64::try_from(number).unwrap_or(0))?;
+        fed.put(Timed::new(0, row))?;
+    }
+    Ok(())
+}
+
+// So many rows come, of parts that are far from one another.
+fn put_far(alloc: Global, fed: &mut Fed, at: u64, parts: u64, rows: u64) -> Result<(), AllocError> {
+    for number in 0..rows {
+        let far = at
+            .wrapping_mul(rows)
+            .wrapping_add(number)
+            .wrapping_mul(7919)
+            % parts.max(1);
+        let row = numbered(alloc, i64::try_from(far).unwrap_or(0))?;
+        fed.put(Timed::new(at, row))?;
+    }
+    Ok(())
+}
+
+fn parts(
+    alloc: Global,
+    fed: &mut Fed,
+    parts: u64,
+    times: u64,
+    rows: u64,
+) -> Result<(), AllocError> {
+    let Some(count) = Count::new(1) else {
+        unreachable!()
+    };
+    let columns = Items::from_slice(alloc, &[0])?;
+    let id = fed.attach(Window::Parts { columns, count }, GREATEST)?;
+    fill(alloc, fed, parts)?;
+    fed.go(id, 1)?;
+    for at in 1..times.saturating_add(1) {
+        put_far(alloc, fed, at, parts, rows)?;
+        fed.go(id, at.saturating_add(1))?;
+    }
+    Ok(())
+}
+
+fn slides(alloc: Global, fed: &mut Fed, slide: u64, times: u64) -> Result<(), AllocError> {
+    let (Some(count), Some(slide)) = (Count::new(1), Count::new(slide)) else {
+        return Ok(());
+    };
+    let id = fed.attach(Window::Rows { count, slide }, GREATEST)?;
+    let waiting = slide.get() / 2;
+    put_all(alloc, fed, waiting)?;
+    fed.go(id, waiting)?;
+    let row = numbered(alloc, 7)?;
+    for at in waiting..waiting.saturating_add(times) {
+        fed.put(Timed::new(at, row.share()?))?;
+        fed.go(id, at.saturating_add(1))?;
+    }
+    Ok(())
+}
+
+fn pins(alloc: Global, fed: &mut Fed, rows: u64, times: u64) -> Result<(), AllocError> {
+    let id = lag(fed)?;
+    put_all(alloc, fed, rows)?;
+    for _ in 0..times {
+        fed.pin(id)?;
+    }
+    Ok(())
+}
+
+fn scans(alloc: Global, fed: &mut Fed, rows: u64, times: u64) -> Result<(), AllocError> {
+    let id = lag(fed)?;
+    put_all(alloc, fed, rows)?;
+    for _ in 0..times {
+        fed.scan(alloc, id)?;
+    }
+    Ok(())
+}
+
+fn walks(alloc: Global, fed: &mut Fed, rows: u64, times: u64) -> Result<(), AllocError> {
+    let id = lag(fed)?;
+    put_all(alloc, fed, rows)?;
+    for _ in 0..times {
+        fed.walk(alloc, id)?;
+    }
+    Ok(())
+}
+
 // What is done to the store.
 #[derive(Clone, Copy)]
 enum Work {
@@ -210,6 +330,11 @@ enum Work {
     Overrun,
     Rounds,
     Detach,
+    Pins,
+    Scans,
+    Walks,
+    Parts,
+    Slides,
 }
 
 // The work of a word, if it names one.
@@ -220,12 +345,23 @@ fn work_of(word: &str) -> Option<Work> {
         "overrun" => Some(Work::Overrun),
         "rounds" => Some(Work::Rounds),
         "detach" => Some(Work::Detach),
+        "pins" => Some(Work::Pins),
+        "scans" => Some(Work::Scans),
+        "walks" => Some(Work::Walks),
+        "parts" => Some(Work::Parts),
+        "slides" => Some(Work::Slides),
         _ => None,
     }
 }
 
 // Does the work, and tells how many rows the store then holds.
-fn held_after(alloc: Global, work: Work, stubs: u64, times: u64) -> Result<u64, AllocError> {
+fn held_after(
+    alloc: Global,
+    work: Work,
+    stubs: u64,
+    times: u64,
+    more: u64,
+) -> Result<u64, AllocError> {
     let mut fed = Fed::new(alloc);
     match work {
         Work::Rows => rows(alloc, &mut fed, stubs, times)?,
@@ -233,6 +369,11 @@ fn held_after(alloc: Global, work: Work, stubs: u64, times: u64) -> Result<u64, 
         Work::Overrun => overrun(alloc, &mut fed, stubs, times)?,
         Work::Rounds => rounds(alloc, &mut fed, stubs, times)?,
         Work::Detach => detach(alloc, &mut fed, stubs, times)?,
+        Work::Pins => pins(alloc, &mut fed, stubs, times)?,
+        Work::Scans => scans(alloc, &mut fed, stubs, times)?,
+        Work::Walks => walks(alloc, &mut fed, stubs, times)?,
+        Work::Parts => parts(alloc, &mut fed, stubs, times, more)?,
+        Work::Slides => slides(alloc, &mut fed, stubs, times)?,
     }
     Ok(fed.store.rows_held())
 }
@@ -255,10 +396,12 @@ fn main(rt: HostRuntime) -> io::Result<ExitCode> {
         None => Some(Work::Rows),
     };
     let Some(work) = work else {
-        eprintln!(rt; "stores STUBS TIMES [rows|near|overrun|rounds|detach]")?;
+        eprintln!(rt;
+            "stores STUBS TIMES [rows|near|overrun|rounds|detach|pins|scans|walks|parts|slides] [ROWS]"
+        )?;
         return Ok(ExitCode::FAILURE);
     };
-    let held = held_after(alloc, work, stubs, times)?;
+    let held = held_after(alloc, work, stubs, times, number(&words, 3, 0))?;
     println!(rt; "{held}")?;
     Ok(ExitCode::SUCCESS)
 }

@@ -7,4 +7,4 @@ use Rattle.cql_asked.proofs.Readings.{with_read}
 use Rattle.cql_asked.proofs.tenants.all_tenants.Given as goal
 
 abbrev pub invariant-loop-item : goal.invariant-loop-item
-invariant-loop-item l = with_read tenant_of l.tenants.items (drop l.item-index l.items) ≡ all_of tenant_of (items_view l.items)
+invariant-loop-item l = with_read tenant_of l.tenants.items (items_view (drop l.item-index l.items)) ≡ all_of tenant_of (items_view l.items)

@@ -1,7 +1,7 @@
 use Rattle.std.proofs.Common.{take}
 use Rattle.std.specs.List.{AllByRecursion}
 use Rattle.cql_plan.specs.Fit.{HasColumn}
-use Rattle.cql_groups.specs.Cells.{IsKeyedItem}
+use Rattle.cql_groups.specs.Keyed.{IsKeyedItem}
 use Rattle.cql_groups.proofs.group_shape.is_keyed.Given as goal
 
 -- the grouped columns so far are there

@@ -1,7 +1,7 @@
 use Rattle.std.proofs.Common.{◌<◌, nat_lt, sym, subst, arith}
 use Rattle.std.proofs.lemmas.Bool.Decides.{nat_tests}
 use Rattle.std.specs.Prelude.{IsTrue, ℕ}
-use Rattle.cql_groups.specs.Cells.{IsKeyedItem}
+use Rattle.cql_groups.specs.Keyed.{IsKeyedItem}
 use Rattle.cql_groups.proofs.Keyed.{has_column}
 use Rattle.cql_groups.proofs.group_shape.is_keyed_item.Goals as goal
 

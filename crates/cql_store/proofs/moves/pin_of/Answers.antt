@@ -1,17 +1,24 @@
-use Rattle.std.proofs.Common.{drop, arith, length-drop}
+use Rattle.std.proofs.Common.{◌≡◌, ◌≤◌, ◌+◌, ◌-◌, length, drop, take, ap, sym, ◌∙◌, arith, length-drop}
 use Rattle.cql_window.proofs.Ends.{before_le}
+use Rattle.cql_window.specs.Window.{count_before}
 use Rattle.cql_store.specs.Places.{shifted}
-use Rattle.cql_store.proofs.Later.{fit_pin, pin_shown}
+use Rattle.cql_store.proofs.Later.{fit_pin, fit_unseen, pin_shown}
 use Rattle.cql_store.proofs.moves.pin_of.Goals as goal
 
-pub joined-requires-2 : goal.joined-requires-2
-joined-requires-2 c = omega (arith, c.rows_before-ahead.ensures, before_le c.args.until (drop c.saturating_sub-seen.result c.args.rows.now.items), length-drop c.saturating_sub-seen.result c.args.rows.now.items, c.saturating_sub-seen.ensures, c.requires.sound.counted, c.requires.sound.within)
+pub rows_before-ahead-requires-clause-ascending : goal.rows_before-ahead-requires-clause-ascending
+rows_before-ahead-requires-clause-ascending c = rw c.saturating_sub-seen.ensures (fit_unseen c.args.rows.now (shifted c.args.gone c.args.stub.now) c.requires.sound)
 
-pub new-requires-2 : goal.new-requires-2
-new-requires-2 c = rw (c.in_ok-content.ensures, c.in_ok-unseen.ensures, c.new.ensures, c.in_ok-window.ensures, c.saturating_sub-first.ensures, c.saturating_sub-seen.ensures) (fit_pin c.args.rows.now.items c.rows_before-ahead.result (shifted c.args.gone c.args.stub.now) c.requires.sound)
+pub part-requires-clause-within : goal.part-requires-clause-within
+part-requires-clause-within c = omega (arith, c.rows_before-ahead.ensures.value, before_le c.args.until (drop c.saturating_sub-seen.result c.args.rows.now), length-drop c.saturating_sub-seen.result c.args.rows.now, c.saturating_sub-seen.ensures, c.requires.sound.counted, c.requires.sound.within)
+
+pub new-requires : goal.new-requires
+new-requires c =
+    let ahead : c.saturating_sub-seen.result + c.rows_before-ahead.result - c.saturating_sub-seen.result ≡ c.rows_before-ahead.result = omega arith in
+    rw (c.in_ok-content.ensures, c.in_ok-unseen.ensures, ahead, c.in_ok-window.ensures, c.saturating_sub-first.ensures, c.saturating_sub-seen.ensures) (fit_pin c.args.rows.now c.rows_before-ahead.result (shifted c.args.gone c.args.stub.now) c.requires.sound)
 
 pub returns : goal.returns
 returns c =
-    let rows = c.args.rows.now.items in
+    let rows = c.args.rows.now in
     let s = shifted c.args.gone c.args.stub.now in
-    rw (c.new-2.ensures, c.in_ok-content.ensures, c.in_ok-unseen.ensures, c.new.ensures, c.in_ok-window.ensures, c.rows_before-ahead.ensures, c.saturating_sub-first.ensures, c.saturating_sub-seen.ensures) (pin_shown rows c.args.until s c.requires.live)
+    let ahead : c.saturating_sub-seen.result + c.rows_before-ahead.result - c.saturating_sub-seen.result ≡ c.rows_before-ahead.result = omega arith in
+    rw (c.new.ensures, c.in_ok-content.ensures, c.in_ok-unseen.ensures, ahead, c.in_ok-window.ensures, c.rows_before-ahead.ensures.value, c.saturating_sub-first.ensures, c.saturating_sub-seen.ensures) (pin_shown rows c.args.until s c.requires.live)

@@ -1,3 +1,4 @@
+use Rattle.std.proofs.lemmas.Grind.{common_steps}
 use Rattle.std.proofs.Common.{◌≡◌, Some, IsSome, refl, sym, subst, arith, Option}
 use Rattle.slab.proofs.SlabLemmas.{Updates-with_value}
 use Rattle.cql_store.specs.declared.stub.Stub.{Stub}
@@ -26,3 +27,6 @@ returns-clause-fewer c =
     let found : slot_of slots c.args.slot ≡ Some c.in-Some.stub.now = sym c.in-Some.ensures.value in
     let over = over_live slots c.args.needs.now.limits c.args.slot c.args.count c.in-Some.stub.now c.requires.known.of_limits c.requires.slot c.requires.over (omega arith) found in
     rw c.mark.ensures (mark_fewer slots c.args.slot c.in-Some.stub.now found over.0)
+
+pub returns-clause-within : goal.returns-clause-within
+returns-clause-within c = grind (arith, common_steps)

@@ -1,8 +1,10 @@
+use Rattle.std.proofs.lemmas.Grind.{common_steps}
 use Rattle.std.proofs.Common.{◌≡◌, ◌<◌, ◌≤◌, ◌+◌, length, drop, slice_index, IfSome, false, ℕ, List, Option, Some, None, refl, sym, ap, ◌∙◌, arith, subst, length-drop}
 use Rattle.cql_syntax.specs.declared.token.Token.{Token}
 use Rattle.cql_syntax.specs.Lex as spec
-use Rattle.cql_syntax.proofs.LexLemmas.{at_end, at_none, at_token, front_end, front_more, until_more, until_last}
+use Rattle.cql_syntax.proofs.LexLemmas.{at_end, at_none, at_token, front_end, front_more, until_more, until_last, scan_steps}
 use Rattle.cql_syntax.proofs.lex.lexed.Goals as goal
+use Rattle.cql_syntax.specs.Lex.{lexed, lexed_until}
 
 blank : (z b : List ℕ) (n : ℕ) → b ≡ z → spec.is_blank (slice_index b n) ≡ false → spec.is_blank (slice_index z n) ≡ false
 blank z b n e h = subst (λ y. spec.is_blank (slice_index y n) ≡ false) e h
@@ -53,3 +55,7 @@ returns-then-at-most c =
     let e = here z _ n len c.in-Some.token c.as_bytes-bytes.ensures.value (sym c.is_blank.ensures ∙ c.if-is_blank.false) (sym c.in_ok-token.ensures.value ∙ c.in-Some.is) w in
     let k = front_more c.loop-at.lexemes c.push.new.self _ _ _ _ (ap (spec.until c.args.most) e ∙ until_last c.args.most _ _ c.if-at-most.true) c.loop-at.invariant.0 c.in_ok-push.ensures.ok in
     front_end c.push.new.self None _ _ refl k
+
+pub loop-at-preserved-then-is_blank : goal.loop-at-preserved-then-is_blank
+unfolding lexed lexed_until
+loop-at-preserved-then-is_blank c = grind (arith, common_steps, scan_steps)

@@ -1,4 +1,5 @@
-use Rattle.std.proofs.Common.{refl, rules}
+use Rattle.std.proofs.lemmas.Grind.{common_steps}
+use Rattle.std.proofs.Common.{refl, rules, arith}
 use Rattle.cql_syntax.proofs.LexLemmas.{turn_more, turn_close, turn_none, turn_left}
 use Rattle.cql_syntax.proofs.Splits.{split_some, split_none, stripped, unstripped}
 use Rattle.cql_syntax.proofs.lex.quoted.Goals as goal
@@ -24,3 +25,6 @@ loop-before-preserved c =
 
 pub returns-clause-value : goal.returns-clause-value
 returns-clause-value c = turn_none _ c.loop-before.rest.now c.args.rest.now c.loop-before.len (split_none c.loop-before.rest.now c.split_once.result c.split_once.ensures.cases c.in_default.is) c.loop-before.invariant.0
+
+pub loop-before-init : goal.loop-before-init
+loop-before-init c = grind (arith, common_steps)

@@ -10,13 +10,13 @@ use Rattle.cql_tests.proofs.pins.window.Goals as goal
 pub new-requires : goal.new-requires
 new-requires c =
     let rows = c.args.rows.items in
-    let split : c.split_off.new.self.items ++ c.in_ok-unseen.unseen.items ≡ rows = joined c.min.result rows c.in_ok-unseen.ensures.items c.in_ok-unseen.ensures.tail in
+    let split : c.in_ok-content.content ++ c.in_ok-unseen-2.unseen ≡ rows = (λ i. c.in_ok-content.ensures i ++ c.in_ok-unseen-2.ensures i) ∙ joined c.min.result rows c.in_ok-unseen.ensures.items c.in_ok-unseen.ensures.tail in
     let parts : PartsAmong one_place c.in_ok-window.window = subst (PartsAmong one_place) (sym c.in_ok-window.ensures) c.requires.parts in
     subst (AreRows c.in_ok-window.window) (sym split) (are_rows c.in_ok-window.window rows parts c.requires.rows)
 
 pub returns-clause-seen : goal.returns-clause-seen
 returns-clause-seen c =
     let rows = c.args.rows.items in
-    let split : c.split_off.new.self.items ++ c.in_ok-unseen.unseen.items ≡ rows = joined c.min.result rows c.in_ok-unseen.ensures.items c.in_ok-unseen.ensures.tail in
+    let split : c.in_ok-content.content ++ c.in_ok-unseen-2.unseen ≡ rows = (λ i. c.in_ok-content.ensures i ++ c.in_ok-unseen-2.ensures i) ∙ joined c.min.result rows c.in_ok-unseen.ensures.items c.in_ok-unseen.ensures.tail in
     let held : c.new.result.content ++ c.new.result.unseen ≡ rows = (λ i. (c.new.ensures i).content ++ (c.new.ensures i).unseen) ∙ split in
     subst (λ xs. AreOf one_number (narrowed_all one_place xs)) (sym held) (all_seen rows c.requires.rows.typed)

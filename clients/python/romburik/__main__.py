@@ -1,0 +1,205 @@
+"""The program: `python3 -m romburik`."""
+import argparse
+import getpass
+import io
+import os
+import sys
+from typing import Optional, Sequence
+
+from .errors import BadReply, ConnectionLost, Error, Refused
+from .page import serve
+from .session import Session
+from .terminal import (
+    AT_FAULT,
+    INTERRUPTED,
+    NO_CONNECTION,
+    REFUSED,
+    WRONG_LOGIN,
+    AtFault,
+    follow,
+    send_file,
+    send_piped,
+    send_script,
+    send_typed,
+)
+from .watch import watch
+
+STATUSES = """\
+what may stand behind the words:
+  watch QUERY   shows the query's newest state as it changes, and acknowledges nothing
+  page          serves a page of the tenant's queries with their plots to a browser of this
+                machine, and acknowledges nothing
+
+The key is taken from --key-file, else from the environment variable CQL_KEY, else it is asked for
+and not shown.
+
+statuses:
+  0    all was done and nothing refused; at a terminal, the lines typed came to their end
+  1    a line was refused, or what --follow asks for
+  2    a word, the key, a file, the output or the page's port is at fault
+  3    the login was refused
+  4    there was no connection, or it was lost
+  130  it was interrupted
+"""
+
+
+class _LoginRefused(Error):
+    pass
+
+
+def _key(given: argparse.Namespace) -> str:
+    """The tenant's key, which is never among the words."""
+    try:
+        if given.key_file is not None:
+            with open(given.key_file, encoding="utf-8") as file:
+                return file.readline().rstrip("\r\n")
+        return os.environ.get("CQL_KEY") or getpass.getpass(f"key of {given.tenant}: ")
+    except (EOFError, UnicodeDecodeError) as error:
+        raise AtFault("there is no key that is a text") from error
+
+
+def _say(text: str) -> None:
+    print(f"romburik: {text}", file=sys.stderr, flush=True)
+
+
+def _session(given: argparse.Namespace, tenant: str, key: str) -> Session:
+    try:
+        return Session(
+            host=given.host,
+            port=given.port,
+            tenant=tenant,
+            key=key,
+            timeout=given.timeout,
+            notice=_say,
+        )
+    except Refused as refusal:
+        raise _LoginRefused(f"the login is refused: {refusal}") from refusal
+    except UnicodeEncodeError as error:
+        raise AtFault("the tenant's name or key is no text") from error
+
+
+def _run(given: argparse.Namespace) -> int:
+    if given.script is not None:
+        return send_script(
+            lambda tenant, key: _session(given, tenant, key), given.table, given.script
+        )
+    with _session(given, given.tenant, _key(given)) as session:
+        if given.view[:1] == ["watch"]:
+            watch(session, given.view[1], {}, given.table)
+        if given.view == ["page"]:
+            serve(session, given.listen)
+        if given.follow is not None:
+            return follow(session, given.table, given.follow)
+        if given.file is not None:
+            return send_file(session, given.table, given.file)
+        if sys.stdin.isatty():
+            return send_typed(session, given.table)
+        return send_piped(session, given.table)
+
+
+def _port(word: str) -> int:
+    port = int(word)
+    if not 0 < port < 1 << 16:
+        raise ValueError("no port")
+    return port
+
+
+def _any_port(word: str) -> int:
+    return 0 if word == "0" else _port(word)
+
+
+def _seconds(word: str) -> float:
+    seconds = float(word)
+    if not 0 < seconds < 1e9:
+        raise ValueError("no time to wait")
+    return seconds
+
+
+def _parser() -> argparse.ArgumentParser:
+    parser = argparse.ArgumentParser(
+        prog="python3 -m romburik",
+        description="Sends lines to a cqld as a tenant: of a file, of standard input, or typed.",
+        epilog=STATUSES,
+        formatter_class=argparse.RawDescriptionHelpFormatter,
+        # else --key would be taken for --key-file, and a key for a file's name
+        allow_abbrev=False,
+    )
+    parser.add_argument(
+        "view", nargs="*", metavar="watch QUERY | page", help="what is shown, without being taken"
+    )
+    parser.add_argument("--port", type=_port, required=True)
+    parser.add_argument("--tenant", help="who logs in; asked for but with --script")
+    parser.add_argument("--host", default="127.0.0.1")
+    parser.add_argument("--key-file", metavar="FILE", help="a file whose first line is the key")
+    parser.add_argument(
+        "--timeout", type=_seconds, default=60.0, help="seconds to wait for the server (60)"
+    )
+    what = parser.add_mutually_exclusive_group()
+    what.add_argument("--file", metavar="FILE", help="lines to send")
+    what.add_argument(
+        "--script",
+        metavar="FILE",
+        help="a script of cqlrun, whose first line has the tenants and their keys, to send",
+    )
+    what.add_argument(
+        "--follow",
+        metavar="QUERY",
+        help="takes its blocks: shows them as they come and ACKNOWLEDGES them, so that no other "
+        "consumer is told them; watch acknowledges nothing",
+    )
+    parser.add_argument("--table", action="store_true", help="blocks and lists as aligned columns")
+    parser.add_argument(
+        "--listen", type=_any_port, help="the page's port of 127.0.0.1 (8000; 0: any that is free)"
+    )
+    return parser
+
+
+def _given(words: Optional[Sequence[str]]) -> argparse.Namespace:
+    """The words, where they go together."""
+    parser = _parser()
+    given = parser.parse_intermixed_args(words)
+    is_page = given.view == ["page"]
+    is_watch = given.view[:1] == ["watch"] and len(given.view) == 2
+    if given.view and not (is_page or is_watch):
+        parser.error("behind the words stands nothing, watch and a query's name, or page")
+    if given.view and (given.file or given.follow or given.script):
+        parser.error("watch and page go with no --file, --script or --follow")
+    if given.listen is not None and not is_page:
+        parser.error("--listen goes with page")
+    if given.script is not None and (given.tenant is not None or given.key_file is not None):
+        parser.error("--script has its tenants and keys, and goes with no --tenant or --key-file")
+    if given.script is None and given.tenant is None:
+        parser.error("--tenant is needed")
+    given.listen = 8000 if given.listen is None else given.listen
+    return given
+
+
+def main(words: Optional[Sequence[str]] = None) -> int:
+    """Runs the program and gives its status."""
+    given = _given(words)
+    if isinstance(sys.stdout, io.TextIOWrapper):
+        sys.stdout.reconfigure(errors="backslashreplace")
+    try:
+        return _run(given)
+    except KeyboardInterrupt:
+        return INTERRUPTED
+    except OSError as error:
+        # what is still to be written can't be, and the end of the program would try it
+        os.dup2(os.open(os.devnull, os.O_WRONLY), 1)
+        why, status = str(error), AT_FAULT
+    except Error as error:
+        why, status = str(error), _status(error)
+    _say(why)
+    return status
+
+
+def _status(error: Error) -> int:
+    if isinstance(error, Refused):
+        return REFUSED
+    if isinstance(error, _LoginRefused):
+        return WRONG_LOGIN
+    return NO_CONNECTION if isinstance(error, (ConnectionLost, BadReply)) else AT_FAULT
+
+
+if __name__ == "__main__":
+    sys.exit(main())

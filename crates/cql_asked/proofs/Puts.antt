@@ -1,0 +1,129 @@
+-- Lemmas on what is read of a put.
+use Rattle.std.proofs.Common.{◌≡◌, ℕ, Bool, true, false, ◌&&◌, List, [], ◌∷◌, ◌++◌, Option, Some, None, option_map, option_and_then, Vec, Global, Bor, bytes_eq, refl, sym, ap, ◌∙◌}
+use Rattle.std.specs.Prelude.{codes}
+use Rattle.std.specs.List.{list_any}
+use Rattle.std.proofs.lemmas.Slice.Eq.{bytes_eq-Decides}
+use Rattle.json.specs.Token.{Token}
+use Rattle.json.specs.Json.{value, parse_map}
+use Rattle.json.proofs.Grammar.{value_is}
+use Rattle.serde_json.specs.Data.{Num, unsigned, Data, number, string, Items, no_items, item, Members, no_members, put}
+use Rattle.serde_json.specs.Find.{get_member}
+use Rattle.serde_json.specs.Read.{of_json, number_of, converted}
+use Rattle.serde_json.proofs.Views.{get_member-put, get_member-put_other}
+use Rattle.cql_value.specs.declared.value.Value.{Value}
+use Rattle.cql_asked.specs.declared.put.Put.{Put}
+use Rattle.cql_asked.specs.declared.command.Word.TheVariants as kinds
+use Rattle.cql_asked.specs.Tree.{are_among, all_of}
+use Rattle.cql_asked.specs.Command.{keys_of, value_of}
+use Rattle.cql_asked.specs.Put.{Reads, values_of, Holds}
+use Rattle.cql_asked.proofs.Keys.{are_among-put}
+
+-- ---- single tokens
+
+pub reads_string : (depth : ℕ) (before : List Token) (s : List ℕ) (after : List Token) → before ≡ Token.string s ∷ after → Reads depth before (string s) after
+reads_string depth before s after is = ap (converted of_json) (ap (value depth) is ∙ value_is depth _)
+
+pub reads_number : (depth : ℕ) (before : List Token) (s : List ℕ) (x : Num) (after : List Token) → before ≡ Token.number s ∷ after → number_of s ≡ Some x → Reads depth before (number x) after
+reads_number depth before s x after is of = ap (converted of_json) (ap (value depth) is ∙ value_is depth _) ∙ rw of
+
+-- ---- lists that grow at their end
+
+abbrev pub items_before : Items → Items → Items
+items_before no_items rest = rest
+items_before (item d ds) rest = item d (items_before ds rest)
+
+before_none : (ds : Items) → items_before ds no_items ≡ ds
+before_none no_items = refl
+before_none (item d ds) = ap (item d) (before_none ds)
+
+before_one : (ds : Items) (d : Data) (rest : Items) → items_before ds (item d rest) ≡ items_before (items_before ds (item d no_items)) rest
+before_one no_items d rest = refl
+before_one (item e ds) d rest = ap (item e) (before_one ds d rest)
+
+pub none_before : (o : Option (Items × List Token)) → o ≡ parse_map (items_before no_items) o
+none_before None = refl
+none_before (Some p) = refl
+
+pub one_before : (ds : Items) (d : Data) (o : Option (Items × List Token)) → parse_map (items_before ds) (parse_map (item d) o) ≡ parse_map (items_before (items_before ds (item d no_items))) o
+one_before ds d None = refl
+one_before ds d (Some p) = ap (λ es. Some (es, p.1)) (before_one ds d p.0)
+
+pub all_before : (ds : Items) (after : List Token) → parse_map (items_before ds) (Some (no_items, after)) ≡ Some (ds, after)
+all_before ds after = ap (λ es. Some (es, after)) (before_none ds)
+
+behind : (o : Option Value) (more : Option (List Value)) (x : Value) → option_and_then (λ y. option_map (λ ys. y ∷ ys) (option_map (λ ys. ys ++ x ∷ []) more)) o ≡ option_map (λ ys. ys ++ x ∷ []) (option_and_then (λ y. option_map (λ ys. y ∷ ys) more) o)
+behind None more x = refl
+behind (Some y) None x = refl
+behind (Some y) (Some ys) x = refl
+
+values_push : (ds : Items) (d : Data) (x : Value) → value_of d ≡ Some x → all_of value_of (items_before ds (item d no_items)) ≡ option_map (λ ys. ys ++ x ∷ []) (all_of value_of ds)
+values_push no_items d x is = rw is
+values_push (item e ds) d x is = ap (λ more. option_and_then (λ y. option_map (λ ys. y ∷ ys) more) (value_of e)) (values_push ds d x is) ∙ behind (value_of e) (all_of value_of ds) x
+
+pub one_more_value : (ds : Items) (d : Data) (xs : List Value) (x : Value) → all_of value_of ds ≡ Some xs → value_of d ≡ Some x → all_of value_of (items_before ds (item d no_items)) ≡ Some (xs ++ x ∷ [])
+one_more_value ds d xs x done is = values_push ds d x is ∙ ap (option_map (λ ys. ys ++ x ∷ [])) done
+
+-- ---- members that come one after another
+
+other_key : (q k : List ℕ) → bytes_eq q k ≡ false → q ≡ k → ⊥
+other_key q k other e = let clash : true ≡ false = sym ((bytes_eq-Decides q k).1 e) ∙ other in cc
+
+kept : (q k : List ℕ) (d : Data) (ms : Members) → bytes_eq q k ≡ false → get_member q (put k d ms) ≡ get_member q ms
+kept q k d ms other = get_member-put_other q k d ms (other_key q k other)
+
+both : (a b : Bool) → a ≡ true → b ≡ true → (a && b) ≡ true
+both a b e f = rw (e, f)
+
+among : (k : List ℕ) (d : Data) (ms : Members) → list_any (λ key. bytes_eq key k) (keys_of kinds.Put) ≡ true → are_among (keys_of kinds.Put) ms ≡ true → are_among (keys_of kinds.Put) (put k d ms) ≡ true
+among k d ms known all = are_among-put (keys_of kinds.Put) k d ms ∙ both _ _ known all
+
+module _ (p : Put) (ms : Members) (h : Holds p ms) where
+  pub holds_word : (q : Put) → q ≡ record { is_put = true; tenant = p.tenant; stream = p.stream; at = p.at; row = p.row } → Holds q (put (codes "do") (string (codes "put")) ms)
+  holds_word q e = rw e (record {
+    word = get_member-put (codes "do") _ ms;
+    tenant = kept (codes "tenant") (codes "do") _ ms refl ∙ h.tenant;
+    stream = kept (codes "stream") (codes "do") _ ms refl ∙ h.stream;
+    at = kept (codes "at") (codes "do") _ ms refl ∙ h.at;
+    row = ap (option_map values_of) (kept (codes "row") (codes "do") _ ms refl) ∙ h.row;
+    keys = among (codes "do") _ ms refl h.keys;
+  })
+
+  pub holds_tenant : (s : Bor (List ℕ)) (q : Put) → q ≡ record { is_put = p.is_put; tenant = Some s; stream = p.stream; at = p.at; row = p.row } → Holds q (put (codes "tenant") (string s.now) ms)
+  holds_tenant s q e = rw e (record {
+    word = kept (codes "do") (codes "tenant") _ ms refl ∙ h.word;
+    tenant = get_member-put (codes "tenant") _ ms;
+    stream = kept (codes "stream") (codes "tenant") _ ms refl ∙ h.stream;
+    at = kept (codes "at") (codes "tenant") _ ms refl ∙ h.at;
+    row = ap (option_map values_of) (kept (codes "row") (codes "tenant") _ ms refl) ∙ h.row;
+    keys = among (codes "tenant") _ ms refl h.keys;
+  })
+
+  pub holds_stream : (s : Bor (List ℕ)) (q : Put) → q ≡ record { is_put = p.is_put; tenant = p.tenant; stream = Some s; at = p.at; row = p.row } → Holds q (put (codes "stream") (string s.now) ms)
+  holds_stream s q e = rw e (record {
+    word = kept (codes "do") (codes "stream") _ ms refl ∙ h.word;
+    tenant = kept (codes "tenant") (codes "stream") _ ms refl ∙ h.tenant;
+    stream = get_member-put (codes "stream") _ ms;
+    at = kept (codes "at") (codes "stream") _ ms refl ∙ h.at;
+    row = ap (option_map values_of) (kept (codes "row") (codes "stream") _ ms refl) ∙ h.row;
+    keys = among (codes "stream") _ ms refl h.keys;
+  })
+
+  pub holds_at : (n : ℕ) (q : Put) → q ≡ record { is_put = p.is_put; tenant = p.tenant; stream = p.stream; at = Some n; row = p.row } → Holds q (put (codes "at") (number (unsigned n)) ms)
+  holds_at n q e = rw e (record {
+    word = kept (codes "do") (codes "at") _ ms refl ∙ h.word;
+    tenant = kept (codes "tenant") (codes "at") _ ms refl ∙ h.tenant;
+    stream = kept (codes "stream") (codes "at") _ ms refl ∙ h.stream;
+    at = get_member-put (codes "at") _ ms;
+    row = ap (option_map values_of) (kept (codes "row") (codes "at") _ ms refl) ∙ h.row;
+    keys = among (codes "at") _ ms refl h.keys;
+  })
+
+  pub holds_row : (d : Data) (v : Vec Value Global) (q : Put) → values_of d ≡ Some v.items → q ≡ record { is_put = p.is_put; tenant = p.tenant; stream = p.stream; at = p.at; row = Some v } → Holds q (put (codes "row") d ms)
+  holds_row d v q is e = rw e (record {
+    word = kept (codes "do") (codes "row") _ ms refl ∙ h.word;
+    tenant = kept (codes "tenant") (codes "row") _ ms refl ∙ h.tenant;
+    stream = kept (codes "stream") (codes "row") _ ms refl ∙ h.stream;
+    at = kept (codes "at") (codes "row") _ ms refl ∙ h.at;
+    row = ap (option_map values_of) (get_member-put (codes "row") _ ms) ∙ ap Some is;
+    keys = among (codes "row") _ ms refl h.keys;
+  })

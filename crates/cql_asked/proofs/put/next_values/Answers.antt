@@ -1,0 +1,38 @@
+use Rattle.std.proofs.Common.{◌≡◌, ◌-◌, ◌<◌, length, None, Some, sym, ap, ◌∙◌, arith}
+use Rattle.json.specs.Json.{after_end_array, value, parse_map}
+use Rattle.serde_json.specs.Data.{no_items, item}
+use Rattle.cql_asked.proofs.Turns.{item_read, items_over}
+use Rattle.cql_asked.proofs.Puts.{items_before, none_before, one_before, all_before, one_more_value}
+use Rattle.cql_asked.proofs.put.next_values.Goals as goal
+
+pub values-init : goal.values-init
+values-init c = (length c.args.reader.now, no_items, omega arith, omega arith, ap Some (sym c.new-values.ensures.items), none_before _)
+
+pub values-preserved : goal.values-preserved
+values-preserved c =
+    let p = value 125 in
+    let l = c.values in
+    let n = l.invariant.0 in
+    let ds = l.invariant.1 in
+    let going : (after_end_array l.reader ≡ None) × (c.take_end_array.new.self ≡ l.reader) = grind arith in
+    let done = c.in_ok-value.ensures in
+    let r = c.next_value.new.reader in
+    let d = done.ok.0 in
+    let less : length r < length l.reader = rw (← going.1) done.shorter in
+    let turn = item_read p n l.reader r d (omega (arith, l.invariant.2)) going.0 (rw (← going.1) done.ok.1) in (
+      n - 1,
+      items_before ds (item d no_items),
+      omega (arith, l.invariant.2),
+      omega (arith, l.invariant.3),
+      one_more_value ds d l.values.items c.in_ok-value.value l.invariant.4 done.ok.2 ∙ ap Some (sym c.in_ok-push.ensures.items),
+      l.invariant.5 ∙ ap (parse_map (items_before ds)) turn ∙ one_before ds d _,
+    )
+
+pub returns-clause-ok : goal.returns-clause-ok
+returns-clause-ok c =
+    let p = value 125 in
+    let l = c.values in
+    let n = l.invariant.0 in
+    let ds = l.invariant.1 in
+    let r = c.take_end_array.new.self in
+    (ds, l.invariant.5 ∙ ap (parse_map (items_before ds)) (items_over p n l.reader r l.invariant.2 (grind arith)) ∙ all_before ds r, l.invariant.4)

@@ -1,0 +1,63 @@
+-- What is read of a put, beside the members of its line; for private clauses.
+use Rattle.std.specs.Prelude.{◌≡◌, ℕ, Bool, true, false, List, codes, Option, Some, None, option_map, option_and_then, length, Result, Ok}
+use Rattle.json.specs.Token.{Token}
+use Rattle.json.specs.Json.{value, items, members}
+use Rattle.serde_json.specs.Data.{Data, number, unsigned, string, object, Items, Members, no_members, put}
+use Rattle.serde_json.specs.Find.{get_member, as_array}
+use Rattle.serde_json.specs.Read.{of_json, of_items, of_members, converted}
+use Rattle.cql_value.specs.declared.value.Value.{Value}
+use Rattle.cql_meaning.specs.declared.command.Command.{Command}
+use Rattle.cql_asked.specs.declared.put.Put.{Put}
+use Rattle.cql_asked.specs.declared.command.Word.TheVariants as kinds
+use Rattle.cql_asked.specs.Tree.{are_among, all_of}
+use Rattle.cql_asked.specs.Command.{keys_of, value_of, of_data}
+
+-- ---- what the tokens begin with
+
+abbrev pub Reads : ℕ → List Token → Data → List Token → Type 0
+Reads depth before d after = converted of_json (value depth before) ≡ Some (d, after)
+
+abbrev pub ReadsValue : ℕ → List Token → Value → List Token → Type 0
+ReadsValue depth before v after = (d : Data) × Reads depth before d after × (value_of d ≡ Some v)
+
+-- the values of a list
+abbrev pub values_of : Data → Option (List Value)
+values_of d = option_and_then (all_of value_of) (as_array d)
+
+abbrev pub ReadsRow : ℕ → List Token → List Value → List Token → Type 0
+ReadsRow depth before vs after = (d : Data) × Reads depth before d after × (values_of d ≡ Some vs)
+
+-- the rest of a list
+abbrev pub ReadsItems : ℕ → List Token → List Value → List Token → Type 0
+ReadsItems depth before vs after = (ds : Items) × (converted of_items (items (value depth) (length before) before) ≡ Some (ds, after)) × (all_of value_of ds ≡ Some vs)
+
+-- ---- what was read
+
+abbrev pub word_at : Bool → Option Data
+word_at true = Some (string (codes "put"))
+word_at false = None
+
+-- these are the members that were read, and no key is among them that a put hasn't
+pub record Holds (p : Put) (ms : Members) : Type 0 where
+  pub word : get_member (codes "do") ms ≡ word_at p.is_put
+  pub tenant : get_member (codes "tenant") ms ≡ option_map (λ s. string s.now) p.tenant
+  pub stream : get_member (codes "stream") ms ≡ option_map (λ s. string s.now) p.stream
+  pub at : get_member (codes "at") ms ≡ option_map (λ n. number (unsigned n)) p.at
+  pub row : option_map values_of (get_member (codes "row") ms) ≡ option_map (λ v. Some v.items) p.row
+  pub keys : are_among (keys_of kinds.Put) ms ≡ true
+
+-- the value of a key was added
+abbrev pub Takes : Put → Put → List ℕ → List Token → List Token → Type 0
+Takes old new key before after = (d : Data) × Reads 126 before d after × ((ms : Members) → Holds old ms → Holds new (put key d ms))
+
+-- the rest of an object
+abbrev pub ReadsMembers : List Token → Put → List Token → Type 0
+ReadsMembers before p after = (ms : Members) × (converted (λ ms. of_members ms no_members) (members (value 126) (length before) before) ≡ Some (ms, after)) × Holds p ms
+
+-- an object
+abbrev pub ReadsPut : List Token → Put → List Token → Type 0
+ReadsPut before p after = (ms : Members) × Reads 127 before (object ms) after × Holds p ms
+
+-- it is what an object of these members asks
+abbrev pub IsCall : Put → Option (List ℕ) × Command → Type 0
+IsCall p call = (ms : Members) → Holds p ms → of_data (Some (object ms)) ≡ Ok call

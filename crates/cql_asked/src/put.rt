@@ -1,0 +1,260 @@
+//! A put, read straight into its row.
+//!
+//! Most lines are puts. One that has what a put has and nothing else is read in one pass, with no
+//! tree. Whatever else a line is, and why it is refused, is told by its tree.
+ghost use Rattle.std.specs.Prelude.{◌≡◌, ◌<◌, length, Some, Ok, option_map, IfOk, OnOk};
+ghost use Rattle.serde_json.specs.Data.{string, number, unsigned, no_members};
+ghost use Rattle.serde_json.specs.Read.{read};
+ghost use Rattle.cql_asked.specs.Command.{of_data};
+ghost use Rattle.cql_asked.specs.Put.{Reads, ReadsValue, ReadsRow, ReadsItems, ReadsMembers, ReadsPut, Holds, Takes, IsCall};
+
+use crate::reading::read_number;
+use crate::tree::Number;
+use cql_meaning::Command;
+use cql_value::{Row, Text, Value};
+use json::{Invalid, Reader, Scratch, Token};
+use std::alloc::{AllocError, AllocFailed, Global};
+
+/// Why no put was read.
+#[derive(Clone, Copy, Drop, PartialEq, Eq)]
+pub(crate) enum NoPut {
+    /// The line is another command's, or to be refused.
+    Other,
+    /// There was no memory.
+    NoMemory,
+}
+
+impl From<Invalid> for NoPut {
+    ghost use Rattle.cql_asked.specs.declared.put.NoPut.TheVariants.{Other};
+
+    ghost from_gives = { λ _ e. e ≡ Other };
+
+    fn from(_invalid: Invalid) -> NoPut {
+        NoPut::Other
+    }
+}
+
+impl From<AllocError> for NoPut {
+    ghost use Rattle.cql_asked.specs.declared.put.NoPut.TheVariants.{NoMemory};
+
+    ghost from_gives = { λ _ e. e ≡ NoMemory };
+
+    fn from(_error: AllocError) -> NoPut {
+        NoPut::NoMemory
+    }
+}
+
+impl<T: Drop> From<AllocFailed<T>> for NoPut {
+    ghost use Rattle.cql_asked.specs.declared.put.NoPut.TheVariants.{NoMemory};
+
+    ghost from_gives = { λ _ e. e ≡ NoMemory };
+
+    fn from(_error: AllocFailed<T>) -> NoPut {
+        NoPut::NoMemory
+    }
+}
+
+// The text that is next.
+fn next_text<'a>(reader: &mut Reader<'a>) -> Result<&'a str, NoPut>
+    ensures ok { IfOk result (λ s. Reads 126 reader.old (string s.now) reader.new) }
+    ensures shorter { OnOk result (length reader.new < length reader.old) }
+{
+    let token = reader.next().ok_or(NoPut::Other)?;
+    match token {
+        Token::String(text) => Ok(text),
+        _ => Err(NoPut::Other),
+    }
+}
+
+// The whole number that is next, from 0 up.
+fn next_whole(reader: &mut Reader<'_>) -> Result<u64, NoPut>
+    ensures ok { IfOk result (λ n. Reads 126 reader.old (number (unsigned n)) reader.new) }
+    ensures shorter { OnOk result (length reader.new < length reader.old) }
+{
+    let token = reader.next().ok_or(NoPut::Other)?;
+    match token {
+        Token::Number(text) => match read_number(text) {
+            Some(Number::Unsigned(n)) => Ok(n),
+            _ => Err(NoPut::Other),
+        },
+        _ => Err(NoPut::Other),
+    }
+}
+
+// The value of a row that is next.
+fn next_value(alloc: Global, reader: &mut Reader<'_>) -> Result<Value, NoPut>
+    ensures ok { IfOk result (λ v. ReadsValue 125 reader.old v reader.new) }
+    ensures shorter { OnOk result (length reader.new < length reader.old) }
+{
+    let token = reader.next().ok_or(NoPut::Other)?;
+    match token {
+        Token::Number(text) => {
+            let number = read_number(text).ok_or(NoPut::Other)?;
+            let number = number.as_i64().ok_or(NoPut::Other)?;
+            Ok(Value::Number(number))
+        }
+        Token::String(text) => {
+            let text = Text::new(alloc, text)?;
+            Ok(Value::Text(text))
+        }
+        _ => Err(NoPut::Other),
+    }
+}
+
+// The values up to the bracket that closes their row.
+fn next_values(alloc: Global, reader: &mut Reader<'_>) -> Result<Vec<Value>, NoPut>
+    ensures ok { IfOk result (λ v. ReadsItems 125 reader.old v.items reader.new) }
+    ensures shorter { OnOk result (length reader.new < length reader.old) }
+{
+    let mut values = Vec::new(alloc);
+    'values: while !reader.take_end_array() {
+        let value = next_value(alloc, reader)?;
+        values.push(value)?;
+    }
+    Ok(values)
+}
+
+// The row that is next.
+fn next_row(alloc: Global, reader: &mut Reader<'_>) -> Result<Vec<Value>, NoPut>
+    ensures ok { IfOk result (λ v. ReadsRow 126 reader.old v.items reader.new) }
+    ensures shorter { OnOk result (length reader.new < length reader.old) }
+{
+    let token = reader.next().ok_or(NoPut::Other)?;
+    match token {
+        Token::BeginArray => {
+            let values = next_values(alloc, reader)?;
+            Ok(values)
+        }
+        _ => Err(NoPut::Other),
+    }
+}
+
+/// What is read of a put so far.
+struct Put<'a> {
+    is_put: bool,
+    tenant: Option<&'a str>,
+    stream: Option<&'a str>,
+    at: Option<u64>,
+    row: Option<Vec<Value>>,
+}
+
+impl Drop for Put<'_> {
+    fn drop(self) {
+        let Put {
+            is_put: _,
+            tenant: _,
+            stream: _,
+            at: _,
+            row: _,
+        } = self;
+    }
+}
+
+impl<'a> Put<'a> {
+    fn new() -> Put<'a>
+        ensures { Holds result no_members }
+    {
+        Put {
+            is_put: false,
+            tenant: None,
+            stream: None,
+            at: None,
+            row: None,
+        }
+    }
+
+    // Takes what stands at a key of a put.
+    fn take(&mut self, alloc: Global, reader: &mut Reader<'a>, key: &str) -> Result<(), NoPut>
+        ensures ok { OnOk result (Takes self.old self.new key.now reader.old reader.new) }
+        ensures shorter { OnOk result (length reader.new < length reader.old) }
+    {
+        match key {
+            "at" => self.at = Some(next_whole(reader)?),
+            "do" => {
+                if next_text(reader)? != "put" {
+                    return Err(NoPut::Other);
+                }
+                self.is_put = true;
+            }
+            "row" => self.row = Some(next_row(alloc, reader)?),
+            "stream" => self.stream = Some(next_text(reader)?),
+            "tenant" => self.tenant = Some(next_text(reader)?),
+            _ => return Err(NoPut::Other),
+        }
+        Ok(())
+    }
+
+    // The command, where nothing is missing.
+    fn command(self, alloc: Global) -> Result<(Option<Text>, Command), NoPut>
+        ensures { IfOk result (λ call. IsCall self.entry call) }
+    {
+        let Put {
+            is_put,
+            tenant,
+            stream,
+            at,
+            row,
+        } = self;
+        if !is_put {
+            return Err(NoPut::Other);
+        }
+        let at = at.ok_or(NoPut::Other)?;
+        let stream = stream.ok_or(NoPut::Other)?;
+        let row = row.ok_or(NoPut::Other)?;
+        let row = Row::new(alloc, row)?;
+        let stream = Text::new(alloc, stream)?;
+        let tenant = copied(alloc, tenant)?;
+        Ok((tenant, Command::Put { stream, at, row }))
+    }
+}
+
+fn copied(alloc: Global, text: Option<&str>) -> Result<Option<Text>, AllocError>
+    ensures { IfOk result (λ copy. copy ≡ option_map (λ s. s.now) text.entry) }
+{
+    match text {
+        Some(text) => Ok(Some(Text::new(alloc, text)?)),
+        None => Ok(None),
+    }
+}
+
+// The put of the rest of an object.
+fn next_members<'a>(alloc: Global, reader: &mut Reader<'a>) -> Result<Put<'a>, NoPut>
+    ensures { IfOk result (λ put. ReadsMembers reader.old put reader.new) }
+{
+    let mut put = Put::new();
+    'members: while let Some(key) = reader.next_key()? {
+        put.take(alloc, reader, key)?;
+    }
+    Ok(put)
+}
+
+// The put that is next.
+fn next_put<'a>(alloc: Global, reader: &mut Reader<'a>) -> Result<Put<'a>, NoPut>
+    ensures { IfOk result (λ put. ReadsPut reader.old put reader.new) }
+{
+    let token = reader.next().ok_or(NoPut::Other)?;
+    match token {
+        Token::BeginObject => {
+            let put = next_members(alloc, reader)?;
+            Ok(put)
+        }
+        _ => Err(NoPut::Other),
+    }
+}
+
+// The put that a text is, if it is one.
+pub(crate) fn read_put(
+    alloc: Global,
+    text: &str,
+    scratch: &mut Scratch,
+) -> Result<(Option<Text>, Command), NoPut>
+    ensures { IfOk result (λ call. of_data (read text.now) ≡ Ok call) }
+{
+    let mut reader = Reader::new(text, scratch)?;
+    let put = next_put(alloc, &mut reader)?;
+    if reader.next().is_some() {
+        return Err(NoPut::Other);
+    }
+    let call = put.command(alloc)?;
+    Ok(call)
+}

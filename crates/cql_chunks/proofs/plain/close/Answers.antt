@@ -1,0 +1,12 @@
+use Rattle.std.proofs.Common.{◌≡◌, arith, rules, ap, sym, ◌∙◌, [], ◌∷◌, ◌++◌, append-nil}
+use Rattle.cql_chunks.specs.Chunks.{rows_of, AreFull}
+use Rattle.cql_chunks.proofs.Rows.{rows_close, full_close}
+use Rattle.cql_chunks.proofs.plain.close.Goals as goal
+
+pub returns-in-Ok-push_back-clause-rows : goal.returns-in-Ok-push_back-clause-rows
+returns-in-Ok-push_back-clause-rows c =
+    let full = c.args.full.now.items in
+    let last = c.args.last.now.items in
+    let pushed : c.push_back.new.self.items ≡ full ++ last ∷ [] = search rules in
+    let none : c.replace.new.dest.items ≡ [] = search rules in
+    rw (pushed, none) (rows_close full last [] ∙ ap (rows_of full) (append-nil last))

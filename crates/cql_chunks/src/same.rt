@@ -1,0 +1,50 @@
+// Whether two lists of rows are the same.
+ghost use Rattle.std.specs.Prelude.{◌≡◌, ◌↔◌, [], ◌++◌, IsTrue};
+
+use crate::stretch::Stretch;
+use cql_value::{Timed, are_same};
+
+// The next rows that lie together of a run, and of two stretches after it: none only where no row
+// is left.
+fn next_run<'a>(run: &'a [Timed], first: &mut Stretch<'a>, second: &mut Stretch<'a>) -> &'a [Timed]
+    ensures rows { result.now ++ (first.new ++ second.new) ≡ run.now ++ (first.old ++ second.old) }
+    ensures none { result.now ≡ [] → first.new ++ second.new ≡ [] }
+{
+    if !run.is_empty() {
+        return run;
+    }
+    let run = first.take_run();
+    if !run.is_empty() {
+        return run;
+    }
+    second.take_run()
+}
+
+/// Whether two stretches after one another have the same rows, in order, as two others. Takes no
+/// memory.
+pub fn are_joined_same<'a, 'b>(
+    one: (Stretch<'a>, Stretch<'a>),
+    other: (Stretch<'b>, Stretch<'b>),
+) -> bool
+    ensures { IsTrue result ↔ (one.entry.0 ++ one.entry.1 ≡ other.entry.0 ++ other.entry.1) }
+{
+    let (mut first, mut second) = one;
+    let (mut third, mut fourth) = other;
+    let mut left: &'a [Timed] = &[];
+    let mut right: &'b [Timed] = &[];
+    loop {
+        left = next_run(left, &mut first, &mut second);
+        right = next_run(right, &mut third, &mut fourth);
+        let count = left.len().min(right.len());
+        if count == 0 {
+            return left.is_empty() && right.is_empty();
+        }
+        let (front, more) = left.split_at(count);
+        let (same, others) = right.split_at(count);
+        if !are_same(front, same) {
+            return false;
+        }
+        left = more;
+        right = others;
+    }
+}

@@ -1,0 +1,90 @@
+// The rows of a tree.
+ghost use Rattle.std.specs.Prelude.{◌≡◌, ◌≤◌, ◌<◌, ◌^◌, IfOk, length, map, drop, take, slice_index_or};
+ghost use Rattle.std.specs.Arc.{arc_value};
+ghost use Rattle.cql_seq.specs.Seq.{row_in};
+
+use crate::plain::LIMIT;
+use cql_seq::Seq;
+use cql_value::Timed;
+use std::alloc::AllocError;
+use std::marker::Model;
+use std::slice;
+use std::sync::Arc;
+
+/// The rows of a tree from a place on. The tree is shared.
+#[derive(Drop)]
+pub(crate) struct Tree {
+    rows: Arc<Seq>,
+    // So many rows at the front are gone.
+    gone: usize,
+}
+
+impl Model for Tree {
+    ghost use Rattle.std.specs.Prelude.{◌≤◌, ◌<◌, ◌^◌, List, drop, length, map};
+    ghost use Rattle.std.specs.Arc.{arc_value};
+    ghost use Rattle.cql_value.specs.Element.{Element};
+    ghost use Rattle.cql_seq.specs.Seq.{row_in};
+
+    ghost Value = { List Element };
+
+    ghost view = { λ t. drop t.gone (map row_in (arc_value t.rows)) };
+
+    ghost invariant = { λ t. (t.gone ≤ length (arc_value t.rows)) × (length (arc_value t.rows) < 2 ^ 63) };
+}
+
+impl Tree {
+    /// All rows of a tree. No list has 2^63 rows: such a tree is refused as for want of memory.
+    pub(crate) fn of(rows: Arc<Seq>) -> Result<Tree, AllocError>
+        ensures { IfOk result (λ t. t ≡ map row_in (arc_value rows)) }
+    {
+        if rows.len() > LIMIT {
+            return Err(AllocError);
+        }
+        Ok(Tree { rows, gone: 0 })
+    }
+
+    /// How many rows there are.
+    pub(crate) fn len(&self) -> usize
+        ensures value { result ≡ length self.now }
+        ensures small { result < 2 ^ 63 }
+    {
+        self.rows.len() - self.gone
+    }
+
+    /// So many rows at the front go: none is looked at.
+    pub(crate) fn drop_front(&mut self, count: usize)
+        requires { count ≤ length self.old }
+        ensures { self.new ≡ drop count self.old }
+    {
+        self.gone += count;
+    }
+
+    /// The row at a place, in the time of a logarithm.
+    pub(crate) fn get(&self, place: usize) -> &Timed
+        requires { place < length self.now }
+        ensures { result.now ≡ slice_index_or self.now place result.now }
+    {
+        match self.rows.get(self.gone + place) {
+            Some(entry) => &entry.row,
+            None => unreachable!(),
+        }
+    }
+
+    /// The row at a place, as rows that lie together.
+    pub(crate) fn run(&self, place: usize) -> &[Timed]
+        requires { place < length self.now }
+        ensures rows { result.now ≡ take 1 (drop place self.now) }
+        ensures one { length result.now ≡ 1 }
+    {
+        slice::from_ref(self.get(place))
+    }
+
+    /// The same rows with one more holder.
+    pub(crate) fn share(&self) -> Result<Tree, AllocError>
+        ensures { IfOk result (λ t. t ≡ self.now) }
+    {
+        let rows = Arc::try_clone(&self.rows)?;
+        let gone = self.gone;
+        Ok(Tree { rows, gone })
+    }
+}

@@ -1,0 +1,19 @@
+use Rattle.std.proofs.Common.{subst, sym}
+use Rattle.std.proofs.lemmas.List.Elements.{All-rest, All-push}
+use Rattle.std.specs.List.{All}
+use Rattle.std.specs.Vec.Iter.{into_iter_items}
+use Rattle.cql_ops.specs.Bench.{IsBench}
+use Rattle.cql_eval.specs.Warm.{IsWarm}
+use Rattle.cql_eval.proofs.pool.Pool.new.Goals as goal
+
+pub loop-bench-preserved : goal.loop-bench-preserved
+loop-bench-preserved g c =
+    let is = IsBench g.O.Operator.seen_in in
+    let warm = IsWarm g.O.Operator.seen_in in
+    let b = c.in-Some.bench in
+    let rest = into_iter_items c.next.new.self in
+    let steps = c.in-Some.ensures.steps.0 in
+    record {
+      left = All-rest is b rest (into_iter_items c.loop-bench.bench-iterator) steps c.loop-bench.invariant.left;
+      made = subst (All warm) (sym c.in_ok-push.ensures.items) (All-push warm c.loop-bench.warm.items c.new.result c.loop-bench.invariant.made c.new.ensures);
+    }

@@ -1,0 +1,15 @@
+use Rattle.std.proofs.Common.{sym, subst}
+use Rattle.std.proofs.lemmas.Result.{IfOk-weaker}
+use Rattle.cql_out.specs.declared.relation.Relation.TheVariants.{Bag}
+use Rattle.cql_eval.specs.Shown.{StandsFor, LeadsTo, Tells}
+use Rattle.cql_eval.proofs.shown.tell.Goals as goal
+
+pub returns-in-Changed : goal.returns-in-Changed
+returns-in-Changed c =
+    IfOk-weaker c.tell_all.result _ _
+    (λ r h told after before now stands leads.
+    let kind = c.args.kind in
+    let to = subst (λ q. LeadsTo q told after now) c.in-Changed.is leads in
+    subst (λ n. StandsFor kind r.0 after n × Tells kind r.1 before n) (sym to.2)
+    (subst (λ a. StandsFor kind r.0 a (Bag a) × Tells kind r.1 before (Bag a)) (sym to.1) (h told before stands to.0)))
+    c.tell_all.ensures

@@ -1,0 +1,12 @@
+use Rattle.std.proofs.Common.{subst}
+use Rattle.cql_eval.specs.Shown.{StandsFor}
+use Rattle.cql_eval.proofs.shown.tell_all.Goals.{in-Rstream+in_ok-list_changes-in-Rstream, in_default+in_ok-last-in_default}
+use Rattle.cql_eval.proofs.shown.tell_all.Goals as goal
+
+pub returns : goal.returns
+returns c = λ told before stands can.
+    elim c.match-kind.branch [
+      | in-Rstream+in_ok-list_changes-in-Rstream w ↦
+          rw (w.last-is, w.in-Rstream.is) (w.in_ok-list_changes-in-Rstream.ensures told before (subst (λ k. StandsFor k c.args.last told before) w.in-Rstream.is stands) can)
+      | in_default+in_ok-last-in_default w ↦ rw w.last-is (w.in_ok-last-in_default.ensures w.in_default.not-Rstream told before stands can)
+    ]

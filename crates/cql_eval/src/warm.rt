@@ -1,0 +1,341 @@
+// A bench that goes on where its last answer ended.
+ghost use Rattle.std.specs.Prelude.{◌≡◌, ◌<◌, IfOk, IfSome, IsTrue, map};
+ghost use Rattle.std.specs.Arc.{arc_value};
+ghost use Rattle.cql_ops.specs.Bench.{BenchSeen, IsBench, bench_seen};
+ghost use Rattle.cql_eval.specs.Seen.{reached, windows_seen};
+ghost use Rattle.cql_eval.specs.Shown.{bags_held, IsShown};
+ghost use Rattle.cql_eval.specs.Warm.{IsKept, StandsBehind, IsWarm};
+
+use crate::answered::Answer;
+use crate::evaluate::{evaluate, nothing_asked};
+use crate::pin::Pin;
+use crate::seen_walk::SeenWalk;
+use crate::shown::{LastTold, Shown};
+use crate::walks::advance;
+use cql_ops::{BenchOf, Operator};
+use cql_value::Items;
+use std::alloc::{AllocError, Global};
+use std::marker::Model;
+use std::sync::Arc;
+
+/// Of windows with more rows in all nothing is kept.
+pub const MOST: usize = 1 << 18;
+
+// So many rows are always pushed before a bench is started anew.
+const FEW: usize = 4096;
+
+/// What is kept of an answer: its pin, which the answer shares, and what is kept of the relation at
+/// the pin's end.
+pub struct Kept {
+    pin: Arc<Pin>,
+    last: LastTold,
+}
+
+impl Drop for Kept {
+    fn drop(self) {
+        let Kept { pin: _, last: _ } = self;
+    }
+}
+
+impl Model for Kept {
+    ghost use Rattle.cql_plan.specs.contracts.expr.Expr as expr;
+    ghost use Rattle.cql_plan.specs.contracts.condition.Condition as condition;
+    ghost use Rattle.std.specs.Coded.{codes};
+    ghost use Rattle.std.specs.Arc.{arc_value};
+    ghost use Rattle.cql_eval.specs.Kept.{KeptSeen};
+
+    ghost Value = { KeptSeen };
+
+    ghost coded = { Prim.hlevel (codes, expr.the_row.coded, condition.the_row.coded) };
+
+    ghost view = { λ k. record { pin = arc_value k.pin; last = k.last } };
+}
+
+impl Kept {
+    pub(crate) fn new(pin: Arc<Pin>, last: LastTold) -> Kept
+        ensures { result ≡ record { pin = arc_value pin; last = last } }
+    {
+        Kept { pin, last }
+    }
+
+    fn pin(&self) -> &Pin
+        ensures { result.now ≡ self.now.pin }
+    {
+        &self.pin
+    }
+
+    fn into_last(self) -> LastTold
+        ensures { result ≡ self.last }
+    {
+        let Kept { pin: _, last } = self;
+        last
+    }
+}
+
+/// A bench that answers pins in turn. Where a pin goes on where the last one ended, that is where
+/// its windows hold at its first cursor what those of the last one held at their end, the bench goes
+/// on too; else it is started anew. `new` makes one that `IsWarm`, and every call keeps that.
+#[derive(Drop)]
+pub struct Warm<O> {
+    pub bench: BenchOf<O>,
+    pub kept: Option<Kept>,
+    // No more rows were pushed since the operators were started.
+    pushed: usize,
+    // When it was put back, in seconds.
+    used: u64,
+}
+
+impl<O: Operator> Warm<O> {
+    /// A bench that stands for nothing.
+    pub fn new(bench: BenchOf<O>) -> Warm<O>
+        requires { IsBench O.seen_in bench }
+        ensures { IsWarm O.seen_in result }
+    {
+        Warm {
+            bench,
+            kept: None,
+            pushed: 0,
+            used: 0,
+        }
+    }
+
+    /// Whether it stands for no query.
+    pub fn is_empty(&self) -> bool {
+        self.kept.is_none()
+    }
+
+    // Whether it seems to go on with the pin, by the plan, the limit and the windows' first rows.
+    // Without memory it seems not to.
+    pub(crate) fn seems_to_go_on(&self, alloc: Global, pin: &Pin) -> bool {
+        match &self.kept {
+            Some(kept) => matches!(seem_same(alloc, pin, kept, kept.pin().next()), Ok(true)),
+            None => false,
+        }
+    }
+
+    // Whether it seems to stand for the pin's query, though for a later place of it: its last pin
+    // went beyond where this one begins, and held there what this one does. Without memory it seems
+    // not to.
+    pub(crate) fn seems_to_stand_for(&self, alloc: Global, pin: &Pin) -> bool {
+        match &self.kept {
+            Some(kept) if kept.pin().has(pin.from()) => {
+                matches!(seem_same(alloc, pin, kept, pin.from()), Ok(true))
+            }
+            _ => false,
+        }
+    }
+
+    // Whether it stands for a query, and was put back before the time.
+    pub(crate) fn is_unused(&self, since: u64) -> bool {
+        self.kept.is_some() && self.used < since
+    }
+
+    // The same, put back at the time.
+    pub(crate) fn put_back(self, now: u64) -> Warm<O>
+        requires { IsWarm O.seen_in self }
+        ensures { IsWarm O.seen_in result }
+    {
+        let Warm {
+            bench,
+            kept,
+            pushed,
+            used: _,
+        } = self;
+        Warm {
+            bench,
+            kept,
+            pushed,
+            used: now,
+        }
+    }
+
+    // The same, which goes on with no pin.
+    pub(crate) fn forgotten(self) -> Warm<O>
+        requires { IsWarm O.seen_in self }
+        ensures { IsWarm O.seen_in result }
+    {
+        let Warm {
+            bench,
+            kept: _,
+            pushed: _,
+            used: _,
+        } = self;
+        Warm::new(bench)
+    }
+
+    /// Lets go of what is kept, and of the rows that the operators hold.
+    pub fn clear(&mut self, alloc: Global)
+        requires { IsWarm O.seen_in self.old }
+        ensures { IsWarm O.seen_in self.new }
+    {
+        self.kept = None;
+        self.bench.clear(alloc);
+    }
+
+    // Keeps what stands for the relation at the end of a pin, where that isn't too large; else the
+    // operators let go of their rows.
+    fn keep(&mut self, alloc: Global, pin: &Arc<Pin>, last: Option<LastTold>)
+        requires bench { IsBench O.seen_in self.old.bench }
+        requires kept { IfSome last (λ r. IsKept (arc_value pin.now) r (bench_seen O.seen_in self.old.bench)) }
+        ensures { IsWarm O.seen_in self.new }
+    {
+        self.kept = kept_of(pin, last, self.pushed);
+        if self.kept.is_none() {
+            self.bench.clear(alloc);
+        }
+    }
+
+    /// The blocks of a pin, as `answer` gives them. Without memory the pin is given up, and what was
+    /// kept too.
+    pub fn answer(&mut self, alloc: Global, pin: Pin) -> Result<Answer, AllocError>
+        requires { IsWarm O.seen_in self.old }
+        ensures warm { IsWarm O.seen_in self.new }
+        ensures pin { IfOk result (λ a. a.pin ≡ pin) }
+    {
+        let pin = Arc::new(alloc, pin)?;
+        if pin.from() == pin.next() {
+            let blocks = nothing_asked(alloc, &pin);
+            return Ok(Answer::new(pin, Items::from_vec(blocks), 0));
+        }
+        let kept = self.kept.take();
+        let before = if kept.is_some() { self.pushed } else { 0 };
+        self.pushed = before.saturating_add(pin.rows_to_push(kept.is_some()));
+        match evaluate(alloc, &mut self.bench, &pin, kept) {
+            Ok((blocks, turns, last)) => {
+                self.keep(alloc, &pin, last);
+                Ok(Answer::new(pin, Items::from_vec(blocks), turns))
+            }
+            Err(AllocError) => {
+                self.keep(alloc, &pin, None);
+                Err(AllocError)
+            }
+        }
+    }
+}
+
+// What is kept of a pin and the relation at its end, where no window is one of parts, with which no
+// pin goes on, where its windows have no more rows than `MOST`, and where no more were pushed than a start over these would be worth: operators may keep
+// a change for each.
+fn kept_of(pin: &Arc<Pin>, last: Option<LastTold>, pushed: usize) -> Option<Kept>
+    ensures { IfSome result (λ k. (o : BenchSeen) → IfSome last (λ r. IsKept (arc_value pin.now) r o) → StandsBehind k o) }
+{
+    let last = last?;
+    if pin.has_parts() {
+        return None;
+    }
+    let rows = pin.rows();
+    if rows > MOST || pushed > rows.saturating_mul(4).saturating_add(FEW) {
+        return None;
+    }
+    match Arc::try_clone(pin) {
+        Ok(pin) => Some(Kept::new(pin, last)),
+        Err(AllocError) => None,
+    }
+}
+
+// A walk over each window, at a cursor.
+fn walks_at<'a>(alloc: Global, pin: &'a Pin, cursor: u64) -> Result<Vec<SeenWalk<'a>>, AllocError>
+    ensures { IfOk result (λ v. v.items ≡ map (reached cursor) (windows_seen pin.now)) }
+{
+    let inputs = pin.plan().inputs();
+    let windows = pin.windows();
+    let mut walks = Vec::new(alloc);
+    for (input, window) in inputs.iter().zip(windows) {
+        let walk = SeenWalk::at(alloc, window, input.places.as_slice(), cursor)?;
+        walks.push(walk)?;
+    }
+    Ok(walks)
+}
+
+// Whether walks hold what others do, each in its place.
+fn are_held_same<'a, 'b>(first: &[SeenWalk<'a>], second: &[SeenWalk<'b>]) -> bool
+    ensures { IsTrue result → bags_held first.now ≡ bags_held second.now }
+{
+    if first.len() != second.len() {
+        return false;
+    }
+    for input in 0..first.len() {
+        if !first[input].holds_same(&second[input]) {
+            return false;
+        }
+    }
+    true
+}
+
+// Whether the kept pin seems to hold at a cursor what a pin holds where it begins.
+fn seem_same(alloc: Global, pin: &Pin, kept: &Kept, cursor: u64) -> Result<bool, AllocError> {
+    let before = kept.pin();
+    if !before.has_plan_of(pin) {
+        return Ok(false);
+    }
+    let ended = walks_at(alloc, before, cursor)?;
+    let begun = walks_at(alloc, pin, pin.from())?;
+    Ok(
+        ended
+            .iter()
+            .zip(begun.iter())
+            .all(|(ended, begun)| ended.seems_same(begun)),
+    )
+}
+
+// The walks over a pin at its first cursor, where it goes on where the kept one ended.
+fn walks_from<'a>(
+    alloc: Global,
+    pin: &'a Pin,
+    kept: &Kept,
+) -> Result<Option<Vec<SeenWalk<'a>>>, AllocError>
+    ensures based { IfOk result (λ r. IfSome r (λ walks. pin.now.base < pin.now.from)) }
+    ensures shown { IfOk result (λ r. IfSome r (λ walks. (o : BenchSeen) → StandsBehind kept.now o → IsShown pin.now pin.now.from walks.items kept.now.last o)) }
+{
+    let before = kept.pin();
+    if pin.from() <= pin.base() || !before.has_plan_of(pin) {
+        return Ok(None);
+    }
+    let held = walks_at(alloc, before, before.next())?;
+    let walks = walks_at(alloc, pin, pin.from())?;
+    if are_held_same(&held, &walks) {
+        Ok(Some(walks))
+    } else {
+        Ok(None)
+    }
+}
+
+/// What is shown of a pin before the first instant that is asked for, where it goes on where the
+/// kept one ended: the bench has told that.
+pub(crate) fn resume<'a>(
+    alloc: Global,
+    pin: &'a Pin,
+    kept: Kept,
+) -> Result<Option<Shown<'a>>, AllocError>
+    ensures based { IfOk result (λ r. IfSome r (λ s. pin.now.base < pin.now.from)) }
+    ensures shown { IfOk result (λ r. IfSome r (λ s. (o : BenchSeen) → StandsBehind kept o → IsShown pin.now pin.now.from s.walks.items s.last o)) }
+{
+    match walks_from(alloc, pin, &kept)? {
+        Some(walks) => Ok(Some(Shown {
+            walks,
+            last: kept.into_last(),
+        })),
+        None => Ok(None),
+    }
+}
+
+/// What is kept of the relation, once all instants of a pin were gone through: the walks go on to
+/// the pin's end, where nothing more comes. None where that finds no memory.
+pub(crate) fn remember<O: Operator>(
+    alloc: Global,
+    bench: &mut BenchOf<O>,
+    pin: &Pin,
+    shown: Shown<'_>,
+) -> Option<LastTold>
+    requires bench { IsBench O.seen_in bench.old }
+    requires based { pin.now.base < pin.now.next }
+    requires shown { IsShown pin.now pin.now.next shown.walks.items shown.last (bench_seen O.seen_in bench.old) }
+    ensures bench { IsBench O.seen_in bench.new }
+    ensures kept { IfSome result (λ last. IsKept pin.now last (bench_seen O.seen_in bench.new)) }
+{
+    let (walks, last) = shown.into_parts();
+    match advance(alloc, bench, pin, walks, pin.next()) {
+        Ok(_) => Some(last),
+        Err(_) => None,
+    }
+}

@@ -1,0 +1,99 @@
+-- What the items of a shape ask of columns, and how their values are read from what is kept.
+use Rattle.std.specs.Prelude.{◌≡◌, ◌≢◌, ◌⊎◌, ◌++◌, ℕ, pos, List, [], ◌∷◌, Option, Some, None, slice_get, map}
+use Rattle.std.specs.List.{AllByRecursion, AllZip, Contains}
+use Rattle.cql_value.specs.declared.value.Value.{Value}
+use Rattle.cql_value.specs.declared.value.Value.TheVariants.{Number}
+use Rattle.cql_bag.specs.Bag.{Counts}
+use Rattle.cql_plan.specs.declared.expr.Expr.{Expr, fold-Expr}
+use Rattle.cql_plan.specs.declared.expr.Expr.TheOpen.{Expr-F}
+use Rattle.cql_plan.specs.declared.node.Item.{Item}
+use Rattle.cql_plan.specs.declared.node.Item.TheVariants as i
+use Rattle.cql_plan.specs.Expr.{within}
+use Rattle.cql_algebra.specs.Shape.{all_of}
+use Rattle.cql_algebra.specs.GroupChanges.{first_of, last_of}
+use Rattle.cql_groups.specs.Keyed.{IsKeyed}
+use Rattle.cql_groups.specs.declared.part.Asked.{Asked}
+use Rattle.cql_groups.specs.declared.part.Asked.TheVariants as ask
+use Rattle.cql_groups.specs.declared.part.Part.{Part}
+use Rattle.cql_groups.specs.declared.part.Part.TheVariants as part
+use Rattle.cql_groups.specs.declared.layout.Source.{Source}
+use Rattle.cql_groups.specs.declared.layout.Source.TheVariants as s
+use Rattle.cql_groups.specs.declared.layout.Layout.{Layout}
+
+-- ---- what items ask
+
+-- the place of a column; 0 of another expression
+abbrev pub place_step : Expr-F ℕ → ℕ
+place_step (Expr-F.Column at) = at
+place_step (Expr-F.Constant v) = 0
+place_step (Expr-F.Binary op a b) = 0
+
+unfoldable pub place_in : Expr → ℕ
+place_in = fold-Expr ℕ place_step
+
+-- SUM asks the sum of its column, MIN and MAX its values
+abbrev pub asks : Item → Option Asked
+asks (i.Value x) = None
+asks i.Count = None
+asks (i.Sum at) = Some (ask.Sum at)
+asks (i.Min at) = Some (ask.Values at)
+asks (i.Max at) = Some (ask.Values at)
+
+abbrev pub IsOther : Asked → Asked → Type 0
+IsOther one other = other ≢ one
+
+-- one more is asked, which may be asked already
+abbrev pub IsGrownBy : Option Asked → List Asked → List Asked → Type 0
+IsGrownBy None before after = after ≡ before
+IsGrownBy (Some one) before after = (after ≡ before) ⊎ ((after ≡ before ++ one ∷ []) × AllByRecursion (IsOther one) before)
+
+-- no two are the same
+abbrev pub AreApart : List Asked → Type 0
+AreApart [] = Unit {0}
+AreApart (x ∷ xs) = AllByRecursion (λ y. y ≢ x) xs × AreApart xs
+
+-- some item asks it
+abbrev pub IsAskedIn : List Item → Asked → Type 0
+IsAskedIn items one = (x : Item) × Contains items x × (asks x ≡ Some one)
+
+-- the source of an item: the place of its column, or that of what it asks
+abbrev pub IsSourceOf : List Asked → Item → Source → Type 0
+IsSourceOf asked (i.Value x) (s.Column at) = at ≡ place_in x
+IsSourceOf asked i.Count s.Count = Unit {0}
+IsSourceOf asked (i.Sum at) (s.Sum place) = slice_get asked place ≡ asks (i.Sum at)
+IsSourceOf asked (i.Min at) (s.Least place) = slice_get asked place ≡ asks (i.Min at)
+IsSourceOf asked (i.Max at) (s.Greatest place) = slice_get asked place ≡ asks (i.Max at)
+IsSourceOf asked x source = ⊥
+
+-- the sources of some of the items, and what these ask: nothing twice, and nothing that no item asks
+pub record AreSources (items seen : List Item) (asked : List Asked) (sources : List Source) : Type 0 where
+  pub each : AllZip (IsSourceOf asked) seen sources
+  pub wanted : AllByRecursion (IsAskedIn items) asked
+  pub apart : AreApart asked
+
+pub record IsLayout (l : Layout) : Type 0 where
+  pub keyed : IsKeyed l.shape
+  pub sources : AreSources l.shape.items l.shape.items l.asked l.sources
+
+-- ---- the values
+
+-- of a part the sum, if it is one and in i64
+abbrev pub sum_in : Option Part → Option Value
+sum_in (Some (part.Sum at sum)) = within sum
+sum_in _ = None
+
+-- of a part the values, if it is of them
+abbrev pub values_in : Option Part → Counts
+values_in (Some (part.Values at values)) = values
+values_in _ = []
+
+-- the item's value, by how many rows there are, one row of the key and what is kept
+abbrev pub source_value : ℕ → List Value → List Part → Source → Option Value
+source_value size sample parts (s.Column at) = slice_get sample at
+source_value size sample parts s.Count = Some (Number (pos size))
+source_value size sample parts (s.Sum place) = sum_in (slice_get parts place)
+source_value size sample parts (s.Least place) = first_of (values_in (slice_get parts place))
+source_value size sample parts (s.Greatest place) = last_of (values_in (slice_get parts place))
+
+abbrev pub row_of_parts : List Source → ℕ → List Value → List Part → Option (List Value)
+row_of_parts sources size sample parts = all_of (map (source_value size sample parts) sources)

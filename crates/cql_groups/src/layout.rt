@@ -1,0 +1,112 @@
+// What the items of a shape ask of columns, each once, and where each item finds its value.
+ghost use Rattle.std.specs.Prelude.{◌≡◌, Some, slice_get, IfOk, IfSome, OnOk};
+ghost use Rattle.std.specs.List.{AllByRecursion};
+ghost use Rattle.cql_groups.specs.Keyed.{IsKeyed};
+ghost use Rattle.cql_groups.specs.Layouts.{place_in, asks, IsOther, IsGrownBy, IsSourceOf, IsLayout};
+
+use crate::part::Asked;
+use cql_plain::copy_of_shape;
+use cql_plan::{Expr, Item, Shape};
+use cql_value::Items;
+use std::alloc::{AllocError, Global};
+
+/// Where the value of an item is found: in a column of the group's rows, in how many there are, or
+/// in the part at a place.
+#[derive(Clone, Copy)]
+pub(crate) enum Source {
+    Column(usize),
+    Count,
+    Sum(usize),
+    Least(usize),
+    Greatest(usize),
+}
+
+/// A shape, what its items ask of columns, and the source of each item.
+pub(crate) struct Layout {
+    pub shape: Shape,
+    pub asked: Items<Asked>,
+    pub sources: Items<Source>,
+}
+
+impl Drop for Layout {
+    fn drop(self) {
+        let Layout {
+            shape: _,
+            asked: _,
+            sources: _,
+        } = self;
+    }
+}
+
+// The place of a column.
+#[tactic(auto, unfolding(crate::specs::Layouts::place_in))]
+fn place_in(expr: &Expr) -> usize
+    ensures { result ≡ place_in expr.now }
+{
+    match expr {
+        Expr::Column(place) => *place,
+        _ => 0,
+    }
+}
+
+// Where it stands.
+fn found(asked: &[Asked], one: Asked) -> Option<usize>
+    ensures place { IfSome result (λ at. slice_get asked.now at ≡ Some one) }
+    ensures none { result ≡ None → AllByRecursion (IsOther one) asked.now }
+{
+    for i in 0..asked.len() {
+        if asked[i] == one {
+            return Some(i);
+        }
+    }
+    None
+}
+
+// Where it stands, put at the end if it isn't there.
+fn place_of(one: Asked, asked: &mut Vec<Asked>) -> Result<usize, AllocError>
+    ensures place { IfOk result (λ at. slice_get asked.new.items at ≡ Some one) }
+    ensures grown { OnOk result (IsGrownBy (Some one) asked.old.items asked.new.items) }
+{
+    if let Some(place) = found(asked.as_slice(), one) {
+        return Ok(place);
+    }
+    let place = asked.len();
+    asked.push(one)?;
+    Ok(place)
+}
+
+// Where the item finds its value; what it asks is put at the end if it isn't there.
+fn source_of(item: &Item, asked: &mut Vec<Asked>) -> Result<Source, AllocError>
+    ensures source { IfOk result (IsSourceOf asked.new.items item.now) }
+    ensures grown { OnOk result (IsGrownBy (asks item.now) asked.old.items asked.new.items) }
+{
+    match item {
+        Item::Value(expr) => Ok(Source::Column(place_in(expr))),
+        Item::Count => Ok(Source::Count),
+        Item::Sum(column) => Ok(Source::Sum(place_of(Asked::Sum(*column), asked)?)),
+        Item::Min(column) => Ok(Source::Least(place_of(Asked::Values(*column), asked)?)),
+        Item::Max(column) => Ok(Source::Greatest(place_of(Asked::Values(*column), asked)?)),
+    }
+}
+
+impl Layout {
+    /// Of a shape. What several items ask stands there once.
+    pub fn new(alloc: Global, shape: &Shape) -> Result<Layout, AllocError>
+        requires { IsKeyed shape.now }
+        ensures shape { IfOk result (λ l. l.shape ≡ shape.now) }
+        ensures layout { IfOk result IsLayout }
+    {
+        let copy = copy_of_shape(alloc, shape)?;
+        let mut asked = Vec::new(alloc);
+        let mut sources = Vec::new(alloc);
+        for item in shape.items.as_slice() {
+            let source = source_of(item, &mut asked)?;
+            sources.push(source)?;
+        }
+        Ok(Layout {
+            shape: copy,
+            asked: Items::from_vec(asked),
+            sources: Items::from_vec(sources),
+        })
+    }
+}

@@ -1,0 +1,6 @@
+use Rattle.cql_part_tests.specs.Numbers.{HasNumbers}
+use Rattle.cql_part_tests.proofs.groups.push_often.Given as goal
+
+-- the operator is as it was started
+abbrev pub invariant-loop : goal.invariant-loop
+invariant-loop g l = HasNumbers (g.O.Operator.seen_in l.op)

@@ -1,0 +1,7 @@
+use Rattle.std.proofs.lemmas.Grind.{common_steps}
+use Rattle.std.proofs.Common.{arith}
+use Rattle.cql_resolve.proofs.Each.{stops, goes_on, ends}
+use Rattle.cql_resolve.proofs.source.part_columns.Goals as goal
+
+pub loop-name-preserved : goal.loop-name-preserved
+loop-name-preserved c = grind (arith, common_steps, stops, goes_on, ends)

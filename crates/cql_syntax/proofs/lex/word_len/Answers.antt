@@ -1,0 +1,9 @@
+use Rattle.std.proofs.lemmas.Grind.{common_steps}
+use Rattle.std.proofs.Common.{arith}
+use Rattle.cql_syntax.proofs.lex.word_len.Goals as goal
+
+pub loop-end-preserved : goal.loop-end-preserved
+loop-end-preserved c = grind (arith, common_steps)
+
+pub returns-else-is_word_byte-clause-value : goal.returns-else-is_word_byte-clause-value
+returns-else-is_word_byte-clause-value c = grind (arith, common_steps)

@@ -1,0 +1,146 @@
+// A grant, and what lists share of it.
+ghost use Rattle.std.specs.Prelude.{◌≡◌, true, IfOk, option_copied};
+ghost use Rattle.cql_places.specs.Chosen.{is_shown};
+ghost use Rattle.cql_tenants.specs.Home.{is_of};
+ghost use Rattle.cql_tenants.specs.Directory.{grant_over};
+
+use crate::shared::Shared;
+use crate::tenants::TenantId;
+use cql_places::{schema_at, shown_places};
+use cql_value::{Items, Schema, Text};
+use std::alloc::{AllocError, Global};
+use std::marker::Model;
+use std::sync::Arc;
+
+/// What the reader of a stream that another tenant granted sees of it.
+pub struct Shown {
+    /// The stream's place among its owner's.
+    pub place: usize,
+    pub stream: Text,
+    pub schema: Schema,
+    /// Where these columns stand among the stream's own.
+    pub places: Items<usize>,
+    /// Whether the grant names them.
+    pub named: bool,
+}
+
+impl Drop for Shown {
+    fn drop(self) {
+        let Shown {
+            place: _,
+            stream: _,
+            schema: _,
+            places: _,
+            named: _,
+        } = self;
+    }
+}
+
+/// A stream that another tenant granted: its owner, and what the reader sees of it, which lists
+/// share. It is small, since those that look for a grant walk along all.
+pub struct Grant {
+    owner: TenantId,
+    shown: Shared<Shown>,
+}
+
+impl Drop for Grant {
+    fn drop(self) {
+        let Grant { owner: _, shown: _ } = self;
+    }
+}
+
+impl Model for Grant {
+    ghost use Rattle.cql_tenants.specs.Granted.{Grant as kept};
+
+    ghost Value = { kept };
+
+    ghost view = { λ g. record { owner = g.owner; place = g.shown.place; stream = g.shown.stream; schema = g.shown.schema; places = g.shown.places; named = g.shown.named } };
+}
+
+impl Grant {
+    /// A grant of a stream of this schema, which shows the columns of these names, or all where
+    /// none are named.
+    pub fn new(
+        alloc: Global,
+        owner: TenantId,
+        place: usize,
+        stream: &str,
+        schema: &Schema,
+        columns: Option<&Items<Text>>,
+    ) -> Result<Grant, AllocError>
+        requires { is_shown schema.now (option_copied columns) ≡ true }
+        ensures { IfOk result (λ g. g ≡ grant_over owner place stream.now schema.now (option_copied columns.entry)) }
+    {
+        // asking for the columns tells the proof that they are those of a schema
+        let _all = schema.columns();
+        let places = shown_places(alloc, schema, columns)?;
+        let seen = schema_at(alloc, schema, places.as_slice())?;
+        let stream = Text::new(alloc, stream)?;
+        let shown = Shown {
+            place,
+            stream,
+            schema: seen,
+            places,
+            named: columns.is_some(),
+        };
+        let shown = Shared::new(Arc::new(alloc, shown)?);
+        Ok(Grant { owner, shown })
+    }
+
+    /// The stream's owner.
+    pub fn owner(&self) -> TenantId
+        ensures { result ≡ self.now.owner }
+    {
+        self.owner
+    }
+
+    /// The stream's place among its owner's.
+    pub fn place(&self) -> usize
+        ensures { result ≡ self.now.place }
+    {
+        self.shown.get().place
+    }
+
+    /// The stream's name.
+    pub fn stream(&self) -> &str
+        ensures { result.now ≡ self.now.stream }
+    {
+        self.shown.get().stream.as_str()
+    }
+
+    /// The columns that the reader sees.
+    pub fn schema(&self) -> &Schema
+        ensures { result.now ≡ self.now.schema }
+    {
+        &self.shown.get().schema
+    }
+
+    /// Where these columns stand among the stream's own.
+    pub fn places(&self) -> &[usize]
+        ensures { result.now ≡ self.now.places }
+    {
+        self.shown.get().places.as_slice()
+    }
+
+    /// Whether the grant names them.
+    pub fn is_named(&self) -> bool
+        ensures { result ≡ self.now.named }
+    {
+        self.shown.get().named
+    }
+
+    /// What the reader sees, with one more holder.
+    pub fn shown(&self) -> Result<Shared<Shown>, AllocError>
+        ensures { IfOk result (λ s. s ≡ record { place = self.now.place; stream = self.now.stream; schema = self.now.schema; places = self.now.places; named = self.now.named }) }
+    {
+        self.shown.share()
+    }
+
+    /// Whether it is a grant of that stream.
+    #[tactic(auto, unfolding(crate::specs::Named::same_name))]
+    pub fn is_of(&self, owner: usize, stream: &str) -> bool
+        ensures { result ≡ is_of owner stream.now self.now }
+    {
+        owner == self.owner.place() && stream == self.stream()
+    }
+}

@@ -1,0 +1,19 @@
+use Rattle.std.proofs.Common.{rules, tests, ◌≡◌, nat_le, nat_lt, IfOk, subst}
+use Rattle.std.proofs.lemmas.Iterator.{YieldsList-from_map, items_from_collect}
+use Rattle.std.proofs.lemmas.Iterator.Consumers.{YieldsList-at, YieldsList-from_first, YieldsList-from_filter}
+use Rattle.std.proofs.lemmas.Iterator.Search.{YieldsList-from_take_while}
+use Rattle.cql_window.specs.Changes.{came}
+use Rattle.cql_window.proofs.Leaving.{front_within, came_in_order}
+use Rattle.cql_window.proofs.instants.coming.Goals as goal
+
+pub returns : goal.returns
+returns c =
+    subst (λ l. IfOk c.collect.result (λ v. v.items ≡ l)) (front_within c.args.from c.args.to (came c.args.slide) c.args.rows.now (came_in_order c.args.slide c.args.to (search (rules, c.ranges.to))) c.requires)
+    (items_from_collect _ c.collect.ensures.ran
+    (YieldsList-from_filter _ (nat_le c.args.from)
+    (YieldsList-at c.filter.ensures.source (YieldsList-from_take_while _ (λ t. nat_lt t c.args.to)
+    (YieldsList-at c.take_while.ensures.source (YieldsList-from_map _ (came c.args.slide)
+    (YieldsList-at c.map.ensures.source (YieldsList-from_first (λ x. x.now) (λ s. s) c.args.rows.now c.iter.ensures))
+    c.map.ensures.closure (λ x r q k. search (rules, tests))))
+    c.take_while.ensures.closure c.take_while.ensures.done (λ x b q k. search (rules, tests))))
+    c.filter.ensures.closure (λ x b q k. search (rules, tests))))

@@ -1,0 +1,71 @@
+#!/usr/bin/env python3
+"""Puts this machine's load once a second, for something to watch: rows of one's own, live.
+
+usage: examples/load.py --port N --tenant NAME [--seconds N] [--every SECONDS]
+
+It makes the stream `load`, of the mean load over a minute and over a quarter of an hour in
+hundredths, and the query `busy` over the last twenty seconds. Then it puts a row a second and beats
+behind it. Nobody else takes what the query tells, so it acknowledges what is older than a minute: a
+query that nobody acknowledges is overrun in the end.
+
+Times are whole seconds from its start, one tick each. Who has milliseconds puts at // 1000, or
+writes lengths in them, [Range 20000] for twenty seconds.
+
+The key is taken from the environment variable CQL_KEY. The status is 1 where it can't go on, 2 for
+its words.
+"""
+import argparse
+import os
+import pathlib
+import sys
+import time
+from typing import Optional, Sequence
+
+sys.path.append(str(pathlib.Path(__file__).resolve().parent.parent / "clients/python"))
+import romburik
+
+TEXT = (
+    "Select Rstream(Max(short) As greatest, Min(short) As least, Max(long) As quarter) "
+    "From load [Range 20 Seconds]"
+)
+KEPT = 60
+"""For how many seconds what the query tells isn't acknowledged."""
+
+
+def put_load(session: romburik.Session, seconds: int, every: float) -> None:
+    """Makes the stream and the query, and puts rows."""
+    session.stream("load", {"short": "int", "long": "int"})
+    session.query("busy", TEXT)
+    for second in range(seconds):
+        short, _, long = os.getloadavg()
+        session.put("load", second, [round(short * 100), round(long * 100)])
+        session.beat("load", second)
+        session.ack("busy", max(0, second - KEPT))
+        time.sleep(every)
+
+
+def main(given: Optional[Sequence[str]] = None) -> int:
+    parser = argparse.ArgumentParser(description="Puts this machine's load once a second.")
+    parser.add_argument("--host", default="127.0.0.1")
+    parser.add_argument("--port", type=int, required=True)
+    parser.add_argument("--tenant", required=True)
+    parser.add_argument("--seconds", type=int, default=3600, help="how many rows (3600)")
+    parser.add_argument("--every", type=float, default=1.0, help="seconds between them (1)")
+    words = parser.parse_args(given)
+    if "CQL_KEY" not in os.environ:
+        parser.error("CQL_KEY isn't set")
+    try:
+        with romburik.Session(
+            host=words.host, port=words.port, tenant=words.tenant, key=os.environ["CQL_KEY"]
+        ) as session:
+            put_load(session, words.seconds, words.every)
+    except KeyboardInterrupt:
+        return 0
+    except romburik.Error as error:
+        print(f"load: {error}", file=sys.stderr)
+        return 1
+    return 0
+
+
+if __name__ == "__main__":
+    sys.exit(main())

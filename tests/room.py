@@ -1,0 +1,227 @@
+"""Checks of tests/memory over the built cqld: that no want of memory is told of many rows, how many requests
+for memory a row makes, and that what an answer took is given back to the system.
+"""
+import collections
+import re
+import time
+
+from counted import beats, put
+from served import Caller, Server, line_of, tenants
+
+COLUMNS = [["k", "int"], ["g", "int"], ["v", "int"]]
+TABLE = tenants("a", queries=64, hold=65536, result=65536)
+FETCH = line_of(do="fetch", name="q")
+DROP = line_of(do="drop", name="q")
+FORMS = "keyed", "plain"
+
+# A text over streams, the rows of each, all of the first instant but where they stand `apart`, and the rows
+# that are told.
+Large = collections.namedtuple("Large", "name text s p told apart", defaults=(False,))
+GROUPED = "Select Istream(x.k, Count(*)) From s x, p y Where x.k = y.k Group By x.k"
+LARGE = (
+    Large("1,500 rows of one value", GROUPED, [(7, 0, it) for it in range(1_500)], [(7, 0, 0)], [[7, 1_500]]),
+    Large("3,000 rows of a port", GROUPED, [(it, 0, 0) for it in range(3_000)], [(5, 0, 0)], [[5, 1]]),
+    Large(
+        "4,000 groups",
+        "Select Istream(k, Count(*), Min(v)) From s Group By k",
+        [(it, 0, 2 * it) for it in range(4_000)],
+        [],
+        [[it, 1, 2 * it] for it in range(4_000)],
+    ),
+    Large(
+        "6,000 rows of a group",
+        "Select Istream(g, Count(*), Sum(v), Min(v), Max(v)) From s Group By g",
+        [(it, 3, it) for it in range(6_000)],
+        [],
+        [[3, 6_000, 17_997_000, 0, 5_999]],
+    ),
+    Large(
+        "12,000 parts",
+        "Select Istream(Count(*), Sum(v)) From s [Partition By k Rows 1]",
+        [(it, 0, 1) for it in range(12_000)],
+        [],
+        [[12_000, 12_000]],
+    ),
+    Large(
+        "12,000 rows of a part",
+        "Select Istream(Count(*), Min(v)) From s [Partition By g Rows 12000]",
+        [(0, 1, it) for it in range(12_500)],
+        [],
+        [[12_000, 500]],
+    ),
+    Large(
+        "65,000 blocks",
+        "Select Istream(v) From s",
+        [(0, 0, it) for it in range(65_000)],
+        [],
+        [[it] for it in range(65_000)],
+        True,
+    ),
+)
+
+
+def made(streams):
+    return (line_of(columns=COLUMNS, do="stream", name=name) for name in streams)
+
+
+def query(text, name="q"):
+    return line_of(do="query", name=name, text=text)
+
+
+def told(large):
+    """The reply to the fetch of all."""
+    last = len(large.s) - 1 if large.apart else 0
+    runs = [[at, [row]] for at, row in enumerate(large.told)] if large.apart else [[0, large.told]]
+    return line_of(blocks=[{"from": at, "rows": rows, "to": at} for at, rows in runs], next=last + 1)
+
+
+def many(program):
+    """Rows, groups, parts and blocks by the thousand are answered, and one more row behind them."""
+    for form in FORMS:
+        for large in LARGE:
+            last = len(large.s) - 1 if large.apart else 0
+            with Server(program, TABLE, workers=1, join=form) as server, Caller(server, "a") as caller:
+                caller.serve([*made("sp"), query(large.text)])
+                caller.serve(put(at if large.apart else 0, "s", *row) for at, row in enumerate(large.s))
+                caller.serve([*(put(0, "p", *row) for row in large.p), *beats("sp", last)])
+                reply = caller.ask(FETCH)
+                yield f"{large.name}, {form}", None if reply == told(large) else f"{reply[:200]!r}"
+                more = [put(last + 1, "s", *large.s[0]), *beats("sp", last + 1)]
+                caller.serve([line_of(do="ack", name="q", to=last + 1), *more])
+                reply = caller.ask(FETCH)
+                right = reply.endswith(b'"next":%d}\n' % (last + 2))
+                yield f"{large.name}, {form}, and one more", None if right else f"{reply[:200]!r}"
+
+
+# ---- Requests for memory.
+
+FEW, MANY = 1_000, 3_000
+# A put of a row and its part in the fetch make so many requests, and a tenth more are too many.
+REQUESTS = (
+    ("a linear query", "s", "Select Istream(*) From s [Range 100]", 18.1),
+    ("a sliding group", "s", "Select Istream(g, Count(*), Sum(v)) From s [Range 100] Group By g", 26.1),
+    ("a sliding join", "sp", "Select Istream(x.v, y.g) From s [Range 100] x, p [Range 100] y Where x.v = y.v", 24.8),
+    ("distinct rows", "s", "Istream(Select Distinct v From s [Range 100])", 20.3),
+)
+MOST = 1.1
+READERS = 64
+
+
+def requests(program, library, lines):
+    """How many requests for memory a server of one session makes."""
+    under = "env", f"LD_PRELOAD={library}"
+    with Server(program, TABLE, under, workers=1, sessions=1) as server:
+        with Caller(server, "a") as caller:
+            caller.serve(lines)
+            caller.rest()
+        ended = server.end()
+    return int(re.findall(rb"^requests (\d+)$", ended.said, re.MULTILINE)[-1])
+
+
+def of_rows(streams, rows, queries, fetches):
+    """The lines of a session of some queries, of which the first are fetched."""
+    yield from made(streams)
+    for number, text in enumerate(queries):
+        yield query(text, f"q{number}")
+    for at in range(rows):
+        for name in streams:
+            yield put(at, name, at % 7, at % 5, at)
+    yield from beats(streams, rows - 1)
+    for number in range(fetches):
+        yield line_of(do="fetch", name=f"q{number}")
+
+
+def each_row(program, library, streams, queries, fetches):
+    """How many requests each row more makes."""
+    few, more = (
+        requests(program, library, of_rows(streams, rows, queries, fetches)) for rows in (FEW, MANY)
+    )
+    return (more - few) / (MANY - FEW) / len(streams)
+
+
+def rows_are_shared(program, library):
+    """A row makes no more requests than it did, and as many behind many readers as behind one."""
+    for name, streams, text, most in REQUESTS:
+        found = each_row(program, library, streams, [text], 1)
+        wrong = f"{found:.2f} requests a row, and not {most}"
+        yield f"requests of {name}", None if found <= most * MOST else wrong
+    one, all_of_them = (each_row(program, library, "s", ["Select * From s"] * it, 0) for it in (1, READERS))
+    same = abs(all_of_them - one) < 0.05
+    yield f"requests of a put behind {READERS} readers", None if same else f"{one:.2f} and {all_of_them:.2f}"
+
+
+# ---- What is given back.
+
+# With this no thread keeps pieces for itself of what it lets go, and free pieces are joined at once: what is
+# free at the end of an area of memory can go back to the system.
+SETTING = "GLIBC_TUNABLES", "glibc.malloc.tcache_count=0:glibc.malloc.mxfast=0"
+# Of one worker, and of each of several.
+MOST_LEFT, MOST_OF_EACH = 4 << 20, 1 << 20
+# So much has to have been taken for a check to say anything.
+LEAST_TAKEN = 5 << 20
+ROWS = 7_000
+# By when a bench that nobody used is let go of.
+SWEPT = 58
+EQUAL = " And ".join(["x.k = y.k", "x.v = y.v", "x.k >= y.v", "y.k >= x.v"])
+JOIN = f"Select Istream(x.v, y.g) From s x, p y Where {EQUAL}"
+GROUPS = "Select Istream(k, Count(*), Sum(v), Min(v), Max(v)) From s Group By k"
+SET = "Istream(Select Distinct k, v From s Union All Select v, k From p)"
+OTHER = "Select Istream(v) From u"
+WORKERS, SESSIONS = 16, 64
+
+
+class Answered:
+    """Sessions, each of which puts rows, fetches and drops its query, on a server with the setting."""
+
+    def __init__(self, program, **words):
+        self.program, self.words = program, words
+        self.at = 0
+
+    def __enter__(self):
+        under = "env", "=".join(SETTING)
+        self.server = Server(self.program, TABLE, under, **self.words)
+        with Caller(self.server, "a") as caller:
+            caller.serve([*made("spu"), query(OTHER, "other")])
+        self.before = self.server.memory()
+        return self
+
+    def __exit__(self, *_):
+        self.server.__exit__()
+
+    def fetch(self, caller, name):
+        reply = caller.ask(line_of(do="fetch", name=name))
+        if not reply.endswith(b'"next":%d}\n' % (self.at + 1)):
+            raise OSError(f"a fetch of {name} is answered {reply[:200]!r}")
+
+    def session(self, text):
+        """One that is answered; its rows are then let go."""
+        with Caller(self.server, "a") as caller:
+            caller.serve([query(text)])
+            caller.serve(put(self.at, name, it, it % 5, it) for it in range(ROWS) for name in "sp")
+            caller.serve(beats("spu", self.at))
+            self.fetch(caller, "q")
+            # rows that nobody needs go a few at a time, by calls
+            caller.serve([DROP, *[line_of(do="list")] * 100])
+        self.at += 1
+
+    def left(self, name, most=MOST_LEFT):
+        """What is wrong with what the process has more than before."""
+        grown, peak = (it - self.before for it in (self.server.memory(), self.server.peak()))
+        yield f"{name}: what was taken", None if peak >= LEAST_TAKEN else f"{peak:,} bytes"
+        yield f"{name}: what is left", None if grown <= most else f"{grown:,} of {peak:,} bytes"
+
+
+def given_back(program):
+    """What an answer took is given back once its query is dropped."""
+    for name, text in (("a join", JOIN), ("groups", GROUPS), ("DISTINCT and UNION", SET)):
+        with Answered(program, workers=1, warm=0) as answered:
+            answered.session(text)
+            yield from answered.left(name)
+    with Answered(program, workers=WORKERS, warm=0) as answered:
+        for number in range(SESSIONS):
+            answered.session((JOIN, GROUPS, SET)[number % 3])
+        yield from answered.left(f"{SESSIONS} sessions on {WORKERS} workers", MOST_OF_EACH * WORKERS)
+    with Answered(program, workers=1) as answered:
+        answered.session(JOIN)
+        time.sleep(SWEPT)
+        yield from answered.left("a join whose bench nobody used for a minute")

@@ -1,9 +1,13 @@
-//! What the words of the server's command line say.
+//! What the words of the server's command line say, and how many callers the system's limit of open
+//! files lets in.
 #![tactic(auto)]
 
 ghost use Rattle.std.specs.Prelude.{◌≤◌, IfOk};
 
+mod files;
+
 use clap::{Arg, ArgAction, Command, Error};
+pub use files::callers_with_files;
 use std::alloc::Global;
 
 /// The version, which is that of the top entry of CHANGELOG.md that has a number.

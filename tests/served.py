@@ -192,7 +192,9 @@ class Caller:
 
     def is_silent(self, seconds):
         """Whether nothing comes for so long."""
-        return not select.select([self.socket], [], [], seconds)[0]
+        poll = select.poll()
+        poll.register(self.socket, select.POLLIN)
+        return not poll.poll(1e3 * seconds)
 
     def rest(self):
         """Says that no more lines come, and reads to the end."""

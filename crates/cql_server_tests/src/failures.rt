@@ -1,0 +1,36 @@
+// The texts and statuses by which a server ends badly.
+use cql_server::Failure;
+use std::alloc::Global;
+use std::test::Fail;
+
+const ENDINGS: &[(Failure, u8, &str)] = &[
+    (Failure::NoSessions, 2, "audit needs sessions"),
+    (Failure::Tenants, 2, "the tenants line is refused"),
+    (Failure::Reading, 3, "reading failed"),
+    (Failure::Writing, 4, "writing failed"),
+    (Failure::NoMemory, 5, "no memory"),
+    (Failure::Listening, 6, "cannot listen"),
+    (Failure::Audit { at: 0 }, 7, "audit failed at 0"),
+    (
+        Failure::Audit {
+            at: 18_446_744_073_709_551_616,
+        },
+        7,
+        "audit failed at 18446744073709551616",
+    ),
+];
+
+fn is_told(alloc: Global, failure: Failure, text: &str) -> Result<bool, Fail> {
+    let told = format!(in alloc; "{failure}")?;
+    Ok(told.as_str() == text)
+}
+
+// No run is known that brings a failed audit about, so its status is asked here.
+#[test]
+fn each_failure_is_told(rt: HostRuntime) -> Result<(), Fail> {
+    for (failure, status, text) in ENDINGS {
+        assert_eq!(rt; failure.status(), *status);
+        assert!(rt; is_told(rt.alloc(), *failure, text)?);
+    }
+    Ok(())
+}

@@ -10,7 +10,7 @@ use clap::error::ErrorKind;
 use cql_core::{Operator, TenantTable};
 use cql_server::{Benches, Failure, Hub, Limits, Watch, benches_of, serve};
 use cql_wire::{TableFault, Watched, first_table};
-use cql_words::{Config, JoinForm, read_words};
+use cql_words::{Config, JoinForm, callers_with_files, read_words};
 use operators::{Operators, keyed_operators, plain_operators};
 use std::alloc::Global;
 use std::net::{Net, TcpListener, TcpStream};
@@ -139,7 +139,8 @@ fn failure_of(fault: TableFault) -> Failure {
     }
 }
 
-/// Tells the port that it listens on, and serves.
+/// Tells the port that it listens on, and before it where fewer callers than were asked for have files;
+/// and serves.
 fn listen<R>(
     rt: &R,
     alloc: Global,
@@ -172,6 +173,7 @@ where
         return Err(Failure::Listening);
     };
     let port = addr.port();
+    let callers = callers_with_files(rt, config.callers.max(1));
     if println!(rt; "listening on 127.0.0.1:{port}").is_err() {
         return Err(Failure::Writing);
     }
@@ -179,7 +181,7 @@ where
         rt,
         alloc,
         hub,
-        Limits::of_seconds(config.login, config.idle),
+        Limits::of_seconds(config.login, config.idle).with_callers(callers),
         &mut io::writer(rt),
         table,
         benches,

@@ -14,7 +14,7 @@ With --out the blocks go to a file. The place knows how long that file is, and w
 cut off at the start: so each block is there once even if the consumer itself is killed. Without it
 the blocks of its last answer may then be printed again.
 
-What it waits for, a server, a worker of one or the query, it says on standard error within five
+What it waits for, a server, a place at one or the query, it says on standard error within five
 seconds. The key is taken from the environment variable CQL_KEY. The consumer ends once all below INSTANT was
 taken, else it runs until it is interrupted. The status is 1 where it can't go on, 2 for its words.
 """

@@ -26,7 +26,7 @@ which lines came in; where they fit two places of the log, as with several rows 
 feeder ends rather than put a row twice or leave one out. A new start of the server sets that
 right.
 
-What it waits for, a server or a worker of one, it says on standard error within five seconds. The
+What it waits for, a server or a place at one, it says on standard error within five seconds. The
 key is taken from the environment variable CQL_KEY. The feeder runs until it is interrupted. The
 status is 1 where it can't go on, 2 for its words.
 

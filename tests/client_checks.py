@@ -1098,7 +1098,7 @@ SECRET = "ksecrettenant"
 
 def page_is_guarded(program):
     """Only GET, only by its own name, only with the token, and never with the key."""
-    with Server(program, tenants(["secrettenant"]), workers=1) as server:
+    with Server(program, tenants(["secrettenant"]), callers=1) as server:
         with page(server.port, SECRET, "secrettenant") as address:
             status, headers, _ = asked(address)
             yield "a page", difference(status, 200)
@@ -1124,7 +1124,7 @@ def page_is_guarded(program):
                 ("another host", (address, "", "GET", "romburik.example")),
             ):
                 yield f"a page by {name}", difference(asked(*given)[0], 404)
-            # the page's session takes the one worker only while it is open
+            # the page's session is the one caller only while it is open
             with Caller(server, "secrettenant") as caller:
                 yield "a caller beside a page", difference(caller.ask(LIST), EMPTY)
 
@@ -1215,9 +1215,9 @@ def said_within(children, seconds):
 
 
 def waits_are_told(program):
-    """Who waits for a server, a worker or a query says so within five seconds."""
+    """Who waits for a server, a place at one or a query says so within five seconds."""
     with tempfile.TemporaryDirectory() as folder, contextlib.ExitStack() as open_ones:
-        server = open_ones.enter_context(Server(program, TENANTS, workers=1))
+        server = open_ones.enter_context(Server(program, TENANTS, callers=1))
         other = open_ones.enter_context(Server(program, TENANTS))
         open_ones.enter_context(Caller(server, "a"))
         for name in "setup", "log":
@@ -1243,15 +1243,15 @@ def waits_are_told(program):
     for name, said, wanted in zip(
         (
             "a consumer without a server",
-            "a consumer without a worker",
+            "a consumer without a place",
             "a feeder without a server",
-            "a feeder without a worker",
+            "a feeder without a place",
             "a consumer without a query",
-            "a terminal without a worker",
+            "a terminal without a place",
             "a watch without a query",
         ),
         found,
-        ("no connection", "--workers", "no connection", "--workers", "57", "--workers", "57"),
+        ("no connection", "--callers", "no connection", "--callers", "57", "--callers", "57"),
     ):
         yield name, None if wanted in said else f"it says {said!r}"
 

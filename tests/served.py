@@ -6,6 +6,7 @@ import json
 import os
 import pathlib
 import re
+import resource
 import select
 import socket
 import struct
@@ -72,6 +73,14 @@ def shown(value):
 def difference(found, wanted):
     """What is found that isn't expected, or None."""
     return None if found == wanted else f"it is {shown(found)} and not {shown(wanted)}"
+
+
+def room_for_files(number):
+    """Lets this process, and those that it starts, open so many files, or as many as the system lets it."""
+    most = resource.getrlimit(resource.RLIMIT_NOFILE)[1]
+    most = number if most == resource.RLIM_INFINITY else min(number, most)
+    resource.setrlimit(resource.RLIMIT_NOFILE, (most, resource.getrlimit(resource.RLIMIT_NOFILE)[1]))
+    return most
 
 
 class Stalled(OSError):
@@ -205,3 +214,17 @@ class Caller:
         """Breaks off at once: what isn't sent is let go, and the other end's calls fail."""
         self.socket.setsockopt(socket.SOL_SOCKET, socket.SO_LINGER, struct.pack("ii", 1, 0))
         self.__exit__()
+
+
+def connected(server, number, tenant=None, together=100):
+    """So many connections, a hundred at once. With a tenant's name each logs in."""
+    callers = []
+    for at in range(0, number, together):
+        some = [Caller(server) for _ in range(min(together, number - at))]
+        for caller in some if tenant else ():
+            caller.send(login(tenant))
+        for caller in some if tenant else ():
+            if caller.replies.readline() != DONE:
+                raise OSError(f"{tenant} isn't let in")
+        callers += some
+    return callers

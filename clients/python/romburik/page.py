@@ -158,8 +158,8 @@ def _line_name(key: Sequence[object], names: Optional[Sequence[str]], at: int) -
 
 
 class Source:
-    """The one session of all pages, which is closed while there is none, so that it takes a worker
-    of the server's only while somebody looks."""
+    """The one session of all pages, which is closed while there is none, so that it is one of the
+    server's callers only while somebody looks."""
 
     def __init__(self, session: Session) -> None:
         self.lock = threading.Lock()

@@ -46,9 +46,9 @@ SOON = 3.0
 """After how many seconds it is told what is waited for."""
 
 _ACCEPTED = b'{"ok":true}'
-_NO_WORKER = (
-    "waiting: the server takes no further session so far; all its workers may be taken, of which "
-    "its word --workers says how many there are"
+_NO_PLACE = (
+    "waiting: the server takes no further caller so far; as many may be connected as its word "
+    "--callers says"
 )
 
 Notice = Callable[[str], None]
@@ -87,8 +87,9 @@ class Session:
     """A session of one tenant. It is connected and logged in when it is made.
 
     `timeout` is how many seconds a call may wait for the server to take or to tell anything, None
-    without an end. A server whose workers are all taken is silent until one is free; `notice` is
-    told so, in words, and of all else that is waited for.
+    without an end. A server to which as many callers are connected as it takes (`--callers`) is
+    silent until one of them leaves; `notice` is told so, in words, and of all else that is waited
+    for.
     """
 
     def __init__(
@@ -143,7 +144,7 @@ class Session:
         connection.send(line_of({"key": self._key, "tenant": self.tenant}))
         is_patient = self.timeout is None or self.timeout > SOON
         if is_patient and not connection.has_reply(SOON):
-            self._notice(_NO_WORKER)
+            self._notice(_NO_PLACE)
         outcome = self._outcome(connection.receive())
         if isinstance(outcome, Refused):
             raise outcome

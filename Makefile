@@ -14,7 +14,7 @@ help:
 	@echo 'make run     the replies to $(FIRST), from a run that is checked and not proved ($(RUN_TIME))'
 	@echo 'make build   proves and builds $(RUNNER) and $(SERVER) ($(BUILD_TIME))'
 	@echo 'make test    the gate, and then the built programs as users run them ($(TEST_TIME))'
-	@echo 'make bench   builds the programs, and times puts, query texts, fetches, rounds of them, shared streams, a store, the server and texts that ask for much, and counts instructions (an hour and a quarter)'
+	@echo 'make bench   builds the programs, and times puts, query texts, fetches, rounds of them, shared streams, a store, the server, ten thousand callers and texts that ask for much, and counts instructions (an hour and a quarter)'
 
 # runs the first script with no proof
 run:
@@ -35,7 +35,7 @@ test:
 
 # times puts, texts of two lengths, fetches over many rows, and many readers of one stream, through
 # the built cqlrun, and counts the instructions of fetches; appends to one store, through the built stores; and sessions of the
-# built cqld, also of texts that ask for more than their rows are worth
+# built cqld, also of ten thousand callers, and of texts that ask for more than their rows are worth
 bench: build
 	bench/puts $(RUNNER)
 	bench/texts $(RUNNER)
@@ -48,6 +48,7 @@ bench: build
 	bench/stores crates/stores/out/stores
 	bench/server $(SERVER)
 	bench/hall $(SERVER)
+	bench/callers $(SERVER)
 	bench/memory $(SERVER)
 	bench/neighbours $(SERVER)
 	bench/hostile $(SERVER)

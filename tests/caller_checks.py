@@ -246,9 +246,14 @@ def filled(server):
         return difference(replies[3:], [DONE] * ROWS)
 
 
+# What the C library is told in the service file of docs/OPERATING.md, so that long replies go back to the system.
+GIVES_BACK = "env", "GLIBC_TUNABLES=glibc.malloc.tcache_count=0:glibc.malloc.mxfast=0"
+
+
 def callers_who_do_not_read(program):
     """They end under --idle: of a write some bytes may be taken, and of the next none."""
-    with Server(program, WIDE, workers=2, login=TICK, idle=TICK) as server:
+    words = {"workers": 2, "login": TICK, "idle": TICK}
+    with Server(program, WIDE, GIVES_BACK, **words) as server:
         yield "rows for those who don't read", filled(server)
         files, before = files_at_rest(server), None
         for _ in range(3):

@@ -337,7 +337,7 @@ def resets_in_mid_reply(program):
     """Callers who break off while their replies are told leave nothing behind."""
     with Server(program, WIDE, workers=2) as server:
         yield "rows for those who break off", filled(server)
-        memory = files = None
+        files, memory = files_at_rest(server), None
         for turn in range(3):
             callers = [Caller(server, "a", window=4096) for _ in range(20)]
             for caller in callers:
@@ -351,7 +351,7 @@ def resets_in_mid_reply(program):
                     caller.__exit__()
             yield f"a caller behind {turn + 1} times 20 that broke off", served_in(server, 5 * TICK, "b")
             settle(server, files)
-            memory, files = memory or server.memory(), files or files_of(server)
+            memory = memory or server.memory()
         yield "memory behind those who broke off", growth(memory, server.memory(), 4 * MOST_KEPT)
         yield "files behind those who broke off", difference(files_of(server), files)
 
@@ -359,7 +359,7 @@ def resets_in_mid_reply(program):
 def settle(server, files, seconds=10):
     """Waits until no more files are open than there were."""
     end = time.monotonic() + seconds
-    while files is not None and files_of(server) > files and time.monotonic() < end:
+    while files_of(server) > files and time.monotonic() < end:
         time.sleep(0.05)
 
 

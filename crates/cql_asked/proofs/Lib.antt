@@ -5,5 +5,6 @@ mod Growing
 mod Keys
 mod Puts
 mod Readings
+mod Ruling
 mod Trees
 mod Turns

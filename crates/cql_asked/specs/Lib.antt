@@ -3,6 +3,7 @@ pub mod Fault
 pub mod Login
 pub mod Put
 pub mod Reading
+pub mod Rules
 pub mod Table
 pub mod Tree
 pub mod View

@@ -1,0 +1,6 @@
+use Rattle.serde_json.specs.View.{view}
+use Rattle.cql_asked.proofs.Ruling.{refused_breaks}
+use Rattle.cql_asked.proofs.tenants.read_tenants.Goals as goal
+
+pub unwrap-requires : goal.unwrap-requires
+unwrap-requires c = ?

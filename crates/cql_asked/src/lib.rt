@@ -14,6 +14,6 @@ mod values;
 pub use command::read_command;
 pub use fault::LineFault;
 pub use json::Scratch;
-pub use login::read_login;
+pub use login::{named_tenant, read_login};
 pub use rules::{BrokenRule, TenantKey, TenantRule};
 pub use tenants::{TenantsFault, read_tenants};

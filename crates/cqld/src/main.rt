@@ -181,7 +181,7 @@ where
     let Ok(hub) = Hub::new(rt, alloc, &listener) else {
         return Err(Failure::Listening);
     };
-    let Some(watch) = Watch::new(rt, config.log) else {
+    let Some(watch) = Watch::new(rt, alloc, table, config.log) else {
         return Err(Failure::NoMemory);
     };
     let Ok(addr) = listener.local_addr() else {

@@ -26,7 +26,6 @@ pub struct Watch<'a, R> {
     // 1 where what is held is to be told
     wants: AtomicU64,
     sessions: AtomicU64,
-    calls: AtomicU64,
     fetches: AtomicU64,
     fetching: AtomicU64,
     // When the call under the lock entered, and the longest such time, in nanoseconds.
@@ -49,7 +48,6 @@ impl<'a, R> Drop for Watch<'a, R> {
             seconds: _,
             wants: _,
             sessions: _,
-            calls: _,
             fetches: _,
             fetching: _,
             entered: _,
@@ -124,7 +122,6 @@ impl<'a, R: Clock + Eprint> Watch<'a, R> {
             seconds: AtomicU64::new(0),
             wants: AtomicU64::new(0),
             sessions: AtomicU64::new(0),
-            calls: AtomicU64::new(0),
             fetches: AtomicU64::new(0),
             fetching: AtomicU64::new(0),
             entered: AtomicU64::new(0),
@@ -153,7 +150,6 @@ impl<'a, R: Clock + Eprint> Watch<'a, R> {
         let took = self
             .now()
             .saturating_sub(self.entered.load(Ordering::SeqCst));
-        self.calls.fetch_add(1, Ordering::SeqCst);
         if took > self.longest_lock.load(Ordering::SeqCst) {
             self.longest_lock.store(took, Ordering::SeqCst);
         }
@@ -207,12 +203,11 @@ impl<'a, R: Clock + Eprint> Watch<'a, R> {
     // The line of counts, which begin anew.
     fn counts(&self) -> Result<String, AllocError> {
         let sessions = self.sessions.load(Ordering::SeqCst);
-        let calls = self.calls.swap(0, Ordering::SeqCst);
         let fetches = self.fetches.swap(0, Ordering::SeqCst);
         let fetching = self.fetching.load(Ordering::SeqCst);
         let lock = self.longest_lock.swap(0, Ordering::SeqCst) / 1000;
         let answer = self.longest_fetch.swap(0, Ordering::SeqCst) / 1000;
-        let commands = commands_of(self.alloc, self.kinds.as_slice())?;
+        let (calls, commands) = commands_of(self.alloc, self.kinds.as_slice())?;
         let refused = refusals_of(self.alloc, self.refusals.as_slice())?;
         format!(in self.alloc;
             "{{\"sessions\":{sessions},\"calls\":{calls},\"fetches\":{fetches},\"fetching\":{fetching},\"lock_us\":{lock},\"answer_us\":{answer},\"commands\":{{{commands}}},\"refused\":{{{refused}}}}}"
@@ -228,16 +223,19 @@ fn push_member<K: fmt::Display + Drop>(members: &mut String, key: K, count: u64)
     write!(members, "\"{key}\":{count}")
 }
 
-// The counts of calls by their kinds, without those of which there are none, which begin anew.
-fn commands_of(alloc: Global, counts: &[AtomicU64]) -> Result<String, AllocError> {
+// How many calls there are, and their counts by their kinds, without those of which there are none.
+// The counts begin anew.
+fn commands_of(alloc: Global, counts: &[AtomicU64]) -> Result<(u64, String), AllocError> {
+    let mut calls: u64 = 0;
     let mut members = String::new(alloc);
     for (kind, count) in Kind::ALL.iter().zip(counts) {
         let count = count.swap(0, Ordering::SeqCst);
         if count > 0 {
+            calls = calls.saturating_add(count);
             push_member(&mut members, kind.word(), count)?;
         }
     }
-    Ok(members)
+    Ok((calls, members))
 }
 
 // The counts of refusals by their numbers, without those of which there are none, which begin anew.

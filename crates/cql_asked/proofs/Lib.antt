@@ -5,6 +5,6 @@ mod Growing
 mod Keys
 mod Puts
 mod Readings
-mod Ruling
+pub mod Ruling
 mod Trees
 mod Turns

@@ -1,5 +1,5 @@
 -- The first rule that a tenants line breaks.
-use Rattle.std.specs.Prelude.{◌≡◌, ⊤, ℕ, ◌+◌, Bool, true, false, List, [], ◌∷◌, length, codes, if◌then◌else◌, Option, Some, None, is_none, option_map, option_and_then, unwrap_or}
+use Rattle.std.specs.Prelude.{◌≡◌, ⊤, ℕ, suc, ◌+◌, Bool, false, List, [], ◌∷◌, length, codes, if◌then◌else◌, Option, Some, None, is_some, option_map, option_and_then}
 use Rattle.std.specs.Option.{option_or}
 use Rattle.std.specs.Str.{bytes_eq}
 use Rattle.serde_json.specs.Data.{Data, Items, no_items, item}
@@ -24,34 +24,39 @@ word_of key.Queries = codes "queries"
 word_of key.Result = codes "result"
 word_of key.Streams = codes "streams"
 
+abbrev pub is_number : ℕ → ℕ → Option ℕ → Bool
+is_number low high None = false
+is_number low high (Some n) = is_within low high n
+
+-- a text of 1 to 64 bytes
+abbrev pub is_key : Option (List ℕ) → Bool
+is_key None = false
+is_key (Some text) = is_within 1 64 (length text)
+
+abbrev pub is_named : Option (List ℕ) → Bool
+is_named None = false
+is_named (Some text) = is_name text
+
 -- what stands at a key has to be there, and to pass
 abbrev pub key_passes : TenantKey → Data → Bool → Option TenantRule
 key_passes k d passes =
-    if is_none (get (word_of k) d) then Some (rule.Has k) else (if passes then None else Some (rule.InRange k))
+    if is_some (get (word_of k) d) then (if passes then None else Some (rule.InRange k)) else Some (rule.Has k)
 
 -- a whole number in its range
 abbrev pub number_rule : TenantKey → ℕ → ℕ → Data → Option TenantRule
-number_rule k low high d = key_passes k d (unwrap_or (option_map (λ n. is_within low high n) (whole_at (word_of k) d)) false)
-
--- a text of 1 to 64 bytes
-abbrev pub key_rule : Data → Option TenantRule
-key_rule d = key_passes key.Key d (unwrap_or (option_map (λ text. is_within 1 64 (length text)) (text_at (codes "key") d)) false)
-
--- a name
-abbrev pub name_rule : Data → Option TenantRule
-name_rule d = key_passes key.Name d (unwrap_or (option_map is_name (text_at (codes "name") d)) false)
+number_rule k low high d = key_passes k d (is_number low high (whole_at (word_of k) d))
 
 -- the six keys, in their order
 abbrev pub keys_rule : Data → Option TenantRule
 keys_rule d =
-    option_or (option_or (option_or (option_or (option_or (number_rule key.Hold 1 65536 d) (key_rule d)) (name_rule d))
-    (number_rule key.Queries 0 64 d)) (number_rule key.Result 1 65536 d)) (number_rule key.Streams 0 64 d)
+    option_or (option_or (option_or (option_or (option_or (number_rule key.Hold 1 65536 d) (key_passes key.Key d (is_key (text_at (codes "key") d))))
+    (key_passes key.Name d (is_named (text_at (codes "name") d)))) (number_rule key.Queries 0 64 d))
+    (number_rule key.Result 1 65536 d)) (number_rule key.Streams 0 64 d)
 
 -- an object, with no other key, and with the six
 abbrev pub rule_of_tenant : Data → Option TenantRule
 rule_of_tenant d =
-    if is_none (as_object d) then Some rule.IsObject
-    else (if has_only tenant_keys d then keys_rule d else Some rule.NoOtherKey)
+    if is_some (as_object d) then (if has_only tenant_keys d then keys_rule d else Some rule.NoOtherKey) else Some rule.IsObject
 
 -- what the tenant of a place breaks; the place counts from 1
 abbrev pub tenant_breaks : ℕ → TenantRule → BrokenRule
@@ -62,8 +67,12 @@ abbrev pub rules_from : ℕ → Items → Option BrokenRule
 rules_from n no_items = None
 rules_from n (item d ds) = option_or (option_map (tenant_breaks n) (rule_of_tenant d)) (rules_from (n + 1) ds)
 
+abbrev pub is_the_name : List ℕ → Option (List ℕ) → Bool
+is_the_name name None = false
+is_the_name name (Some other) = bytes_eq name other
+
 abbrev pub has_name : List ℕ → Data → Bool
-has_name name d = unwrap_or (option_map (λ other. bytes_eq name other) (text_at (codes "name") d)) false
+has_name name d = is_the_name name (text_at (codes "name") d)
 
 -- the place of the first that has the name, of those from a place on
 abbrev pub named_from : ℕ → List ℕ → Items → Option ℕ
@@ -74,15 +83,19 @@ named_from n name (item d ds) = if has_name name d then Some n else named_from (
 abbrev pub twin_of : Data → Items → Option ℕ
 twin_of d later = option_and_then (λ name. named_from 0 name later) (text_at (codes "name") d)
 
+-- what the second of one name breaks, so far behind the first
+abbrev pub twin_breaks : ℕ → ℕ → BrokenRule
+twin_breaks n twin = broken.Tenant (n + twin + 2) (rule.OwnName (n + 1))
+
 -- the first name that is had twice, of those from a place on
 abbrev pub twins_from : ℕ → Items → Option BrokenRule
 twins_from n no_items = None
 twins_from n (item d ds) =
-    option_or (option_map (λ twin. broken.Tenant (n + twin + 2) (rule.OwnName (n + 1))) (twin_of d ds)) (twins_from (n + 1) ds)
+    option_or (option_map (twin_breaks n) (twin_of d ds)) (twins_from (n + 1) ds)
 
 abbrev pub items_len : Items → ℕ
 items_len no_items = 0
-items_len (item d ds) = items_len ds + 1
+items_len (item d ds) = suc (items_len ds)
 
 -- 1 to 256, each by itself, and no name twice
 abbrev pub rule_of_items : Items → Option BrokenRule

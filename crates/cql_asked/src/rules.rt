@@ -1,7 +1,10 @@
 //! Which rule a tenants line breaks.
-ghost use Rattle.std.specs.Prelude.{◌≡◌, ◌<◌, length, IfSome};
+ghost use Rattle.std.specs.Prelude.{◌≡◌, ◌<◌, length, codes, is_some, IfSome};
+ghost use Rattle.serde_json.specs.Find.{get, as_object};
 ghost use Rattle.serde_json.specs.View.{view, items_view};
-ghost use Rattle.cql_asked.specs.Rules.{word_of, number_rule, key_rule, name_rule, keys_rule, rule_of_tenant, rules_from, has_name, named_from, twin_of, twins_from, rule_of_items, rule_of_tree};
+ghost use Rattle.cql_tenants.specs.Tenants.{is_within};
+ghost use Rattle.cql_asked.specs.Tree.{text_at, whole_at};
+ghost use Rattle.cql_asked.specs.Rules.{word_of, is_number, is_key, is_named, key_passes, number_rule, keys_rule, rule_of_tenant, rules_from, has_name, named_from, twin_of, twins_from, rule_of_items, rule_of_tree};
 
 use crate::tenants::TENANT_KEYS;
 use crate::values::{array_at, has_only, text_at, whole_at};
@@ -97,52 +100,81 @@ pub enum BrokenRule {
     Tenant { place: usize, rule: TenantRule },
 }
 
-// That a whole number of the range stands at the key.
+fn is_within(low: u64, high: u64, n: u64) -> bool
+    ensures { result ≡ is_within low high n }
+{
+    low <= n && n <= high
+}
+
+fn is_object(tree: &Json) -> bool
+    ensures { result ≡ is_some (as_object (view tree.now)) }
+{
+    tree.as_object().is_some()
+}
+
+fn has(tree: &Json, key: &str) -> bool
+    ensures { result ≡ is_some (get key.now (view tree.now)) }
+{
+    tree.get(key).is_some()
+}
+
+// Whether a whole number of the range stands at the key.
+fn is_number(tree: &Json, key: &str, low: u64, high: u64) -> bool
+    ensures { result ≡ is_number low high (whole_at key.now (view tree.now)) }
+{
+    match whole_at(tree, key) {
+        Some(n) => is_within(low, high, n),
+        None => false,
+    }
+}
+
+// Whether a key of a login stands at its key.
+fn is_key(tree: &Json) -> bool
+    ensures { result ≡ is_key (text_at (codes "key") (view tree.now)) }
+{
+    match text_at(tree, "key") {
+        Some(key) => is_within(1, 64, key.len() as u64),
+        None => false,
+    }
+}
+
+// Whether a name stands at its key.
+fn is_named(tree: &Json) -> bool
+    ensures { result ≡ is_named (text_at (codes "name") (view tree.now)) }
+{
+    match text_at(tree, "name") {
+        Some(name) => is_name(name),
+        None => false,
+    }
+}
+
+// The rule of a key that what stands there breaks, unless it passes.
+fn key_passes(tree: &Json, key: TenantKey, passes: bool) -> Option<TenantRule>
+    ensures { result ≡ key_passes key (view tree.now) passes }
+{
+    if !has(tree, key.word()) {
+        return Some(TenantRule::Has(key));
+    }
+    if passes {
+        None
+    } else {
+        Some(TenantRule::InRange(key))
+    }
+}
+
 fn number_rule(tree: &Json, key: TenantKey, low: u64, high: u64) -> Option<TenantRule>
     ensures { result ≡ number_rule key low high (view tree.now) }
 {
-    if tree.get(key.word()).is_none() {
-        return Some(TenantRule::Has(key));
-    }
-    match whole_at(tree, key.word()) {
-        Some(n) if low <= n && n <= high => None,
-        _ => Some(TenantRule::InRange(key)),
-    }
+    key_passes(tree, key, is_number(tree, key.word(), low, high))
 }
 
-// That a text of 1 to 64 bytes stands at the key of the login.
-fn key_rule(tree: &Json) -> Option<TenantRule>
-    ensures { result ≡ key_rule (view tree.now) }
-{
-    if tree.get("key").is_none() {
-        return Some(TenantRule::Has(TenantKey::Key));
-    }
-    match text_at(tree, "key") {
-        Some(key) if 1 <= key.len() && key.len() <= 64 => None,
-        _ => Some(TenantRule::InRange(TenantKey::Key)),
-    }
-}
-
-// That a name stands at its key.
-fn name_rule(tree: &Json) -> Option<TenantRule>
-    ensures { result ≡ name_rule (view tree.now) }
-{
-    if tree.get("name").is_none() {
-        return Some(TenantRule::Has(TenantKey::Name));
-    }
-    match text_at(tree, "name") {
-        Some(name) if is_name(name) => None,
-        _ => Some(TenantRule::InRange(TenantKey::Name)),
-    }
-}
-
-// That the six keys are there, each with what it should have.
+// The first rule of the six keys.
 fn keys_rule(tree: &Json) -> Option<TenantRule>
     ensures { result ≡ keys_rule (view tree.now) }
 {
     number_rule(tree, TenantKey::Hold, 1, 65536)
-        .or(key_rule(tree))
-        .or(name_rule(tree))
+        .or(key_passes(tree, TenantKey::Key, is_key(tree)))
+        .or(key_passes(tree, TenantKey::Name, is_named(tree)))
         .or(number_rule(tree, TenantKey::Queries, 0, 64))
         .or(number_rule(tree, TenantKey::Result, 1, 65536))
         .or(number_rule(tree, TenantKey::Streams, 0, 64))
@@ -151,7 +183,7 @@ fn keys_rule(tree: &Json) -> Option<TenantRule>
 fn rule_of_tenant(tree: &Json) -> Option<TenantRule>
     ensures { result ≡ rule_of_tenant (view tree.now) }
 {
-    if tree.as_object().is_none() {
+    if !is_object(tree) {
         return Some(TenantRule::IsObject);
     }
     if !has_only(tree, TENANT_KEYS) {
@@ -221,10 +253,11 @@ fn twin_rule(items: &[Json]) -> Option<BrokenRule>
     None
 }
 
+#[tactic(auto, using(crate::proofs::Ruling::items_len_view))]
 fn rule_of_items(items: &[Json]) -> Option<BrokenRule>
     ensures { result ≡ rule_of_items (items_view items.now) }
 {
-    if items.is_empty() || items.len() > 256 {
+    if !is_within(1, 256, items.len() as u64) {
         return Some(BrokenRule::List);
     }
     first_rule(items).or(twin_rule(items))

@@ -35,7 +35,9 @@ impl Core {
         }
         let streams = self.directory.own_streams(alloc, owner)?;
         for stream in streams.as_slice() {
-            if let Some(rows) = self.rows_held(owner, stream.name.as_str()) && rows > 0 {
+            if let Some(rows) = self.rows_held(owner, stream.name.as_str())
+                && rows > 0
+            {
                 let name = stream.name.try_clone(alloc)?;
                 held.push(HeldStream { name, rows })?;
             }

@@ -216,7 +216,11 @@ impl<'a, R: Clock + Eprint> Watch<'a, R> {
 }
 
 // Adds a member to the members of an object.
-fn push_member<K: fmt::Display + Drop>(members: &mut String, key: K, count: u64) -> Result<(), AllocError> {
+fn push_member<K: fmt::Display + Drop>(
+    members: &mut String,
+    key: K,
+    count: u64,
+) -> Result<(), AllocError> {
     if !members.is_empty() {
         members.push_str(",")?;
     }

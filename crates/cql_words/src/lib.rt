@@ -147,7 +147,8 @@ fn join<'a>(alloc: Global) -> Arg<'a> {
 }
 
 fn log<'a>(alloc: Global) -> Arg<'a> {
-    let help = "How often counts are told on standard error, with who comes and leaves, or 0 for nothing";
+    let help =
+        "How often counts are told on standard error, with who comes and leaves, or 0 for nothing";
     valued(alloc, "log", "SECONDS", "0", help).value_parser(clap::value_parser!(u32).range(
         0..=86_400,
     ))

@@ -7,10 +7,10 @@ ghost use Rattle.cql_asked.specs.Rules.{IsJson};
 ghost use Rattle.cql_wire.specs.declared.programs.TableFault.TheVariants as table;
 ghost use Rattle.cql_wire.specs.Table.{text_of, IsLong, TellsBehind, EndsBehind, GivesTable, GivesNone};
 
-use crate::programs::TableFault;
+use crate::programs::{TableFault, table_line};
 use cql_asked::{BrokenRule, TenantsFault, read_tenants};
 use cql_core::TenantTable;
-use cql_lines::{Watched, first_line};
+use cql_lines::Watched;
 use std::alloc::{AllocError, Global};
 use std::io::Read;
 
@@ -80,7 +80,11 @@ fn whole_table<R: Read>(
     let Ok(text) = joined(line, rest.as_slice()) else {
         return Err(TableFault::NoMemory);
     };
-    Ok(read_tenants(alloc, text.as_slice())?)
+    match read_tenants(alloc, text.as_slice()) {
+        Ok(table) => Ok(table),
+        Err(TenantsFault::Refused(rule)) => Err(TableFault::Refused(rule)),
+        Err(TenantsFault::NoMemory) => Err(TableFault::NoMemory),
+    }
 }
 
 /// The tenants of an input. Where its first line is JSON by itself, or has more than 65,536 bytes,
@@ -95,7 +99,7 @@ pub fn given_table<R: Read>(
         (λ fault. GivesNone (R.remaining (inner_of reader.old)) (R.remaining (inner_of reader.new)) fault) }
     ensures cause { result ≡ Err table.Read → has_failed reader.new ≡ true }
 {
-    let line = first_line(alloc, reader)?;
+    let line = table_line(alloc, reader)?;
     match read_tenants(alloc, line.as_slice()) {
         Ok(table) => Ok(table),
         Err(TenantsFault::Refused(rule)) => if let BrokenRule::Json { .. } = rule {

@@ -8,3 +8,4 @@ mod Readings
 pub mod Ruling
 mod Trees
 mod Turns
+pub mod WithTree

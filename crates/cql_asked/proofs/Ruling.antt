@@ -1,5 +1,5 @@
 -- What breaks no rule is a table.
-use Rattle.std.proofs.Common.{◌≡◌, ℕ, suc, ◌+◌, Bool, true, false, ◌&&◌, ◌||◌, not, List, [], ◌∷◌, length, codes, Option, Some, None, refl, sym, ap, ◌∙◌, Unit, option_map, option_and_then, is_some, IsSome}
+use Rattle.std.proofs.Common.{◌≡◌, ℕ, suc, ◌+◌, Bool, true, false, ◌&&◌, ◌||◌, not, List, [], ◌∷◌, length, codes, Option, Some, None, refl, sym, ap, ◌∙◌, option_map, option_and_then, is_some, IsSome}
 use Rattle.std.specs.Bool.{if◌then◌else◌}
 use Rattle.std.specs.Option.{option_or}
 use Rattle.std.specs.List.{list_all, list_any}
@@ -126,7 +126,7 @@ right_tenant d e =
 -- ---- the tenants of a list
 
 -- each is right
-AreRight : Items → List Tenant → Type 0
+abbrev AreRight : Items → List Tenant → Type 0
 AreRight no_items [] = Unit {0}
 AreRight no_items (t ∷ ts) = ⊥
 AreRight (item d ds) [] = ⊥

@@ -5,5 +5,6 @@ pub mod Put
 pub mod Reading
 pub mod Rules
 pub mod Table
+pub mod Telling
 pub mod Tree
 pub mod View

@@ -27,6 +27,12 @@ pub record TellsBehind (mid after : Option (List ℕ)) (line : List ℕ) (tenant
 abbrev pub IsLong : Option (List ℕ) → Option (List ℕ) → ℕ → BrokenRule → Type 0
 IsLong mid after most rule = (front : List ℕ) × Consumes mid after front × (most < length front) × (rule ≡ broken.Length 1048576)
 
+-- why the rest wasn't read: it is too long, or a read failed, or memory was refused
+abbrev pub EndsRest : Option (List ℕ) → Option (List ℕ) → ℕ → TableFault → Type 0
+EndsRest mid after most (table.Refused rule) = IsLong mid after most rule
+EndsRest mid after most table.Read = ⊤
+EndsRest mid after most table.NoMemory = ⊤
+
 -- there is nothing behind the line, which isn't JSON; or the whole tells no table, and the rule is the first that it breaks
 abbrev pub IsNoTable : Option (List ℕ) → Option (List ℕ) → List ℕ → BrokenRule → Type 0
 IsNoTable mid after line rule = (rest : List ℕ) × Consumes mid after rest × IsAtEnd after

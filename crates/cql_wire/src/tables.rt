@@ -5,7 +5,7 @@ ghost use Rattle.cql_lines.specs.Watched.{inner_of, has_failed};
 ghost use Rattle.cql_asked.specs.Tree.{tree_of};
 ghost use Rattle.cql_asked.specs.Rules.{IsJson};
 ghost use Rattle.cql_wire.specs.declared.programs.TableFault.TheVariants as table;
-ghost use Rattle.cql_wire.specs.Table.{text_of, IsLong, TellsBehind, EndsBehind, GivesTable, GivesNone};
+ghost use Rattle.cql_wire.specs.Table.{text_of, EndsRest, TellsBehind, EndsBehind, GivesTable, GivesNone};
 
 use crate::programs::{TableFault, table_line};
 use cql_asked::{BrokenRule, TenantsFault, read_tenants};
@@ -29,8 +29,7 @@ fn read_rest<R: Read>(
     requires { most ≤ 1048576 }
     ensures ok { IfOk result (λ rest. Consumes (R.remaining (inner_of reader.old)) (R.remaining (inner_of reader.new)) rest.items
         × IsAtEnd (R.remaining (inner_of reader.new))) }
-    ensures refused { IfErr result (λ fault. (rule : BrokenRule) → fault ≡ table.Refused rule
-        → IsLong (R.remaining (inner_of reader.old)) (R.remaining (inner_of reader.new)) most rule) }
+    ensures fault { IfErr result (λ fault. EndsRest (R.remaining (inner_of reader.old)) (R.remaining (inner_of reader.new)) most fault) }
     ensures cause { result ≡ Err table.Read → has_failed reader.new ≡ true }
 {
     let mut rest: Vec<u8> = Vec::new(alloc);

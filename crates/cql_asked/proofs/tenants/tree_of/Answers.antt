@@ -1,4 +1,4 @@
-use Rattle.std.proofs.Common.{true, false, sym, ◌∙◌}
+use Rattle.std.proofs.Common.{◌≡◌, true, false, sym, ◌∙◌}
 use Rattle.serde_json.specs.View.{view}
 use Rattle.cql_asked.proofs.Trees.{tree_of-read, tree_of-refused}
 use Rattle.cql_asked.proofs.tenants.tree_of.Goals as goal

@@ -236,8 +236,11 @@ impl House {
 
     /// Ends the sessions of some of those whose time has passed.
     pub(crate) fn look_round<R: Wait + Clock, G: Gate>(&self, rt: &R, gate: &G) {
+        let Ok(now) = Instant::now(rt) else {
+            return;
+        };
         let mut late = Vec::new(self.alloc);
-        self.floor.lock(rt).take_late(rt, &mut late);
+        self.floor.lock(rt).take_late(now, &mut late);
         for turn in late {
             let reason = turn.guest.reason_of_late();
             self.end(rt, gate, turn, Some(LATE), reason);

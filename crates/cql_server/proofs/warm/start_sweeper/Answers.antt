@@ -1,5 +1,5 @@
 use denote.Param.{param}
-use denote.Param.Send.{IsSend, IsSync, sendable}
+use denote.Param.Send.{IsSync, sendable}
 use Rattle.std.proofs.Crossing.{crosses}
 use Rattle.cql_hall.proofs.Crosses.{hall_sync}
 use Rattle.cql_hall.specs.contracts.lobby.Hall as hall_type

@@ -1,5 +1,5 @@
 // How many rows the streams of a tenant hold.
-ghost use Rattle.std.specs.Prelude.{◌≡◌, All, Some, IfOk};
+ghost use Rattle.std.specs.Prelude.{◌≡◌, All, Some, IfOk, IfSome};
 ghost use Rattle.cql_meaning.specs.Source.{source_of};
 ghost use Rattle.cql_meaning.specs.Rows.{rows_held};
 
@@ -21,6 +21,25 @@ impl Drop for HeldStream {
 }
 
 impl Core {
+    // What is held of a stream, if rows are.
+    fn held_of(
+        &self,
+        alloc: Global,
+        owner: TenantId,
+        stream: &Text,
+    ) -> Result<Option<HeldStream>, AllocError>
+        ensures { IfOk result (λ held. IfSome held (λ h. rows_held self.now (source_of owner h.name) ≡ Some h.rows)) }
+    {
+        let Some(rows) = self.rows_held(owner, stream.as_str()) else {
+            return Ok(None);
+        };
+        if rows == 0 {
+            return Ok(None);
+        }
+        let name = stream.try_clone(alloc)?;
+        Ok(Some(HeldStream { name, rows }))
+    }
+
     /// The tenant's own streams of which rows are held, in order of making.
     pub fn held_streams(
         &self,
@@ -35,11 +54,8 @@ impl Core {
         }
         let streams = self.directory.own_streams(alloc, owner)?;
         for stream in streams.as_slice() {
-            if let Some(rows) = self.rows_held(owner, stream.name.as_str())
-                && rows > 0
-            {
-                let name = stream.name.try_clone(alloc)?;
-                held.push(HeldStream { name, rows })?;
+            if let Some(found) = self.held_of(alloc, owner, &stream.name)? {
+                held.push(found)?;
             }
         }
         Ok(held)

@@ -8,3 +8,4 @@ pub mod Next
 pub mod Later
 pub mod Told
 pub mod Search
+mod Instances

@@ -9,3 +9,4 @@ pub mod Later
 pub mod Told
 pub mod Search
 pub mod Lifted
+mod Instances

@@ -8,7 +8,7 @@ mod operators;
 
 use clap::error::ErrorKind;
 use cql_core::{Operator, TenantTable};
-use cql_server::{Benches, Failure, Limits, Watch, benches_of, serve};
+use cql_server::{Benches, Failure, Hub, Limits, Watch, benches_of, serve};
 use cql_wire::{TableFault, Watched, first_table};
 use cql_words::{Config, JoinForm, read_words};
 use operators::{Operators, keyed_operators, plain_operators};
@@ -161,6 +161,10 @@ where
     let Ok(listener) = TcpListener::bind(rt, ("127.0.0.1", config.port)) else {
         return Err(Failure::Listening);
     };
+    // made before the port is told, so that what it takes of the system is taken by then
+    let Ok(hub) = Hub::new(rt, alloc, &listener) else {
+        return Err(Failure::Listening);
+    };
     let Some(watch) = Watch::new(rt, config.log) else {
         return Err(Failure::NoMemory);
     };
@@ -174,7 +178,7 @@ where
     serve(
         rt,
         alloc,
-        &listener,
+        hub,
         Limits::of_seconds(config.login, config.idle),
         &mut io::writer(rt),
         table,

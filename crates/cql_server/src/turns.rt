@@ -1,0 +1,202 @@
+// Whose turn it is at the workers.
+
+use std::alloc::{AllocError, Global};
+use std::collections::VecDeque;
+
+// So many short turns are taken in a row while an answer waits that could be computed.
+const IN_A_ROW: u32 = 16;
+
+// What waits, in a queue for each owner. Owners take turns.
+#[derive(Drop)]
+struct Queues<T> {
+    lines: Vec<VecDeque<T>>,
+    // the owners of whom something waits, the next one first
+    order: VecDeque<usize>,
+    count: usize,
+}
+
+impl<T: Drop> Queues<T> {
+    fn new(alloc: Global, owners: usize) -> Result<Queues<T>, AllocError> {
+        let order = VecDeque::with_capacity(alloc, owners)?;
+        let mut lines = Vec::with_capacity(alloc, owners)?;
+        for _ in 0..owners {
+            lines.push(VecDeque::new(alloc))?;
+        }
+        Ok(Queues {
+            lines,
+            order,
+            count: 0,
+        })
+    }
+
+    // Whether something of another owner waits.
+    fn has_other(&self, owner: usize) -> bool {
+        self.order.len() > 1 || self.order.front().is_some_and(|first| *first != owner)
+    }
+
+    // Puts it last in its owner's queue. Without memory it comes back.
+    fn push(&mut self, owner: usize, item: T) -> Result<(), T> {
+        let Some(line) = self.lines.get_mut(owner) else {
+            return Err(item);
+        };
+        let is_first = line.is_empty();
+        if let Err(failed) = line.push_back(item) {
+            return Err(failed.value);
+        }
+        if is_first {
+            // there is room for each owner
+            let _ = self.order.push_back(owner);
+        }
+        self.count = self.count.saturating_add(1);
+        Ok(())
+    }
+
+    // The next of the owner whose turn it is, whose turn comes again after all others'.
+    fn pop(&mut self) -> Option<T> {
+        let owner = self.order.pop_front()?;
+        let line = self.lines.get_mut(owner)?;
+        let item = line.pop_front();
+        if !line.is_empty() {
+            let _ = self.order.push_back(owner);
+        }
+        self.count = self.count.saturating_sub(1);
+        item
+    }
+
+    // Passes over the owner whose turn it is.
+    fn pass(&mut self) {
+        if let Some(owner) = self.order.pop_front() {
+            let _ = self.order.push_back(owner);
+        }
+    }
+}
+
+/// What a worker is to do.
+#[derive(Drop)]
+pub struct Task<T> {
+    pub item: T,
+    /// Whether it is an answer, whose end the turns have to be told.
+    pub is_answer: bool,
+}
+
+/// What waits for a worker: short turns, and answers. Owners take turns in either. Short turns go
+/// first, but for one answer after every sixteen of them. All workers but one may compute answers
+/// at once, or the only one; and for one owner half of these, rounded up, while an answer of
+/// another one waits.
+#[derive(Drop)]
+pub struct Turns<T> {
+    short: Queues<T>,
+    answers: Queues<T>,
+    // how many answers may be computed at once, and how many are, in all and for each owner
+    most: usize,
+    busy: usize,
+    busy_of: Vec<usize>,
+    // how many short turns were taken since the last answer
+    in_a_row: u32,
+}
+
+impl<T: Drop> Turns<T> {
+    /// Nothing waits. Owners are numbers below the given one.
+    pub fn new(alloc: Global, owners: usize, workers: usize) -> Result<Turns<T>, AllocError> {
+        let short = Queues::new(alloc, owners)?;
+        let answers = Queues::new(alloc, owners)?;
+        let busy_of = vec![in alloc; 0; owners]?;
+        Ok(Turns {
+            short,
+            answers,
+            most: workers.saturating_sub(1).max(1),
+            busy: 0,
+            busy_of,
+            in_a_row: 0,
+        })
+    }
+
+    /// How much waits that a worker could do now.
+    pub fn waiting(&self) -> usize {
+        if self.busy < self.most {
+            self.short.count.saturating_add(self.answers.count)
+        } else {
+            self.short.count
+        }
+    }
+
+    /// A short turn waits. Without memory it comes back.
+    pub fn push_short(&mut self, owner: usize, item: T) -> Result<(), T> {
+        self.short.push(owner, item)
+    }
+
+    /// An answer waits. Without memory it comes back.
+    pub fn push_answer(&mut self, owner: usize, item: T) -> Result<(), T> {
+        self.answers.push(owner, item)
+    }
+
+    /// Begins an answer that hasn't waited, where none waits and one more may be computed.
+    pub fn begin_answer(&mut self, owner: usize) -> bool {
+        let may_begin = self.answers.count == 0 && self.busy < self.most;
+        if may_begin {
+            self.begin(owner);
+        }
+        may_begin
+    }
+
+    fn begin(&mut self, owner: usize) {
+        self.in_a_row = 0;
+        self.busy = self.busy.saturating_add(1);
+        if let Some(busy) = self.busy_of.get_mut(owner) {
+            *busy = busy.saturating_add(1);
+        }
+    }
+
+    /// An answer of the owner has ended.
+    pub fn end_answer(&mut self, owner: usize) {
+        self.busy = self.busy.saturating_sub(1);
+        if let Some(busy) = self.busy_of.get_mut(owner) {
+            *busy = busy.saturating_sub(1);
+        }
+    }
+
+    // Whether one more answer of the owner may be computed.
+    fn may_begin(&self, owner: usize) -> bool {
+        let busy = self.busy_of.get(owner).map_or(0, |busy| *busy);
+        let share = self.most.div_ceil(2);
+        self.busy < self.most && (busy < share || !self.answers.has_other(owner))
+    }
+
+    /// What is to be done next, if anything can be now.
+    pub fn take(&mut self) -> Option<Task<T>> {
+        if self.in_a_row < IN_A_ROW
+            && let Some(item) = self.short.pop()
+        {
+            self.in_a_row += 1;
+            return Some(Task {
+                item,
+                is_answer: false,
+            });
+        }
+        if let Some(item) = self.take_answer() {
+            return Some(Task {
+                item,
+                is_answer: true,
+            });
+        }
+        self.in_a_row = 0;
+        let item = self.short.pop()?;
+        Some(Task {
+            item,
+            is_answer: false,
+        })
+    }
+
+    // The next answer that may be computed, and begins it.
+    fn take_answer(&mut self) -> Option<T> {
+        for _ in 0..self.answers.order.len() {
+            let owner = *self.answers.order.front()?;
+            if self.may_begin(owner) {
+                self.begin(owner);
+                return self.answers.pop();
+            }
+            self.answers.pass();
+        }
+        None
+    }
+}

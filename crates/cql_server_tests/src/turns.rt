@@ -1,0 +1,126 @@
+// Whose turn it is, over numbers in the place of callers.
+
+use cql_server::Turns;
+use std::alloc::{AllocError, Global};
+use std::test::Fail;
+
+// A short turn waits.
+fn short(turns: &mut Turns<u32>, owner: usize, item: u32) -> Result<(), AllocError> {
+    turns.push_short(owner, item).map_err(|_| AllocError)
+}
+
+// An answer waits.
+fn answer(turns: &mut Turns<u32>, owner: usize, item: u32) -> Result<(), AllocError> {
+    turns.push_answer(owner, item).map_err(|_| AllocError)
+}
+
+// Whether these are done next, in this order, and then nothing can be.
+fn gives(turns: &mut Turns<u32>, wanted: &[u32]) -> bool {
+    for item in wanted {
+        match turns.take() {
+            Some(task) if task.item == *item => {}
+            _ => return false,
+        }
+    }
+    turns.take().is_none()
+}
+
+fn three_owners(alloc: Global, workers: usize) -> Result<Turns<u32>, AllocError> {
+    Turns::new(alloc, 3, workers)
+}
+
+#[test]
+fn owners_take_turns(rt: HostRuntime) -> Result<(), Fail> {
+    let mut turns = three_owners(rt.alloc(), 4)?;
+    for (owner, item) in [(0, 1), (0, 2), (0, 3), (1, 4), (2, 5), (1, 6)] {
+        short(&mut turns, owner, item)?;
+    }
+    assert_eq!(rt; turns.waiting(), 6);
+    assert!(rt; gives(&mut turns, &[1, 4, 5, 2, 6, 3]));
+    assert_eq!(rt; turns.waiting(), 0);
+    Ok(())
+}
+
+#[test]
+fn short_ones_go_first(rt: HostRuntime) -> Result<(), Fail> {
+    let mut turns = three_owners(rt.alloc(), 4)?;
+    answer(&mut turns, 0, 1)?;
+    short(&mut turns, 0, 2)?;
+    short(&mut turns, 1, 3)?;
+    assert!(rt; gives(&mut turns, &[2, 3, 1]));
+    Ok(())
+}
+
+// After sixteen short turns in a row an answer has its turn.
+#[test]
+fn answers_are_not_starved(rt: HostRuntime) -> Result<(), Fail> {
+    let mut turns = three_owners(rt.alloc(), 4)?;
+    answer(&mut turns, 0, 100)?;
+    for item in 1..19 {
+        short(&mut turns, 1, item)?;
+    }
+    let wanted = [1, 2, 3, 4, 5, 6, 7, 8, 9, 10, 11, 12, 13, 14, 15, 16, 100, 17, 18];
+    assert!(rt; gives(&mut turns, &wanted));
+    Ok(())
+}
+
+// Of three workers two compute answers.
+#[test]
+fn a_worker_is_left(rt: HostRuntime) -> Result<(), Fail> {
+    let mut turns = three_owners(rt.alloc(), 3)?;
+    for item in [1, 2, 3] {
+        answer(&mut turns, 0, item)?;
+    }
+    assert!(rt; gives(&mut turns, &[1, 2]));
+    assert_eq!(rt; turns.waiting(), 0, "what can't be done now doesn't count");
+    turns.end_answer(0);
+    assert_eq!(rt; turns.waiting(), 1);
+    assert!(rt; gives(&mut turns, &[3]));
+    Ok(())
+}
+
+#[test]
+fn one_worker_does_both(rt: HostRuntime) -> Result<(), Fail> {
+    let mut turns = three_owners(rt.alloc(), 1)?;
+    answer(&mut turns, 0, 1)?;
+    answer(&mut turns, 0, 2)?;
+    short(&mut turns, 0, 3)?;
+    assert!(rt; gives(&mut turns, &[3, 1]));
+    turns.end_answer(0);
+    assert!(rt; gives(&mut turns, &[2]));
+    Ok(())
+}
+
+// Of five workers four compute answers. One owner has them all while nobody else waits; once
+// another one waits it gets none before it holds less than two.
+#[test]
+fn half_is_left_to_others(rt: HostRuntime) -> Result<(), Fail> {
+    let mut turns = three_owners(rt.alloc(), 5)?;
+    for item in [1, 2, 3, 4, 5, 6] {
+        answer(&mut turns, 0, item)?;
+    }
+    assert!(rt; gives(&mut turns, &[1, 2, 3, 4]));
+    for item in [7, 8, 9] {
+        answer(&mut turns, 1, item)?;
+    }
+    turns.end_answer(0);
+    turns.end_answer(0);
+    assert!(rt; gives(&mut turns, &[7, 8]));
+    turns.end_answer(0);
+    assert!(rt; gives(&mut turns, &[5]), "each holds two of four by then");
+    Ok(())
+}
+
+// An answer that needn't wait begins at once, and else it has to.
+#[test]
+fn answers_begin_at_once(rt: HostRuntime) -> Result<(), Fail> {
+    let mut turns = three_owners(rt.alloc(), 3)?;
+    assert!(rt; turns.begin_answer(0));
+    assert!(rt; turns.begin_answer(0));
+    assert!(rt; !turns.begin_answer(1), "two are computed");
+    answer(&mut turns, 1, 1)?;
+    turns.end_answer(0);
+    assert!(rt; !turns.begin_answer(0), "another one waits");
+    assert!(rt; gives(&mut turns, &[1]));
+    Ok(())
+}

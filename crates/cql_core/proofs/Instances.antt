@@ -1,5 +1,5 @@
 -- The laws of the core at a journal worked by hand: a premise that it doesn't meet is refused here.
-use Rattle.std.proofs.Common.{◌≡◌, ℕ, true, false, List, [], ◌∷◌, refl}
+use Rattle.std.proofs.Common.{◌≡◌, List, [], ◌∷◌, refl}
 use Rattle.std.specs.Prelude.{codes}
 use Rattle.cql_value.specs.Name as words
 use Rattle.cql_tenants.specs.declared.tenants.Tenant.{Tenant}
@@ -8,7 +8,7 @@ use Rattle.cql_tenants.specs.Home.{nothing_made}
 use Rattle.cql_meaning.specs.declared.command.Command.{Command}
 use Rattle.cql_meaning.specs.declared.command.Command.TheVariants.{Stream}
 use Rattle.cql_meaning.specs.declared.refusal.Refusal.TheVariants.{NoMemory, StreamExists}
-use Rattle.cql_meaning.specs.Told.{Told, Done, Refused}
+use Rattle.cql_meaning.specs.Told.{Done, Refused}
 use Rattle.cql_meaning.specs.Machine.{opening}
 use Rattle.cql_meaning.specs.View.{view}
 use Rattle.cql_meaning.specs.Solo.{nothing_known, solo}
@@ -34,10 +34,13 @@ journal =
 
 stands_rightly : IsJournal (opening table) journal
 unfolding same_name words.is_reserved
-stands_rightly =
-    (record { sent = λ e. absurd cc; unsent = λ e takes. takes; first = λ e f. absurd cc }
-    , (record { sent = λ e. refl; unsent = λ e. absurd cc; first = λ e. absurd cc }
-    , (record { sent = λ e. refl; unsent = λ e. absurd cc; first = λ e. absurd cc }, tt)))
+stands_rightly = (
+  record { sent = λ e. absurd cc; unsent = λ e takes. takes; first = λ e f. absurd cc },
+  (
+    record { sent = λ e. refl; unsent = λ e. absurd cc; first = λ e. absurd cc },
+    (record { sent = λ e. refl; unsent = λ e. absurd cc; first = λ e. absurd cc }, tt),
+  ),
+)
 
 journal_law_at : IsJournalLaw → IsTold table journal
 journal_law_at law = law table journal stands_rightly

@@ -1,5 +1,5 @@
 -- The laws of audits at receipts worked by hand: a premise that these don't meet is refused here.
-use Rattle.std.proofs.Common.{◌≡◌, ℕ, zero, suc, true, false, List, [], ◌∷◌, Option, Some, None, Ok, refl, arith}
+use Rattle.std.proofs.Common.{ℕ, zero, suc, List, [], ◌∷◌, Option, Some, None, Ok, refl, arith}
 use Rattle.std.specs.Prelude.{codes, All}
 use Rattle.cql_value.specs.Name as words
 use Rattle.cql_tenants.specs.declared.tenants.Tenant.{Tenant}
@@ -13,7 +13,7 @@ use Rattle.cql_core.specs.declared.journal.Mark.TheVariants as mark
 use Rattle.cql_core.specs.Journal.{IsJournal}
 use Rattle.cql_hall.specs.Audit.{Journal, Heard, LeavesFree, Agrees, AllAgree, FirstFails}
 use Rattle.cql_hall.specs.Laws.{IsCalledOnce, HasOneAnswer, AgreesEach, HasEachCallOnce}
-use Rattle.cql_hall.specs.Alone.{AgreesAlone, FirstFailsAlone, AuditsAlone, IsNoMismatch, AgreesAloneToo, HasNoMismatchAlone, HasOneAnswerAlone}
+use Rattle.cql_hall.specs.Alone.{AgreesAlone, FirstFailsAlone, IsNoMismatch, AgreesAloneToo, HasNoMismatchAlone, HasOneAnswerAlone}
 
 abbrev table : List Tenant
 table = record { name = 97 ∷ []; key = 107 ∷ []; quotas = record { streams = 8; queries = 8; hold = 100; result = 1000 } } ∷ []
@@ -42,14 +42,17 @@ failing = receipt None Done
 
 stands_rightly : IsJournal (opening table) journal.entries
 unfolding same_name words.is_reserved
-stands_rightly =
-    (record { sent = λ e. refl; unsent = λ e. absurd cc; first = λ e. absurd cc }
-    , (record { sent = λ e. refl; unsent = λ e. absurd cc; first = λ e. absurd cc }, tt))
+stands_rightly = (
+  record { sent = λ e. refl; unsent = λ e. absurd cc; first = λ e. absurd cc },
+  (record { sent = λ e. refl; unsent = λ e. absurd cc; first = λ e. absurd cc }, tt),
+)
 
 agree : AllAgree journal [] receipts
 unfolding same_name words.is_reserved
-agree = ((record { tenant = refl; command = refl; reply = λ e. refl }, λ k h lt. absurd (omega (arith, lt)))
-    , ((record { tenant = refl; command = refl; reply = λ e. refl }, earlier), tt))
+agree = (
+  (record { tenant = refl; command = refl; reply = λ e. refl }, λ k h lt. absurd (omega (arith, lt))),
+  ((record { tenant = refl; command = refl; reply = λ e. refl }, earlier), tt),
+)
   where
     earlier : All (LeavesFree (receipt (Some 1) (Refused StreamExists)) 1) (receipt (Some 0) Done ∷ [])
     earlier zero h lt = (λ e. absurd (omega (arith, e)), λ e. omega arith)

@@ -1,5 +1,5 @@
 -- The laws of nodes and of what changes them, at bags worked by hand: a premise that these don't meet is refused here.
-use Rattle.std.proofs.Common.{◌≡◌, ◌≢◌, ◌⊎◌, ◌<◌, ℕ, ◌+◌, pos, List, [], ◌∷◌, true, false, if◌then◌else◌, Option, Some, None, Ok, slice_get, inl, refl, sym, ap, ◌∙◌, subst, arith, rules}
+use Rattle.std.proofs.Common.{◌≡◌, ◌≢◌, ℕ, ◌+◌, pos, List, [], ◌∷◌, true, false, if◌then◌else◌, Option, Some, None, slice_get, inl, refl, sym, ap, ◌∙◌, subst, arith, rules}
 use Rattle.std.specs.List.{filter, AllByRecursion, AllZip, Contains}
 use Rattle.cql_value.specs.declared.value.Value.{Value}
 use Rattle.cql_value.specs.declared.value.Value.TheVariants.{Number}
@@ -11,7 +11,7 @@ use Rattle.cql_bag.specs.Changes.{changed, CanChange}
 use Rattle.cql_bag.specs.declared.change.Change.{Change}
 use Rattle.cql_plan.specs.declared.condition.Condition.{Condition}
 use Rattle.cql_plan.specs.declared.condition.Condition.TheOpen.{Condition-F}
-use Rattle.cql_plan.specs.declared.condition.Condition.TheVariants.{Always, Compare, rolls-Compare}
+use Rattle.cql_plan.specs.declared.condition.Condition.TheVariants.{Compare, rolls-Compare}
 use Rattle.cql_plan.specs.declared.condition.Condition.TheFolds.{fold-Condition, fold-roll-Condition}
 use Rattle.cql_plan.specs.declared.condition.Operand.TheVariants as operand
 use Rattle.cql_plan.specs.declared.expr.Expr.TheOpen.{Expr-F}
@@ -22,19 +22,18 @@ use Rattle.cql_plan.specs.declared.node.Node.TheVariants as node
 use Rattle.cql_plan.specs.declared.node.Shape.{Shape}
 use Rattle.cql_plan.specs.Condition.{holds}
 use Rattle.cql_plan.specs.Expr.{expr_value}
-use Rattle.cql_plan.specs.Fit.{type_step, expr_type, HasColumn, IsTyped, IsGroupedItem}
+use Rattle.cql_plan.specs.Fit.{type_step, expr_type, HasColumn, IsTyped}
 use Rattle.cql_plan.specs.Node.{with_type}
 use Rattle.cql_algebra.specs.Equalities.{equality_step, equalities}
 use Rattle.cql_algebra.specs.Examples.{one, two}
 use Rattle.cql_algebra.specs.GroupChanges.{IsKeyChange, IsKeyChangeLaw, IsOneGroupLaw, IsOfGroups, IsOfGroupsLaw, IsFewer, IsFewerLaw, AreEnds, AreEndsLaw, over_groups}
 use Rattle.cql_algebra.specs.Groups.{IsKeyLaw, IsGroup, IsGroupLaw, IsGroupedColumnLaw, HasRowForEachKey, IsKeysLaw, AreGroups, IsGroupsLaw}
 use Rattle.cql_algebra.specs.Join.{joined}
-use Rattle.cql_algebra.specs.JoinChanges.{with_value, AreLinked, IsJoinedMore, IsJoinedMoreLaw, IsJoinedLess, IsJoinedLessLaw, IsLookUpLaw}
+use Rattle.cql_algebra.specs.JoinChanges.{AreLinked, IsJoinedMore, IsJoinedMoreLaw, IsJoinedLess, IsJoinedLessLaw, IsLookUpLaw}
 use Rattle.cql_algebra.specs.JoinLaws.{IsJoinedLaw, IsJoinedTypesLaw}
 use Rattle.cql_algebra.specs.KeptGroups.{Group, Groups, port_in, rows_at, IsGroupOf, AreKept, AreTheGroups, AreTheGroupsLaw, IsKeptValue, IsKeptValueLaw, AreElseSame, IsPushLaw, IsCanPushLaw, IsSampleLaw}
 use Rattle.cql_algebra.specs.PlanLaws.{IsItemTypesLaw, IsGroupTypesLaw, IsNodeTypesLaw, IsChangeTypesLaw}
-use Rattle.cql_algebra.specs.Ports.{port_of}
-use Rattle.cql_algebra.specs.Shape.{with_first, key_of, group_of, item_over, items_on, items_over, shape_value}
+use Rattle.cql_algebra.specs.Shape.{with_first, group_of, item_over, shape_value}
 use Rattle.cql_algebra.specs.ShapeLaws.{IsValued, IsExpressionLaw, IsPlain, IsPlainItemsLaw, IsOverflow, IsOverflowLaw}
 use Rattle.cql_algebra.specs.Sums.{once}
 use Rattle.cql_algebra.specs.Told.{Choice, IsHeldAt, told_by, IsNoneLaw, sifted, IsSiftLaw}

@@ -1,10 +1,9 @@
 -- Each law of bags at bags worked by hand: a premise that none of them meets is refused here.
-use Rattle.std.proofs.Common.{◌≡◌, ℕ, ◌-◌, pos, List, [], ◌∷◌, refl, rules, Less}
-use Rattle.std.specs.List.{All}
+use Rattle.std.proofs.Common.{◌≡◌, ℕ, pos, List, [], ◌∷◌, refl, rules}
 use Rattle.cql_value.specs.declared.value.Value.{Value}
 use Rattle.cql_value.specs.declared.value.Value.TheVariants.{Number}
-use Rattle.cql_bag.specs.Bag.{Counts, IsBag, count, size_of, less_one, minus, bag_of, listing, put_all, plus, distinct}
-use Rattle.cql_bag.specs.Law.{times_in, AreAscending, ArePositive, IsSameCountsLaw, IsMinusLaw, IsListingLaw, IsPutAllLaw, IsEntriesLaw, IsTakeLaw, IsPlusLaw, IsDistinctLaw}
+use Rattle.cql_bag.specs.Bag.{Counts, IsBag, put_all}
+use Rattle.cql_bag.specs.Law.{AreAscending, ArePositive, IsSameCountsLaw, IsMinusLaw, IsListingLaw, IsPutAllLaw, IsEntriesLaw, IsTakeLaw, IsPlusLaw, IsDistinctLaw}
 
 abbrev one : ℕ → List Value
 one n = Number (pos n) ∷ []

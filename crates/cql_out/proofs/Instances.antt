@@ -1,5 +1,5 @@
 -- The laws of blocks at an interval of one instant: a premise that it doesn't meet is refused here.
-use Rattle.std.proofs.Common.{◌≡◌, ℕ, pos, List, [], ◌∷◌, inl, refl, arith}
+use Rattle.std.proofs.Common.{◌≡◌, ℕ, pos, [], ◌∷◌, inl, refl, arith}
 use Rattle.cql_value.specs.declared.value.Value.TheVariants.{Number}
 use Rattle.cql_out.specs.declared.told.Output.{Output}
 use Rattle.cql_out.specs.declared.told.Output.TheVariants.{Rows}
@@ -18,15 +18,18 @@ block = record { from = 2; to = 2; output = row }
 
 blocks : AreBlocks always 2 3 (block ∷ [])
 blocks = record {
-  runs = (record {
-    start = omega arith;
-    forward = omega arith;
-    end = omega arith;
-    some = refl;
-    same = λ t h k. refl;
-    before = λ t h k. absurd (omega arith);
-    after = λ h. absurd (omega arith);
-  }, tt);
+  runs = (
+    record {
+      start = omega arith;
+      forward = omega arith;
+      end = omega arith;
+      some = refl;
+      same = λ t h k. refl;
+      before = λ t h k. absurd (omega arith);
+      after = λ h. absurd (omega arith);
+    },
+    tt,
+  );
   in_order = (tt, tt);
   all_told = λ t h k e. inl (omega arith, omega arith);
 }

@@ -6,7 +6,7 @@ use Rattle.cql_value.specs.declared.schema.ColumnType.TheVariants.{Number as Int
 use Rattle.cql_value.specs.Schema.{HasTypes}
 use Rattle.cql_window.specs.declared.window.Window.TheVariants.{All as all}
 use Rattle.cql_store.specs.Held.{Held, Stubs, stub_of, Updates, IsLiveStub, opened, advanced, CanTake, CanAppend}
-use Rattle.cql_store.specs.Calls.{Call, Attach, Append, Advance, Detach, Make, IsStubLaw}
+use Rattle.cql_store.specs.Calls.{Call, Attach, Append, Advance, Make, IsStubLaw}
 use Rattle.cql_store.specs.Next.{TakesFrom, FitsWindow, IsNextLaw}
 
 abbrev x : Element

@@ -1,12 +1,11 @@
 -- Each law of windows at elements worked by hand: a premise that these don't meet is refused here.
 use Rattle.std.proofs.Common.{◌≡◌, ℕ, pos, List, [], ◌∷◌, filter, refl, rules}
 use Rattle.cql_value.specs.Element.{Element}
-use Rattle.cql_value.specs.declared.value.Value.{Value}
 use Rattle.cql_value.specs.declared.value.Value.TheVariants.{Number}
 use Rattle.cql_window.specs.declared.window.Window.TheVariants.{Range, Rows, All as all, Parts}
 use Rattle.cql_window.specs.Window.{AreAscending, content, last_of_parts, same_part}
 use Rattle.cql_window.specs.Laws.{IsLastMultiple, IsRangeLaw, IsRowsLaw, IsAllLaw, IsPartsLaw, IsHeldLaw, PlacesLaw}
-use Rattle.cql_window.specs.Coming.{AreNewestOf, IsComingLaw, with_all}
+use Rattle.cql_window.specs.Coming.{AreNewestOf, IsComingLaw}
 
 -- an element of one part
 abbrev of : ℕ → ℕ → Element

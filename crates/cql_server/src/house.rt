@@ -123,14 +123,15 @@ impl House {
         called
     }
 
-    /// The next guest whose turn it is, once there is one; or none where the workers are to end.
-    pub(crate) fn next<R: Wait>(&self, rt: &R) -> Option<Task<Turn>> {
+    /// The next guest whose turn it is, once there is one, at a thread that computes answers or at one
+    /// that doesn't; or none where the workers are to end.
+    pub(crate) fn next<R: Wait>(&self, rt: &R, computes: bool) -> Option<Task<Turn>> {
         let mut floor = self.floor.lock(rt);
         for _ in rt.forever() {
             if floor.is_closed {
                 return None;
             }
-            let task = floor.take();
+            let task = floor.take(computes);
             self.waiting.store(floor.waiting(), Ordering::SeqCst);
             if task.is_some() {
                 return task;
@@ -191,12 +192,19 @@ impl House {
                 return self.end(rt, gate, turn, fault, reason);
             }
             Needs::Worker => self.floor.lock(rt).push(turn),
-            Needs::Answer => self.floor.lock(rt).push_answer(turn),
+            Needs::Answer => self.push_answer(rt, turn),
             Needs::Bytes | Needs::Room => self.keep(rt, turn, needs),
         };
         if let Err(turn) = refused {
             self.end(rt, gate, turn, Some(ScriptError::Write), EndReason::Fault);
         }
+    }
+
+    // Has a guest wait for a worker who may compute an answer.
+    fn push_answer<R: Wait>(&self, rt: &R, turn: Turn) -> Result<(), Turn> {
+        let pushed = self.floor.lock(rt).push_answer(turn);
+        self.called.notify_one();
+        pushed
     }
 
     // Keeps a guest until what it needs has come.

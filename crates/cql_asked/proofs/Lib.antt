@@ -5,5 +5,7 @@ mod Growing
 mod Keys
 mod Puts
 mod Readings
+pub mod Ruling
 mod Trees
 mod Turns
+pub mod WithTree

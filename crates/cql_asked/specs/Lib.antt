@@ -3,6 +3,8 @@ pub mod Fault
 pub mod Login
 pub mod Put
 pub mod Reading
+pub mod Rules
 pub mod Table
+pub mod Telling
 pub mod Tree
 pub mod View

@@ -1,15 +1,15 @@
 //! The login of a session.
-ghost use Rattle.std.specs.Prelude.{◌≡◌, ◌==◌, Some, slice_get};
+ghost use Rattle.std.specs.Prelude.{◌≡◌, ◌==◌, Some, IfOk, slice_get};
 ghost use Rattle.std.specs.Bool.{Decides};
 ghost use Rattle.std.specs.Str.{bytes_eq};
 ghost use Rattle.serde_json.specs.View.{view};
-ghost use Rattle.cql_asked.specs.Login.{is_key_at, login_with, login_in, login_of, LogsIn};
+ghost use Rattle.cql_asked.specs.Login.{is_key_at, login_with, login_in, login_of, named_in, named_of, LogsIn};
 
 use crate::fault::LineFault;
 use crate::values::{has_only, read_value, text_at};
 use cql_tenants::{TenantId, TenantTable};
 use serde_json::Value as Json;
-use std::alloc::Global;
+use std::alloc::{AllocError, Global};
 
 /// The keys of a login line, each of which has to be there.
 const LOGIN_KEYS: &[&str] = &["key", "tenant"];
@@ -82,4 +82,25 @@ pub fn read_login(alloc: Global, line: &[u8], table: &TenantTable) -> Result<Ten
 {
     let tree = read_value(alloc, line)?.ok_or(LineFault::WrongKey)?;
     login_in(table, &tree).ok_or(LineFault::WrongKey)
+}
+
+fn named_in(table: &TenantTable, tree: &Json) -> Option<TenantId>
+    ensures { result ≡ named_in table.now (view tree.now) }
+{
+    table.find(text_at(tree, "tenant")?)
+}
+
+/// The tenant of the table that a line, without its line feed, names, whatever else it says. That is
+/// no login.
+pub fn named_tenant(
+    alloc: Global,
+    line: &[u8],
+    table: &TenantTable,
+) -> Result<Option<TenantId>, AllocError>
+    ensures { IfOk result (λ named. named ≡ named_of table.now line.now) }
+{
+    match read_value(alloc, line)? {
+        Some(tree) => Ok(named_in(table, &tree)),
+        None => Ok(None),
+    }
 }

@@ -1,10 +1,12 @@
 //! The table of tenants that a line gives.
-ghost use Rattle.std.specs.Prelude.{◌≡◌, Some, None, IfOk, Err};
+ghost use Rattle.std.specs.Prelude.{◌≡◌, Some, None, IfOk, IfErr, Err, option_and_then};
 ghost use Rattle.serde_json.specs.View.{view, items_view};
-ghost use Rattle.cql_asked.specs.Tree.{all_of};
-ghost use Rattle.cql_asked.specs.Table.{quotas_of, name_of, tenant_of, table_of, Gives};
+ghost use Rattle.cql_asked.specs.Tree.{tree_of, all_of};
+ghost use Rattle.cql_asked.specs.Table.{quotas_of, name_of, tenant_of, as_table, tenants_of, table_of, Gives};
+ghost use Rattle.cql_asked.specs.Telling.{IsNoTree, Tells};
 
-use crate::values::{array_at, has_only, read_value, text_at, whole_at};
+use crate::rules::{BrokenRule, rule_of_tree};
+use crate::values::{array_at, has_only, text_at, whole_at};
 use cql_tenants::{BadTenants, Quotas, Tenant, TenantTable};
 use cql_value::{Name, NameError, Text};
 use serde_json::Value as Json;
@@ -12,56 +14,63 @@ use std::alloc::{AllocError, AllocFailed, Global};
 use thiserror::Error;
 
 /// The keys of a tenant, each of which has to be there.
-const TENANT_KEYS: &[&str] = &["hold", "key", "name", "queries", "result", "streams"];
+pub(crate) const TENANT_KEYS: &[&str] = &["hold", "key", "name", "queries", "result", "streams"];
+
+// Why a tree gives no table.
+#[derive(Clone, Copy, Drop, PartialEq, Eq)]
+enum NoTable {
+    Refused,
+    NoMemory,
+}
+
+impl From<AllocError> for NoTable {
+    ghost use Rattle.cql_asked.specs.declared.tenants.NoTable.TheVariants.{NoMemory};
+
+    ghost from_gives = { λ _ e. e ≡ NoMemory };
+
+    fn from(_error: AllocError) -> NoTable {
+        NoTable::NoMemory
+    }
+}
+
+impl<T: Drop> From<AllocFailed<T>> for NoTable {
+    ghost use Rattle.cql_asked.specs.declared.tenants.NoTable.TheVariants.{NoMemory};
+
+    ghost from_gives = { λ _ e. e ≡ NoMemory };
+
+    fn from(_error: AllocFailed<T>) -> NoTable {
+        NoTable::NoMemory
+    }
+}
+
+impl From<BadTenants> for NoTable {
+    ghost use Rattle.cql_asked.specs.declared.tenants.NoTable.TheVariants.{Refused};
+
+    ghost from_gives = { λ _ e. e ≡ Refused };
+
+    fn from(_error: BadTenants) -> NoTable {
+        NoTable::Refused
+    }
+}
 
 /// Why a line gives no table of tenants.
 #[derive(Clone, Copy, Debug, PartialEq, Eq, Error)]
 pub enum TenantsFault {
-    /// The line isn't a tenants line.
-    #[error("the tenants line is refused")]
-    Refused,
+    /// The line isn't a tenants line: it breaks this rule.
+    #[error("the tenants line is refused: {0}")]
+    Refused(BrokenRule),
     /// There was no memory.
     #[error("no memory")]
     NoMemory,
 }
 
-impl From<AllocError> for TenantsFault {
-    ghost use Rattle.cql_asked.specs.declared.tenants.TenantsFault.TheVariants.{NoMemory};
-
-    ghost from_gives = { λ _ e. e ≡ NoMemory };
-
-    fn from(_error: AllocError) -> TenantsFault {
-        TenantsFault::NoMemory
-    }
-}
-
-impl<T: Drop> From<AllocFailed<T>> for TenantsFault {
-    ghost use Rattle.cql_asked.specs.declared.tenants.TenantsFault.TheVariants.{NoMemory};
-
-    ghost from_gives = { λ _ e. e ≡ NoMemory };
-
-    fn from(_error: AllocFailed<T>) -> TenantsFault {
-        TenantsFault::NoMemory
-    }
-}
-
-impl From<BadTenants> for TenantsFault {
-    ghost use Rattle.cql_asked.specs.declared.tenants.TenantsFault.TheVariants.{Refused};
-
-    ghost from_gives = { λ _ e. e ≡ Refused };
-
-    fn from(_error: BadTenants) -> TenantsFault {
-        TenantsFault::Refused
-    }
-}
-
-fn quotas_of(tree: &Json) -> Result<Quotas, TenantsFault>
+fn quotas_of(tree: &Json) -> Result<Quotas, NoTable>
     ensures { Gives (quotas_of (view tree.now)) result }
 {
-    let streams = whole_at(tree, "streams").ok_or(TenantsFault::Refused)?;
-    let queries = whole_at(tree, "queries").ok_or(TenantsFault::Refused)?;
-    let hold = whole_at(tree, "hold").ok_or(TenantsFault::Refused)?;
-    let result = whole_at(tree, "result").ok_or(TenantsFault::Refused)?;
+    let streams = whole_at(tree, "streams").ok_or(NoTable::Refused)?;
+    let queries = whole_at(tree, "queries").ok_or(NoTable::Refused)?;
+    let hold = whole_at(tree, "hold").ok_or(NoTable::Refused)?;
+    let result = whole_at(tree, "result").ok_or(NoTable::Refused)?;
     Ok(Quotas {
         streams,
         queries,
@@ -70,33 +79,33 @@ fn quotas_of(tree: &Json) -> Result<Quotas, TenantsFault>
     })
 }
 
-fn name_of(alloc: Global, tree: &Json) -> Result<Name, TenantsFault>
+fn name_of(alloc: Global, tree: &Json) -> Result<Name, NoTable>
     ensures { Gives (name_of (view tree.now)) result }
 {
-    let text = text_at(tree, "name").ok_or(TenantsFault::Refused)?;
+    let text = text_at(tree, "name").ok_or(NoTable::Refused)?;
     match Name::read(alloc, text) {
         Ok(name) => Ok(name),
-        Err(NameError::BadName) => Err(TenantsFault::Refused),
-        Err(NameError::NoMemory) => Err(TenantsFault::NoMemory),
+        Err(NameError::BadName) => Err(NoTable::Refused),
+        Err(NameError::NoMemory) => Err(NoTable::NoMemory),
     }
 }
 
-fn tenant_of(alloc: Global, tree: &Json) -> Result<Tenant, TenantsFault>
+fn tenant_of(alloc: Global, tree: &Json) -> Result<Tenant, NoTable>
     ensures { Gives (tenant_of (view tree.now)) result }
 {
     if !has_only(tree, TENANT_KEYS) {
-        return Err(TenantsFault::Refused);
+        return Err(NoTable::Refused);
     }
     let name = name_of(alloc, tree)?;
-    let key = text_at(tree, "key").ok_or(TenantsFault::Refused)?;
+    let key = text_at(tree, "key").ok_or(NoTable::Refused)?;
     let key = Text::new(alloc, key)?;
     let quotas = quotas_of(tree)?;
     Ok(Tenant { name, key, quotas })
 }
 
-fn all_tenants(alloc: Global, items: &[Json]) -> Result<Vec<Tenant>, TenantsFault>
+fn all_tenants(alloc: Global, items: &[Json]) -> Result<Vec<Tenant>, NoTable>
     ensures ok { IfOk result (λ tenants. all_of tenant_of (items_view items.now) ≡ Some tenants.items) }
-    ensures refused { result ≡ Err TenantsFault.Refused → all_of tenant_of (items_view items.now) ≡ None }
+    ensures refused { result ≡ Err NoTable.Refused → all_of tenant_of (items_view items.now) ≡ None }
 {
     let mut tenants = Vec::new(alloc);
     for item in items {
@@ -105,20 +114,45 @@ fn all_tenants(alloc: Global, items: &[Json]) -> Result<Vec<Tenant>, TenantsFaul
     Ok(tenants)
 }
 
+// The table of a line's tree.
+fn table_in(alloc: Global, tree: &Json) -> Result<TenantTable, NoTable>
+    ensures { Gives (option_and_then as_table (tenants_of (view tree.now))) result }
+{
+    if !has_only(tree, &["tenants"]) {
+        return Err(NoTable::Refused);
+    }
+    let items = array_at(tree, "tenants").ok_or(NoTable::Refused)?;
+    let tenants = all_tenants(alloc, items)?;
+    Ok(TenantTable::new(tenants)?)
+}
+
+fn tree_of(alloc: Global, line: &[u8]) -> Result<Json, TenantsFault>
+    ensures ok { IfOk result (λ tree. tree_of line.now ≡ Some (view tree)) }
+    ensures err { IfErr result (λ fault. IsNoTree line.now fault) }
+{
+    match Json::from_slice(alloc, line) {
+        Ok(tree) => Ok(tree),
+        Err(error) if error.is_memory() => Err(TenantsFault::NoMemory),
+        Err(error) => Err(TenantsFault::Refused(BrokenRule::Json {
+            line: error.line(),
+            column: error.column(),
+        })),
+    }
+}
+
 /// The table of a tenants line, without its line feed: `Refused` exactly where the line isn't an
 /// object with the one key `tenants`, a list of 1 to 256 objects with exactly the keys `hold`
 /// (rows, 1 to 65,536), `key` (a text of 1 to 64 bytes), `name` (a name, no two equal), `queries`
-/// (0 to 64), `result` (rows, 1 to 65,536) and `streams` (0 to 64). `NoMemory` may be told of any
-/// line.
+/// (0 to 64), `result` (rows, 1 to 65,536) and `streams` (0 to 64). It comes with the first rule
+/// that the line breaks. `NoMemory` may be told of any line.
 #[tactic(auto, unfolding(crate::specs::Table::table_of))]
 pub fn read_tenants(alloc: Global, line: &[u8]) -> Result<TenantTable, TenantsFault>
-    ensures { Gives (table_of line.now) result }
+    ensures { Tells line.now (table_of line.now) result }
 {
-    let tree = read_value(alloc, line)?.ok_or(TenantsFault::Refused)?;
-    if !has_only(&tree, &["tenants"]) {
-        return Err(TenantsFault::Refused);
+    let tree = tree_of(alloc, line)?;
+    match table_in(alloc, &tree) {
+        Ok(table) => Ok(table),
+        Err(NoTable::Refused) => Err(TenantsFault::Refused(rule_of_tree(&tree).unwrap())),
+        Err(NoTable::NoMemory) => Err(TenantsFault::NoMemory),
     }
-    let items = array_at(&tree, "tenants").ok_or(TenantsFault::Refused)?;
-    let tenants = all_tenants(alloc, items)?;
-    Ok(TenantTable::new(tenants)?)
 }

@@ -1,4 +1,4 @@
--- Rows in chunks of 64.
+-- Rows in chunks of 128.
 use Rattle.std.proofs.Common.{inl, inr, ◌≡◌, ◌↔◌, ℕ, zero, suc, ◌+◌, ◌-◌, ◌*◌, ◌/◌, ◌^◌, min, ◌≤◌, ◌<◌, List, [], ◌∷◌, ◌++◌, length, take, drop, get_or, refl, sym, ap, ◌∙◌, arith, append_assoc, append-nil, length-append, length-drop, length-take}
 use Rattle.std.proofs.lemmas.Bool.{cases_lt}
 use Rattle.std.proofs.Math.Seq.{take-add, take-append-add}
@@ -12,7 +12,7 @@ pub rows_close : (full : List (List Element)) (c last : List Element) → rows_o
 rows_close [] c last = refl
 rows_close (b ∷ full) c last = ap (λ l. b ++ l) (rows_close full c last)
 
-pub full_close : (full : List (List Element)) (c : List Element) → AreFull full → length c ≡ 64 → AreFull (full ++ c ∷ [])
+pub full_close : (full : List (List Element)) (c : List Element) → AreFull full → length c ≡ 128 → AreFull (full ++ c ∷ [])
 full_close [] c are is = (is, tt)
 full_close (b ∷ full) c are is = (are.0, full_close full c are.1 is)
 
@@ -21,7 +21,7 @@ pub rows_append : (full : List (List Element)) (last more : List Element) → ro
 rows_append [] last more = refl
 rows_append (b ∷ full) last more = ap (λ l. b ++ l) (rows_append full last more) ∙ sym (append_assoc b (rows_of full last) more)
 
-pub rows_length : (full : List (List Element)) (last : List Element) → AreFull full → length (rows_of full last) ≡ 64 * length full + length last
+pub rows_length : (full : List (List Element)) (last : List Element) → AreFull full → length (rows_of full last) ≡ 128 * length full + length last
 rows_length [] last are = omega arith
 rows_length (b ∷ full) last are = omega (arith, length-append b (rows_of full last), are.0, rows_length full last are.1)
 
@@ -36,27 +36,27 @@ full_take (suc k) [] are = tt
 full_take (suc k) (b ∷ full) are = (are.0, full_take k full are.1)
 
 -- the rows behind the first chunks
-pub rows_drop : (k : ℕ) (full : List (List Element)) (last : List Element) → AreFull full → k ≤ length full → drop (64 * k) (rows_of full last) ≡ rows_of (drop k full) last
+pub rows_drop : (k : ℕ) (full : List (List Element)) (last : List Element) → AreFull full → k ≤ length full → drop (128 * k) (rows_of full last) ≡ rows_of (drop k full) last
 rows_drop zero full last are bound = refl
 rows_drop (suc k) [] last are bound = absurd (omega (arith, bound))
 rows_drop (suc k) (b ∷ full) last are bound =
-    let e : 64 * suc k ≡ 64 + 64 * k = omega arith in
+    let e : 128 * suc k ≡ 128 + 128 * k = omega arith in
     ap (λ n. drop n (b ++ rows_of full last)) e
-    ∙ sym (drop-drop (64 * k) 64 (b ++ rows_of full last))
-    ∙ ap (drop (64 * k)) (drop_at b (rows_of full last) 64 are.0)
+    ∙ sym (drop-drop (128 * k) 128 (b ++ rows_of full last))
+    ∙ ap (drop (128 * k)) (drop_at b (rows_of full last) 128 are.0)
     ∙ rows_drop k full last are.1 (omega (arith, bound))
 
 -- the rows up to one behind the first chunks
-pub rows_take : (k n : ℕ) (full : List (List Element)) (last : List Element) → AreFull full → k ≤ length full → take (64 * k + n) (rows_of full last) ≡ rows_of (take k full) (take n (rows_of (drop k full) last))
+pub rows_take : (k n : ℕ) (full : List (List Element)) (last : List Element) → AreFull full → k ≤ length full → take (128 * k + n) (rows_of full last) ≡ rows_of (take k full) (take n (rows_of (drop k full) last))
 rows_take zero n full last are bound =
-    let e : 64 * zero + n ≡ n = omega arith in
+    let e : 128 * zero + n ≡ n = omega arith in
     ap (λ m. take m (rows_of full last)) e
 rows_take (suc k) n [] last are bound = absurd (omega (arith, bound))
 rows_take (suc k) n (b ∷ full) last are bound =
-    let e : 64 * suc k + n ≡ 64 + (64 * k + n) = omega arith in
+    let e : 128 * suc k + n ≡ 128 + (128 * k + n) = omega arith in
     ap (λ m. take m (b ++ rows_of full last)) e
-    ∙ ap (λ m. take (m + (64 * k + n)) (b ++ rows_of full last)) (sym are.0)
-    ∙ take-append-add b (rows_of full last) (64 * k + n)
+    ∙ ap (λ m. take (m + (128 * k + n)) (b ++ rows_of full last)) (sym are.0)
+    ∙ take-append-add b (rows_of full last) (128 * k + n)
     ∙ ap (λ l. b ++ l) (rows_take k n full last are.1 (omega (arith, bound)))
 
 -- a chunk begins the rows from it on
@@ -66,8 +66,8 @@ chunk_first zero (b ∷ full) last bound = (rows_of full last, refl)
 chunk_first (suc k) [] last bound = absurd (omega (arith, bound))
 chunk_first (suc k) (b ∷ full) last bound = chunk_first k full last (omega (arith, bound))
 
--- a full chunk has 64 rows
-pub chunk_full : (k : ℕ) (full : List (List Element)) (last : List Element) → AreFull full → k < length full → length (chunk_at full last k) ≡ 64
+-- a full chunk has 128 rows
+pub chunk_full : (k : ℕ) (full : List (List Element)) (last : List Element) → AreFull full → k < length full → length (chunk_at full last k) ≡ 128
 chunk_full k [] last are bound = absurd (omega (arith, bound))
 chunk_full zero (b ∷ full) last are bound = are.0
 chunk_full (suc k) (b ∷ full) last are bound = chunk_full k full last are.1 (omega (arith, bound))
@@ -78,43 +78,43 @@ chunk_last (b ∷ full) last = chunk_last full last
 
 -- the number of the chunk in which a place stands
 abbrev pub chunk_of : ℕ → ℕ → ℕ
-chunk_of at count = min (at / 64) count
+chunk_of at count = min (at / 128) count
 
 -- a place up to the end stands in its chunk, or at its end where that is the last
-pub place_within : (at : ℕ) (full : List (List Element)) (last : List Element) → AreFull full → at ≤ length (rows_of full last) → at ≤ 64 * chunk_of at (length full) + length (chunk_at full last (chunk_of at (length full)))
+pub place_within : (at : ℕ) (full : List (List Element)) (last : List Element) → AreFull full → at ≤ length (rows_of full last) → at ≤ 128 * chunk_of at (length full) + length (chunk_at full last (chunk_of at (length full)))
 place_within at full last are bound =
     let len = rows_length full last are in
-    elim (cases_lt (at / 64) (length full)) [
+    elim (cases_lt (at / 128) (length full)) [
       | inl less ↦
-          let is : chunk_of at (length full) ≡ at / 64 = omega (arith, less) in
-          rw is (omega (arith, chunk_full (at / 64) full last are less))
+          let is : chunk_of at (length full) ≡ at / 128 = omega (arith, less) in
+          rw is (omega (arith, chunk_full (at / 128) full last are less))
       | inr more ↦
           let is : chunk_of at (length full) ≡ length full = omega (arith, more) in
           rw is (rw chunk_last (omega (arith, len, bound)))
     ]
 
-pub place_before : (at : ℕ) (full : List (List Element)) (last : List Element) → AreFull full → at < length (rows_of full last) → at < 64 * chunk_of at (length full) + length (chunk_at full last (chunk_of at (length full)))
+pub place_before : (at : ℕ) (full : List (List Element)) (last : List Element) → AreFull full → at < length (rows_of full last) → at < 128 * chunk_of at (length full) + length (chunk_at full last (chunk_of at (length full)))
 place_before at full last are bound =
     let len = rows_length full last are in
-    elim (cases_lt (at / 64) (length full)) [
+    elim (cases_lt (at / 128) (length full)) [
       | inl less ↦
-          let is : chunk_of at (length full) ≡ at / 64 = omega (arith, less) in
-          rw is (omega (arith, chunk_full (at / 64) full last are less))
+          let is : chunk_of at (length full) ≡ at / 128 = omega (arith, less) in
+          rw is (omega (arith, chunk_full (at / 128) full last are less))
       | inr more ↦
           let is : chunk_of at (length full) ≡ length full = omega (arith, more) in
           rw is (rw chunk_last (omega (arith, len, bound)))
     ]
 
 -- the row at a place
-pub rows_get : (k j : ℕ) (full : List (List Element)) (last : List Element) (d : Element) → AreFull full → k ≤ length full → j < length (chunk_at full last k) → get_or (rows_of full last) (64 * k + j) d ≡ get_or (chunk_at full last k) j d
+pub rows_get : (k j : ℕ) (full : List (List Element)) (last : List Element) (d : Element) → AreFull full → k ≤ length full → j < length (chunk_at full last k) → get_or (rows_of full last) (128 * k + j) d ≡ get_or (chunk_at full last k) j d
 rows_get k j full last d are bound within =
     let first = chunk_first k full last bound in
-    sym (get_or-drop (64 * k) (rows_of full last) j d)
+    sym (get_or-drop (128 * k) (rows_of full last) j d)
     ∙ ap (λ l. get_or l j d) (rows_drop k full last are bound ∙ first.1)
     ∙ get_or_append_left (chunk_at full last k) first.0 d j within
 
 -- rows of one chunk
-pub part_one : (k m n : ℕ) (full : List (List Element)) (last : List Element) → AreFull full → k ≤ length full → m + n ≤ length (chunk_at full last k) → take n (drop m (chunk_at full last k)) ≡ take n (drop (64 * k + m) (rows_of full last))
+pub part_one : (k m n : ℕ) (full : List (List Element)) (last : List Element) → AreFull full → k ≤ length full → m + n ≤ length (chunk_at full last k) → take n (drop m (chunk_at full last k)) ≡ take n (drop (128 * k + m) (rows_of full last))
 part_one k m n full last are bound within =
     let first = chunk_first k full last bound in
     let chunk = chunk_at full last k in
@@ -122,10 +122,10 @@ part_one k m n full last are bound within =
     sym (take-append-le n (drop m chunk) first.0 len)
     ∙ ap (take n) (sym (drop-append-le m chunk first.0 (omega (arith, within))))
     ∙ ap (λ l. take n (drop m l)) (sym first.1 ∙ sym (rows_drop k full last are bound))
-    ∙ ap (take n) (drop-drop m (64 * k) (rows_of full last))
+    ∙ ap (take n) (drop-drop m (128 * k) (rows_of full last))
 
 -- rows that begin in one chunk and end in a later one
-pub part_more : (f w s o n : ℕ) (full : List (List Element)) (last : List Element) → AreFull full → f ≤ w → w ≤ length full → o ≤ length (chunk_at full last w) → s + n ≡ 64 * (w - f) + o → drop s (rows_of (take (w - f) (drop f full)) (take o (chunk_at full last w))) ≡ take n (drop (64 * f + s) (rows_of full last))
+pub part_more : (f w s o n : ℕ) (full : List (List Element)) (last : List Element) → AreFull full → f ≤ w → w ≤ length full → o ≤ length (chunk_at full last w) → s + n ≡ 128 * (w - f) + o → drop s (rows_of (take (w - f) (drop f full)) (take o (chunk_at full last w))) ≡ take n (drop (128 * f + s) (rows_of full last))
 part_more f w s o n full last are order bound within sum =
     let first = chunk_first w full last bound in
     let at : f + (w - f) ≡ w = omega (arith, order) in
@@ -138,10 +138,10 @@ part_more f w s o n full last are order bound within sum =
     ∙ ap (λ m. drop s (take m (rows_of (drop f full) last))) (sym sum)
     ∙ drop-take s n (rows_of (drop f full) last)
     ∙ ap (λ l. take n (drop s l)) (sym (rows_drop f full last are (omega (arith, order, bound))))
-    ∙ ap (take n) (drop-drop s (64 * f) (rows_of full last))
+    ∙ ap (take n) (drop-drop s (128 * f) (rows_of full last))
 
 -- one more of the last rows
-pub push_chunks : (full next : List (List Element)) (last more : List Element) (gone end : ℕ) (x : Element) → AreChunks full last gone end → rows_of next more ≡ rows_of full last → AreFull next → length more < 64 → end + 1 < 2 ^ 63 → AreChunks next (more ++ x ∷ []) gone (end + 1)
+pub push_chunks : (full next : List (List Element)) (last more : List Element) (gone end : ℕ) (x : Element) → AreChunks full last gone end → rows_of next more ≡ rows_of full last → AreFull next → length more < 128 → end + 1 < 2 ^ 63 → AreChunks next (more ++ x ∷ []) gone (end + 1)
 push_chunks full next last more gone end x are same full_next room fits = record {
   are_full = full_next;
   short = omega (arith, length_push more x, room);
@@ -156,74 +156,74 @@ push_rows full next last more gone end x are same =
     ∙ drop-append-le gone (rows_of full last) (x ∷ []) (omega (arith, are.all, are.within))
 
 -- the same rows with whole chunks gone
-pub trim_chunks : (full : List (List Element)) (last : List Element) (gone end k : ℕ) → AreChunks full last gone end → k ≤ length full → 64 * k ≤ gone → AreChunks (drop k full) last (gone - 64 * k) (end - 64 * k)
+pub trim_chunks : (full : List (List Element)) (last : List Element) (gone end k : ℕ) → AreChunks full last gone end → k ≤ length full → 128 * k ≤ gone → AreChunks (drop k full) last (gone - 128 * k) (end - 128 * k)
 trim_chunks full last gone end k are bound less = record {
   are_full = full_drop k full are.are_full;
   short = are.short;
-  all = omega (arith, ap length (rows_drop k full last are.are_full bound), length-drop (64 * k) (rows_of full last), are.all);
+  all = omega (arith, ap length (rows_drop k full last are.are_full bound), length-drop (128 * k) (rows_of full last), are.all);
   within = omega (arith, are.within);
   fits = omega (arith, are.fits);
 }
 
-pub trim_rows : (full : List (List Element)) (last : List Element) (gone end k : ℕ) → AreChunks full last gone end → k ≤ length full → 64 * k ≤ gone → drop (gone - 64 * k) (rows_of (drop k full) last) ≡ drop gone (rows_of full last)
+pub trim_rows : (full : List (List Element)) (last : List Element) (gone end k : ℕ) → AreChunks full last gone end → k ≤ length full → 128 * k ≤ gone → drop (gone - 128 * k) (rows_of (drop k full) last) ≡ drop gone (rows_of full last)
 trim_rows full last gone end k are bound less =
-    let sum : 64 * k + (gone - 64 * k) ≡ gone = omega (arith, less) in
-    ap (drop (gone - 64 * k)) (sym (rows_drop k full last are.are_full bound))
-    ∙ drop-drop (gone - 64 * k) (64 * k) (rows_of full last)
+    let sum : 128 * k + (gone - 128 * k) ≡ gone = omega (arith, less) in
+    ap (drop (gone - 128 * k)) (sym (rows_drop k full last are.are_full bound))
+    ∙ drop-drop (gone - 128 * k) (128 * k) (rows_of full last)
     ∙ ap (λ n. drop n (rows_of full last)) sum
 
 -- ---- parts of the rows
 
 -- k chunks from the front lie before a place
-pub chunk_below : (at k : ℕ) (full : List (List Element)) → k ≡ chunk_of at (length full) → (k ≤ length full) × (64 * k ≤ at)
+pub chunk_below : (at k : ℕ) (full : List (List Element)) → k ≡ chunk_of at (length full) → (k ≤ length full) × (128 * k ≤ at)
 chunk_below at k full is = (omega (arith, is), omega (arith, is))
 
 -- a part that lies in one chunk
-pub one_rows : (k start stop gone from to : ℕ) (full : List (List Element)) (last : List Element) → AreFull full → k ≡ chunk_of stop (length full) → k ≤ start / 64 → stop ≤ length (rows_of full last) → from ≤ to → start ≡ gone + from → stop ≡ gone + to → take (stop - 64 * k - (start - 64 * k)) (drop (start - 64 * k) (chunk_at full last k)) ≡ take (to - from) (drop from (drop gone (rows_of full last)))
+pub one_rows : (k start stop gone from to : ℕ) (full : List (List Element)) (last : List Element) → AreFull full → k ≡ chunk_of stop (length full) → k ≤ start / 128 → stop ≤ length (rows_of full last) → from ≤ to → start ≡ gone + from → stop ≡ gone + to → take (stop - 128 * k - (start - 128 * k)) (drop (start - 128 * k) (chunk_at full last k)) ≡ take (to - from) (drop from (drop gone (rows_of full last)))
 one_rows k start stop gone from to full last are is before bound order begins ends =
-    let low : 64 * k ≤ start = omega (arith, before) in
-    let count : stop - 64 * k - (start - 64 * k) ≡ to - from = omega (arith, low, begins, ends, order) in
-    let within : stop ≤ 64 * k + length (chunk_at full last k) = rw is (place_within stop full last are bound) in
-    let at : 64 * k + (start - 64 * k) ≡ gone + from = omega (arith, low, begins) in
-    ap (λ n. take n (drop (start - 64 * k) (chunk_at full last k))) count
-    ∙ part_one k (start - 64 * k) (to - from) full last are (omega (arith, is)) (omega (arith, within, low, begins, ends, order))
+    let low : 128 * k ≤ start = omega (arith, before) in
+    let count : stop - 128 * k - (start - 128 * k) ≡ to - from = omega (arith, low, begins, ends, order) in
+    let within : stop ≤ 128 * k + length (chunk_at full last k) = rw is (place_within stop full last are bound) in
+    let at : 128 * k + (start - 128 * k) ≡ gone + from = omega (arith, low, begins) in
+    ap (λ n. take n (drop (start - 128 * k) (chunk_at full last k))) count
+    ∙ part_one k (start - 128 * k) (to - from) full last are (omega (arith, is)) (omega (arith, within, low, begins, ends, order))
     ∙ ap (λ n. take (to - from) (drop n (rows_of full last))) at
     ∙ ap (take (to - from)) (sym (drop-drop from gone (rows_of full last)))
 
 -- a part that ends in a later chunk than it begins in
-pub more_rows : (k start stop gone from to : ℕ) (full : List (List Element)) (last : List Element) → AreFull full → k ≡ chunk_of stop (length full) → start / 64 < k → stop ≤ length (rows_of full last) → from ≤ to → start ≡ gone + from → stop ≡ gone + to → drop (start - 64 * (start / 64)) (rows_of (take (k - start / 64) (drop (start / 64) full)) (take (stop - 64 * k) (chunk_at full last k))) ≡ take (to - from) (drop from (drop gone (rows_of full last)))
+pub more_rows : (k start stop gone from to : ℕ) (full : List (List Element)) (last : List Element) → AreFull full → k ≡ chunk_of stop (length full) → start / 128 < k → stop ≤ length (rows_of full last) → from ≤ to → start ≡ gone + from → stop ≡ gone + to → drop (start - 128 * (start / 128)) (rows_of (take (k - start / 128) (drop (start / 128) full)) (take (stop - 128 * k) (chunk_at full last k))) ≡ take (to - from) (drop from (drop gone (rows_of full last)))
 more_rows k start stop gone from to full last are is before bound order begins ends =
-    let within : stop ≤ 64 * k + length (chunk_at full last k) = rw is (place_within stop full last are bound) in
-    let at : 64 * (start / 64) + (start - 64 * (start / 64)) ≡ gone + from = omega (arith, begins) in
-    part_more (start / 64) k (start - 64 * (start / 64)) (stop - 64 * k) (to - from) full last are (omega (arith, before)) (omega (arith, is)) (omega (arith, within)) (omega (arith, is, before, begins, ends, order))
+    let within : stop ≤ 128 * k + length (chunk_at full last k) = rw is (place_within stop full last are bound) in
+    let at : 128 * (start / 128) + (start - 128 * (start / 128)) ≡ gone + from = omega (arith, begins) in
+    part_more (start / 128) k (start - 128 * (start / 128)) (stop - 128 * k) (to - from) full last are (omega (arith, before)) (omega (arith, is)) (omega (arith, within)) (omega (arith, is, before, begins, ends, order))
     ∙ ap (λ n. take (to - from) (drop n (rows_of full last))) at
     ∙ ap (take (to - from)) (sym (drop-drop from gone (rows_of full last)))
 
 -- the chunks of such a part
-pub more_chunks : (k start stop end : ℕ) (full : List (List Element)) (last : List Element) → AreFull full → k ≡ chunk_of stop (length full) → start / 64 < k → stop ≤ length (rows_of full last) → start ≤ stop → stop < 2 ^ 63 → length (chunk_at full last k) ≤ 64 → AreChunks (take (k - start / 64) (drop (start / 64) full)) (take (stop - 64 * k) (chunk_at full last k)) (start - 64 * (start / 64)) (stop - 64 * (start / 64))
+pub more_chunks : (k start stop end : ℕ) (full : List (List Element)) (last : List Element) → AreFull full → k ≡ chunk_of stop (length full) → start / 128 < k → stop ≤ length (rows_of full last) → start ≤ stop → stop < 2 ^ 63 → length (chunk_at full last k) ≤ 128 → AreChunks (take (k - start / 128) (drop (start / 128) full)) (take (stop - 128 * k) (chunk_at full last k)) (start - 128 * (start / 128)) (stop - 128 * (start / 128))
 more_chunks k start stop end full last are is before bound order fits short =
-    let within : stop ≤ 64 * k + length (chunk_at full last k) = rw is (place_within stop full last are bound) in
+    let within : stop ≤ 128 * k + length (chunk_at full last k) = rw is (place_within stop full last are bound) in
     let chunk = chunk_at full last k in
-    let few = full_take (k - start / 64) (drop (start / 64) full) (full_drop (start / 64) full are) in
+    let few = full_take (k - start / 128) (drop (start / 128) full) (full_drop (start / 128) full are) in
     record {
       are_full = few;
-      short = omega (arith, length-take (stop - 64 * k) chunk, short);
-      all = omega (arith, rows_length (take (k - start / 64) (drop (start / 64) full)) (take (stop - 64 * k) chunk) few, length-take (k - start / 64) (drop (start / 64) full), length-drop (start / 64) full, length-take (stop - 64 * k) chunk, within, is, before);
+      short = omega (arith, length-take (stop - 128 * k) chunk, short);
+      all = omega (arith, rows_length (take (k - start / 128) (drop (start / 128) full)) (take (stop - 128 * k) chunk) few, length-take (k - start / 128) (drop (start / 128) full), length-drop (start / 128) full, length-take (stop - 128 * k) chunk, within, is, before);
       within = omega (arith, order);
       fits = omega (arith, fits);
     }
 
--- no chunk has more than 64 rows
-pub chunk_short : (k : ℕ) (full : List (List Element)) (last : List Element) → AreFull full → length last ≤ 64 → length (chunk_at full last k) ≤ 64
+-- no chunk has more than 128 rows
+pub chunk_short : (k : ℕ) (full : List (List Element)) (last : List Element) → AreFull full → length last ≤ 128 → length (chunk_at full last k) ≤ 128
 chunk_short k [] last are short = short
 chunk_short zero (b ∷ full) last are short = omega (arith, are.0)
 chunk_short (suc k) (b ∷ full) last are short = chunk_short k full last are.1 short
 
 -- rows from a place on that lie in one chunk
-pub run_rows : (k start gone from n : ℕ) (full : List (List Element)) (last : List Element) → AreFull full → k ≤ length full → 64 * k ≤ start → start - 64 * k + n ≤ length (chunk_at full last k) → start ≡ gone + from → take n (drop (start - 64 * k) (chunk_at full last k)) ≡ take n (drop from (drop gone (rows_of full last)))
+pub run_rows : (k start gone from n : ℕ) (full : List (List Element)) (last : List Element) → AreFull full → k ≤ length full → 128 * k ≤ start → start - 128 * k + n ≤ length (chunk_at full last k) → start ≡ gone + from → take n (drop (start - 128 * k) (chunk_at full last k)) ≡ take n (drop from (drop gone (rows_of full last)))
 run_rows k start gone from n full last are low before within begins =
-    let at : 64 * k + (start - 64 * k) ≡ gone + from = omega (arith, before, begins) in
-    part_one k (start - 64 * k) n full last are low within
+    let at : 128 * k + (start - 128 * k) ≡ gone + from = omega (arith, before, begins) in
+    part_one k (start - 128 * k) n full last are low within
     ∙ ap (λ m. take n (drop m (rows_of full last))) at
     ∙ ap (take n) (sym (drop-drop from gone (rows_of full last)))
 

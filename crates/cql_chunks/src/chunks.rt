@@ -208,7 +208,7 @@ impl Chunks {
     }
 
     /// The rows from one place to another. Full chunks are shared, and rows that make no whole
-    /// chunk at the end, fewer than 64, one by one; those of a tree one by one.
+    /// chunk at the end, fewer than 128, one by one; those of a tree one by one.
     pub fn part(&self, alloc: Global, from: usize, to: usize) -> Result<Chunks, AllocError>
         requires order { from ≤ to }
         requires within { to ≤ length self.now }

@@ -13,7 +13,7 @@ use std::mem;
 pub(crate) const LIMIT: usize = usize::MAX / 2;
 
 // No call lets go of more chunks.
-const FEW: usize = 4;
+const FEW: usize = 2;
 
 /// A list of rows. Full chunks of it are shared with those who take a part of it; the last rows,
 /// fewer than a chunk, are its own.
@@ -43,11 +43,11 @@ impl Model for Plain {
 // full ones.
 fn close(alloc: Global, full: &mut VecDeque<Chunk>, last: &mut Vec<Timed>) -> Result<(), AllocError>
     requires are_full { AreFull full.old.items }
-    requires short { length last.old.items ≤ 64 }
+    requires short { length last.old.items ≤ 128 }
     ensures rows { rows_of full.new.items last.new.items ≡ rows_of full.old.items last.old.items }
     ensures are_full { AreFull full.new.items }
-    ensures short { length last.new.items ≤ 64 }
-    ensures room { OnOk result (length last.new.items < 64) }
+    ensures short { length last.new.items ≤ 128 }
+    ensures room { OnOk result (length last.new.items < 128) }
 {
     if last.len() < SIZE {
         return Ok(());
@@ -243,7 +243,7 @@ impl Plain {
     }
 
     /// The rows from one place to another. Full chunks are shared, and rows that make no whole
-    /// chunk at the end, fewer than 64, one by one.
+    /// chunk at the end, fewer than 128, one by one.
     pub(crate) fn part(&self, alloc: Global, from: usize, to: usize) -> Result<Plain, AllocError>
         requires order { from ≤ to }
         requires within { to ≤ length self.now }

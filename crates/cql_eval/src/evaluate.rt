@@ -25,7 +25,8 @@ use std::sync::Arc;
 
 /// The blocks of a pin, in one walk over its rows: the bench is started anew, and the relation is
 /// computed at one instant and where it may change, by the rows that come into the windows and
-/// leave them there. Without memory the pin is given up. Behind it the bench holds no row.
+/// leave them there. Without memory the pin is given up, and so it is where the bench's flag is set
+/// meanwhile: it is cleared first, and looked at between two instants. Behind it the bench holds no row.
 pub fn answer<O: Operator>(
     alloc: Global,
     bench: &mut BenchOf<O>,
@@ -35,6 +36,7 @@ pub fn answer<O: Operator>(
     ensures bench { IsBench O.seen_in bench.new }
     ensures pin { IfOk result (λ a. a.pin ≡ pin) }
 {
+    bench.cancellation().clear();
     let pin = Arc::new(alloc, pin)?;
     let evaluated = evaluate(alloc, bench, &pin, None);
     bench.clear(alloc);
@@ -81,6 +83,7 @@ pub(crate) fn evaluate<O: Operator>(
     )?;
     let mut turns = 1;
     while let Some((_, later)) = left.split_first() {
+        bench.cancellation().look()?;
         left = later;
         shown = change(
             alloc,

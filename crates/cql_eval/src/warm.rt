@@ -186,12 +186,13 @@ impl<O: Operator> Warm<O> {
     }
 
     /// The blocks of a pin, as `answer` gives them. Without memory the pin is given up, and what was
-    /// kept too.
+    /// kept too; and so they are where the bench's flag is set meanwhile, as by `answer`.
     pub fn answer(&mut self, alloc: Global, pin: Pin) -> Result<Answer, AllocError>
         requires { IsWarm O.seen_in self.old }
         ensures warm { IsWarm O.seen_in self.new }
         ensures pin { IfOk result (λ a. a.pin ≡ pin) }
     {
+        self.bench.cancellation().clear();
         let pin = Arc::new(alloc, pin)?;
         if pin.from() == pin.next() {
             let blocks = nothing_asked(alloc, &pin);

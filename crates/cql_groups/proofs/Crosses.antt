@@ -9,6 +9,8 @@ use Rattle.cql_groups.specs.contracts.layout.Layout as layout
 use Rattle.cql_groups.specs.contracts.keyed_shape.KeyedShape as keyed_shape
 use Rattle.cql_groups.specs.contracts.group_shape.Way as way
 use Rattle.cql_groups.specs.contracts.group_shape.GroupShape as group_shape
+use Rattle.cql_ops.proofs.meter.Meter.TheSendSync as meter
+use Rattle.cql_ops.proofs.cancellation.Cancellation.TheSendSync as cancellation
 use Rattle.cql_plain.proofs.Crosses.{plain_shape_send}
 use Rattle.cql_plan.proofs.CrossQueries.{shape_send}
 
@@ -16,10 +18,10 @@ layout_send : IsSend (layout.the_field).row
 layout_send = search (sendable, items.the_send, shape_send, asked.the_send, source.the_send) depth 20
 
 keyed_shape_send : IsSend keyed_shape.the_row
-keyed_shape_send = search (sendable, heap.the_send, layout_send, kept.the_field_send) depth 20
+keyed_shape_send = search (sendable, heap.the_send, layout_send, kept.the_field_send, meter.the_field_send) depth 20
 
 way_send : IsSend (way.the_field).row
 way_send = search (sendable, plain_shape_send, keyed_shape_send) depth 20
 
 pub group_shape_send : IsSend group_shape.the_row
-group_shape_send = search (sendable, heap.the_send, way_send) depth 20
+group_shape_send = search (sendable, heap.the_send, way_send, cancellation.the_field_send) depth 20

@@ -21,7 +21,7 @@ use cql_algebra::pushes::{
 };
 use cql_bag::law::{own_entries, put_all_counts, same_counts, take_counts};
 use cql_bag::{Bag, Change};
-use cql_ops::OpError;
+use cql_ops::{Meter, OpError};
 use cql_plain::key;
 use cql_value::Row;
 use std::alloc::{AllocError, Global};
@@ -120,7 +120,7 @@ impl Group {
         &self,
         alloc: Global,
         sources: &[Source],
-        remade: &mut u64,
+        remade: &mut Meter,
     ) -> Result<Option<Row>, OpError>
         requires { self.now.size < 2 ^ 63 }
         ensures ok { IfOk result (IsDue sources.now self.now) }
@@ -129,7 +129,7 @@ impl Group {
         if self.size == 0 {
             return Ok(None);
         }
-        *remade = remade.saturating_add(1);
+        remade.step()?;
         match row_of_parts(
             alloc,
             sources,
@@ -311,7 +311,7 @@ fn settle_key(
     rest: &[Row],
     groups: &mut BTreeMap<Row, Group>,
     told: &mut Bag,
-    remade: &mut u64,
+    remade: &mut Meter,
     out: &mut Vec<Change>,
 ) -> Result<(), OpError>
     requires { IsGrouping layout.now port.now told.old groups.old.entries (key.now ∷ rest.now) }
@@ -346,7 +346,7 @@ fn settle_keys(
     touched: &[Row],
     groups: &mut BTreeMap<Row, Group>,
     told: &mut Bag,
-    remade: &mut u64,
+    remade: &mut Meter,
     out: &mut Vec<Change>,
 ) -> Result<(), OpError>
     requires { IsGrouping layout.now port.now told.old groups.old.entries touched.now }
@@ -371,7 +371,7 @@ pub(crate) fn tell_groups(
     groups: &mut BTreeMap<Row, Group>,
     touched: &mut Vec<Row>,
     told: &mut Bag,
-    remade: &mut u64,
+    remade: &mut Meter,
     out: &mut Vec<Change>,
 ) -> Result<(), OpError>
     requires { IsGrouping layout.now port.now told.old groups.old.entries touched.old.items }

@@ -7,3 +7,4 @@ pub mod Calls
 pub mod Alone
 pub mod Telling
 pub mod Sending
+mod Instances

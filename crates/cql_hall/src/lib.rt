@@ -7,6 +7,7 @@ mod book;
 mod claims;
 mod gate;
 mod journal;
+mod kind;
 pub mod laws;
 mod lobby;
 mod one_tenant;
@@ -15,7 +16,8 @@ mod sent;
 
 pub use audits::{AuditError, audit};
 pub use book::{Book, Entered};
-pub use gate::{Gate, OpenGate, Point};
+pub use gate::{EndReason, Gate, OpenGate, Point};
 pub use journal::{Bare, Entry, Journal, Kept};
+pub use kind::Kind;
 pub use lobby::{Ended, Hall, Pending, Receipt, Seat, SeatsMissing};
 pub use one_tenant::audit_alone;

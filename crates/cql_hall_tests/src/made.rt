@@ -35,7 +35,7 @@ impl<T: Drop> From<AllocFailed<T>> for Unmade {
 impl From<TenantsFault> for Unmade {
     fn from(fault: TenantsFault) -> Unmade {
         match fault {
-            TenantsFault::Refused => Unmade::Wrong,
+            TenantsFault::Refused(_) => Unmade::Wrong,
             TenantsFault::NoMemory => Unmade::NoMemory,
         }
     }

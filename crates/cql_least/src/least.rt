@@ -1,7 +1,7 @@
 // The numbers of a list, with the least of each two neighbours above them, and so on.
 ghost use Rattle.std.specs.Prelude.{◌≡◌, ◌/◌, ◌<◌, ◌≤◌, [], IfSome, IfNone, OnOk, length, slice_index, set, vec_len, vec_capacity, is_ok, ◌++◌, ◌∷◌, if◌then◌else◌};
 ghost use Rattle.std.specs.List.{All, Contains};
-ghost use Rattle.cql_least.specs.Levels.{pair_least, least_of, put, lists_of, level_at, HasRoom, IsTower, ArePairsOf};
+ghost use Rattle.cql_least.specs.Levels.{pair_least, least_of, put, changed_where, lists_of, level_at, HasRoom, IsTower, ArePairsOf, AreAsLong};
 
 use std::alloc::{AllocError, Global};
 use std::marker::Model;
@@ -70,6 +70,50 @@ fn put_in(level: &mut Vec<u64>, place: usize, number: u64) -> u64
     }
     level.push_reserved(number);
     pair_at(level, place)
+}
+
+// Changes each number that is below the bound.
+fn set_low(level: &mut Vec<u64>, bound: u64, number: u64)
+    ensures { level.new.items ≡ changed_where level.old.items bound number level.old.items }
+{
+    for place in 0..level.len() {
+        if level[place] < bound {
+            level[place] = number;
+        }
+    }
+}
+
+// Changes each number at whose place another list has one below the bound.
+fn set_beside(level: &mut Vec<u64>, others: &[u64], bound: u64, number: u64)
+    ensures { level.new.items ≡ changed_where others.now bound number level.old.items }
+{
+    for place in 0..level.len().min(others.len()) {
+        if others[place] < bound {
+            level[place] = number;
+        }
+    }
+}
+
+// Makes a level anew, of the one below it.
+fn pair_into(below: &[u64], above: &mut Vec<u64>)
+    requires { length above.old.items ≡ length (pair_least below.now) }
+    ensures { above.new.items ≡ pair_least below.now }
+{
+    for place in 0..above.len() {
+        above[place] = pair_at(below, 2 * place);
+    }
+}
+
+// Makes each level above the lowest anew.
+fn pair_all(levels: &mut Vec<Vec<u64>>)
+    requires { AreAsLong (lists_of levels.now.items) }
+    ensures count { length levels.new.items ≡ length levels.old.items }
+    ensures pairs { ArePairsOf (level_at (lists_of levels.old.items) 0) (lists_of levels.new.items) }
+{
+    for level in 1..levels.len() {
+        let (below, above) = levels.split_at_mut(level);
+        pair_into(&below[level - 1], &mut above[0]);
+    }
 }
 
 // Makes room for one more number in each level.
@@ -155,6 +199,39 @@ impl Least {
             number = set_in(&mut self.levels[level], place, number);
             place = place / 2;
         }
+    }
+
+    /// The numbers, in their order.
+    pub fn numbers(&self) -> &[u64]
+        ensures { result.now ≡ self.now }
+    {
+        match self.levels.first() {
+            Some(level) => level,
+            None => &[],
+        }
+    }
+
+    /// Changes each number that is below a bound, in one walk over all. This takes no memory.
+    pub fn set_below(&mut self, bound: u64, number: u64)
+        ensures { self.new ≡ changed_where self.old bound number self.old }
+    {
+        if self.levels.is_empty() {
+            return;
+        }
+        set_low(&mut self.levels[0], bound, number);
+        pair_all(&mut self.levels);
+    }
+
+    /// Changes each number at whose place another list has one below a bound, in one walk over all.
+    /// This takes no memory.
+    pub fn set_where(&mut self, others: &[u64], bound: u64, number: u64)
+        ensures { self.new ≡ changed_where others.now bound number self.old }
+    {
+        if self.levels.is_empty() {
+            return;
+        }
+        set_beside(&mut self.levels[0], others, bound, number);
+        pair_all(&mut self.levels);
     }
 
     /// The least of the numbers.

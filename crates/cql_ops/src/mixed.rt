@@ -5,6 +5,7 @@ ghost use Rattle.cql_ops.specs.Bench.{IsBench};
 ghost use Rattle.cql_ops.specs.Mixed.{seen_of};
 
 use crate::bench::{BenchOf, BlockOf};
+use crate::cancellation::Cancellation;
 use crate::distinct::DistinctOp;
 use crate::error::OpError;
 use crate::operator::Operator;
@@ -41,6 +42,15 @@ impl<J: Operator, S: Operator> Operator for Mixed<J, S> {
             Mixed::Shape(op) => op.kind(),
             Mixed::Distinct(op) => op.kind(),
             Mixed::SetOp(op) => op.kind(),
+        }
+    }
+
+    fn heed(&mut self, cancellation: Cancellation) {
+        match self {
+            Mixed::Join(op) => op.heed(cancellation),
+            Mixed::Shape(op) => op.heed(cancellation),
+            Mixed::Distinct(op) => op.heed(cancellation),
+            Mixed::SetOp(op) => op.heed(cancellation),
         }
     }
 
@@ -105,5 +115,6 @@ pub fn mixed_bench<J: Operator, S: Operator>(
             distinct: Mixed::Distinct(DistinctOp::new(alloc)),
         },
         set_op: Mixed::SetOp(SetOperation::new(alloc)),
+        cancellation: Cancellation::never(),
     }
 }

@@ -1,3 +1,4 @@
 mod Blocks
 mod Every
 mod Extend
+mod Instances

@@ -7,7 +7,8 @@ ghost use Rattle.cql_part_tests.specs.Numbers.{IsOfNumbers, HasNumbers, IsNumber
 
 use cql_bag::Change;
 use cql_groups::GroupShape;
-use cql_ops::{OpError, Operator};
+use cql_ops::{Cancellation, OpError, Operator};
+use cql_plain::PlainShape;
 use cql_plan::{Expr, Item, Node, Shape};
 use cql_value::{ColumnType, Items, Row, Value};
 use std::alloc::{AllocError, Global};
@@ -86,6 +87,7 @@ fn push_often<O: Operator>(op: &mut O, change: &Change, times: u64) -> Result<()
     requires held { HasNumbers (O.seen_in op.old) }
     requires row { IsNumber change.now }
     ensures held { OnOk result (HasNumbers (O.seen_in op.new)) }
+    ensures kind { (O.seen_in op.new).kind ≡ shape_kind }
 {
     for _ in 0..times {
         op.push(0, change)?;
@@ -107,6 +109,7 @@ fn tell_often<O: Operator>(
     requires node { IsOfNumbers node.now }
     requires rows { All IsNumber changes.now }
     requires one { IsNumber one.now }
+    ensures { (O.seen_in op.new).kind ≡ shape_kind }
 {
     op.start(node, 1000)?;
     push_all(op, changes)?;
@@ -289,5 +292,72 @@ fn a_shape_without_columns_is_one_group(rt: HostRuntime) -> Result<(), Fail> {
     assert!(rt; out.len() == 199);
     assert!(rt; is_of_all(&out[197], false, 99, 4950));
     assert!(rt; is_of_all(&out[198], true, 100, 5050));
+    Ok(())
+}
+
+// Started anew, the operator is asked to tell of some rows, behind which the flag is set.
+#[tactic(auto, using(crate::proofs::Numbers::has_started))]
+fn tell_under<O: Operator>(
+    op: &mut O,
+    node: &Node,
+    changes: &[Change],
+    flag: &Cancellation,
+    out: &mut Vec<Change>,
+) -> Result<(), OpError>
+    requires kind { (O.seen_in op.old).kind ≡ shape_kind }
+    requires node { IsOfNumbers node.now }
+    requires rows { All IsNumber changes.now }
+    ensures { (O.seen_in op.new).kind ≡ shape_kind }
+{
+    flag.clear();
+    op.start(node, 1000)?;
+    push_all(op, changes)?;
+    flag.set();
+    op.emit(out)
+}
+
+// Whether the operator has no memory where the flag is set behind the rows, and before them; and
+// else tells as many rows as there are.
+fn gives_up<O: Operator>(
+    alloc: Global,
+    op: &mut O,
+    node: &Node,
+    changes: &[Change],
+) -> Result<bool, OpError>
+    requires kind { (O.seen_in op.old).kind ≡ shape_kind }
+    requires node { IsOfNumbers node.now }
+    requires rows { All IsNumber changes.now }
+{
+    let one = number(alloc, 0)?;
+    let flag = Cancellation::new(alloc)?;
+    op.heed(flag.share()?);
+    let mut out = Vec::new(alloc);
+    let behind = tell_under(op, node, changes, &flag, &mut out);
+    let before = tell_often(op, node, changes, &one, 0, &mut out);
+    flag.clear();
+    out.clear();
+    tell_often(op, node, changes, &one, 0, &mut out)?;
+    let given_up = Err(OpError::NoMemory);
+    Ok(behind == given_up && before == given_up && out.len() == changes.len())
+}
+
+#[test]
+fn a_keyed_shape_is_given_up(rt: HostRuntime) -> Result<(), Fail> {
+    let alloc = rt.alloc();
+    let node = counts_by_number(alloc)?;
+    let many = numbers(alloc, 0, 1100)?;
+    let mut shape = GroupShape::new(alloc);
+    assert!(rt; gives_up(alloc, &mut shape, &node, many.as_slice())?);
+    assert!(rt; shape.remade() == 1100);
+    Ok(())
+}
+
+#[test]
+fn a_plain_shape_is_given_up(rt: HostRuntime) -> Result<(), Fail> {
+    let alloc = rt.alloc();
+    let node = counts_by_number(alloc)?;
+    let many = numbers(alloc, 0, 1100)?;
+    let mut shape = PlainShape::new(alloc);
+    assert!(rt; gives_up(alloc, &mut shape, &node, many.as_slice())?);
     Ok(())
 }

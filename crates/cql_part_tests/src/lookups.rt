@@ -5,7 +5,8 @@ ghost use Rattle.cql_part_tests.specs.Twos.{two, IsOfTwos, HasTwos, IsTwo};
 
 use cql_bag::Change;
 use cql_joins::KeyedJoin;
-use cql_ops::{OpError, Operator};
+use cql_ops::{Cancellation, OpError, Operator};
+use cql_plain::PlainJoin;
 use cql_plan::{Condition, Join, Node, Operand};
 use cql_syntax::syntax::Comparison;
 use cql_value::{Boxed, ColumnType, Items, Row, Value};
@@ -20,6 +21,8 @@ const X_B: usize = 1;
 const Y_A: usize = 2;
 
 const Y_B: usize = 3;
+
+const Z_A: usize = 4;
 
 const Z_B: usize = 5;
 
@@ -246,5 +249,92 @@ fn rows_that_fail_alone_are_joined_to_none(rt: HostRuntime) -> Result<(), Fail> 
     // Of ten rows of one value in each port one has the constant.
     assert!(rt; out.len() == 1);
     assert!(rt; join.tried() == 1);
+    Ok(())
+}
+
+// Ten rows with the one number in each first column, into three ports.
+fn add_three_tens(puts: &mut Vec<Put>) -> Result<(), AllocError> {
+    add_ten(0, false, true, puts)?;
+    add_ten(1, false, true, puts)?;
+    add_ten(2, false, true, puts)
+}
+
+// Whether the operator has no memory while the flag is set, and else tells a thousand rows.
+fn gives_up<O: Operator>(
+    alloc: Global,
+    op: &mut O,
+    node: &Node,
+    puts: &[Put],
+) -> Result<bool, OpError>
+    requires kind { (O.seen_in op.old).kind ≡ join_kind }
+    requires node { IsOfTwos 3 node.now }
+    ensures { (O.seen_in op.new).kind ≡ join_kind }
+{
+    let flag = Cancellation::new(alloc)?;
+    op.heed(flag.share()?);
+    flag.set();
+    let mut out = Vec::new(alloc);
+    let given_up = run(alloc, op, 3, node, 1000, puts, false, &mut out);
+    flag.clear();
+    out.clear();
+    run(alloc, op, 3, node, 1000, puts, false, &mut out)?;
+    Ok(given_up == Err(OpError::NoMemory) && out.len() == 1000)
+}
+
+#[test]
+fn a_keyed_join_is_given_up(rt: HostRuntime) -> Result<(), Fail> {
+    let alloc = rt.alloc();
+    let condition = both(alloc, equal(X_A, Y_A), equal(Y_A, Z_A))?;
+    let node = join_of(alloc, 3, condition)?;
+    let mut puts = Vec::new(alloc);
+    add_three_tens(&mut puts)?;
+    let mut join = KeyedJoin::new(alloc);
+    assert!(rt; gives_up(alloc, &mut join, &node, &puts)?);
+    // Each row of the third port is put to ten of the second, and each of these pairs to ten of the
+    // first. A row of the second finds none of the third.
+    assert!(rt; join.tried() == 1100);
+    Ok(())
+}
+
+#[test]
+fn a_plain_join_is_given_up(rt: HostRuntime) -> Result<(), Fail> {
+    let alloc = rt.alloc();
+    let node = join_of(alloc, 3, Condition::Always)?;
+    let mut puts = Vec::new(alloc);
+    add_three_tens(&mut puts)?;
+    let mut join = PlainJoin::new(alloc);
+    assert!(rt; gives_up(alloc, &mut join, &node, &puts)?);
+    // A hundred pairs of the first two ports' rows, each put to ten of the third.
+    assert!(rt; join.tried() == 1100);
+    Ok(())
+}
+
+#[test]
+fn a_join_without_equal_columns_is_given_up(rt: HostRuntime) -> Result<(), Fail> {
+    let alloc = rt.alloc();
+    let node = join_of(alloc, 3, Condition::Always)?;
+    let mut puts = Vec::new(alloc);
+    add_three_tens(&mut puts)?;
+    let mut join = KeyedJoin::new(alloc);
+    assert!(rt; gives_up(alloc, &mut join, &node, &puts)?);
+    assert!(rt; join.tried() == 1100);
+    Ok(())
+}
+
+#[test]
+fn what_meets_nothing_is_counted_in_a_plain_join(rt: HostRuntime) -> Result<(), Fail> {
+    let alloc = rt.alloc();
+    let less = column_to_column(X_B, Comparison::Less, Y_B);
+    let condition = both(alloc, equal(X_A, Y_A), less)?;
+    let node = join_of(alloc, 2, condition)?;
+    let mut puts = Vec::new(alloc);
+    add_ten(0, false, true, &mut puts)?;
+    add_ten(1, false, true, &mut puts)?;
+    let mut join = PlainJoin::new(alloc);
+    let mut out = Vec::new(alloc);
+    run(alloc, &mut join, 2, &node, 100, &puts, false, &mut out)?;
+    // Of a hundred pairs of the numbers from 1 to 10, 45 ascend.
+    assert!(rt; out.len() == 45);
+    assert!(rt; join.tried() == 100);
     Ok(())
 }

@@ -312,3 +312,80 @@ fn many_rounds(rt: HostRuntime) -> Result<(), Fail> {
     assert!(rt; rounds(rt.alloc(), 11_000)? == 1);
     Ok(())
 }
+
+const STUBS: u64 = 301;
+
+// Whether the stub at a place is one of so many, which are spread over all.
+fn is_early(place: usize, few: u64) -> bool {
+    (place as u64 % STUBS * 10) % STUBS < few
+}
+
+// Stubs of the last instant, each of which may hold two rows.
+fn of_two_rows(alloc: Global, tried: &mut Tried) -> Result<Vec<StubId>, Refused> {
+    let mut ids = Vec::new(alloc);
+    for _ in 0..STUBS {
+        ids.push(tried.attach(range(0, 1)?, 2)?)?;
+    }
+    Ok(ids)
+}
+
+// All but so many let go of the row of the first instant.
+fn pass_first(tried: &mut Tried, ids: &[StubId], few: u64) -> Result<(), Refused> {
+    for (place, id) in ids.iter().enumerate() {
+        if !is_early(place, few) {
+            tried.go(*id, 2)?;
+        }
+    }
+    Ok(())
+}
+
+// Whether just these live: of so many, and of the others.
+fn are_live(tried: &Tried, ids: &[StubId], few: u64, early: bool, others: bool) -> bool {
+    for (place, id) in ids.iter().enumerate() {
+        let lives = if is_early(place, few) { early } else { others };
+        if tried.store.may_advance(*id, 2) != lives {
+            return false;
+        }
+    }
+    true
+}
+
+// Whether behind a row of this instant the right ones live, and the store holds what these need.
+fn live_behind(
+    alloc: Global,
+    tried: &mut Tried,
+    ids: &[StubId],
+    few: u64,
+    at: u64,
+) -> Result<bool, Refused> {
+    tried.put(row(alloc, at, 7)?)?;
+    let held = tried.store.rows_held();
+    Ok(match at {
+        2 => are_live(tried, ids, few, true, true) && held == 2,
+        3 => are_live(tried, ids, few, false, true) && held == 2,
+        _ => are_live(tried, ids, few, false, false) && held == 0,
+    })
+}
+
+// Of all stubs so many have a row more than the others, and are overrun by the row for which the
+// others still have room; the next one overruns these.
+fn are_overrun(alloc: Global, few: u64) -> Result<bool, Refused> {
+    let mut tried = Tried::new(alloc);
+    let ids = of_two_rows(alloc, &mut tried)?;
+    tried.put(row(alloc, 0, 7)?)?;
+    pass_first(&mut tried, &ids, few)?;
+    let mut right = true;
+    for at in 2..5 {
+        right = live_behind(alloc, &mut tried, &ids, few, at)? && right;
+    }
+    Ok(right)
+}
+
+// Of 301 stubs one append overruns so many, which are marked one by one or in one walk.
+#[test]
+fn many_overrun_at_once(rt: HostRuntime) -> Result<(), Fail> {
+    for few in [63, 64, 65, 300] {
+        assert!(rt; are_overrun(rt.alloc(), few)?, "{few}");
+    }
+    Ok(())
+}

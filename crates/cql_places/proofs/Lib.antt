@@ -4,3 +4,4 @@ pub mod Narrows
 pub mod Picks
 pub mod Positions
 pub mod Sizes
+mod Instances

@@ -13,6 +13,7 @@ pub mod Gathering
 pub mod Linked
 pub mod Knowing
 pub mod Saying
+pub mod Said
 pub mod Grouping
 pub mod Lacking
 pub mod Keeping

@@ -9,6 +9,7 @@ ghost use Rattle.cql_plain.specs.Grouping.{gather, groups_by, entries_from, IsSa
 use crate::sum::sum_of;
 use cql_bag::Bag;
 use cql_bag::law::{own_entries, put_all_counts, same_counts};
+use cql_ops::Meter;
 use cql_plan::{Item, evaluate};
 use cql_value::{Row, Same, Value};
 use sqlite_items::at;
@@ -57,6 +58,7 @@ fn take_run<'a>(
     key: &[Value],
     left: &mut Iter<'a, Row, u64>,
     run: &mut Vec<(Row, u64)>,
+    meter: &mut Meter,
 ) -> Result<Option<(&'a Row, &'a u64)>, AllocError>
     requires bag { IsBag left.old }
     requires some { ArePositive run.old.items }
@@ -70,6 +72,7 @@ fn take_run<'a>(
             return Ok(Some((row, times)));
         }
         run.push((row.try_clone(alloc)?, *times))?;
+        meter.step()?;
     }
     Ok(None)
 }
@@ -99,6 +102,7 @@ fn put_in_group<'a>(
     row: &'a Row,
     times: u64,
     left: &mut Iter<'a, Row, u64>,
+    meter: &mut Meter,
 ) -> Result<Option<(&'a Row, &'a u64)>, AllocError>
     requires some { 1 ≤ times }
     requires bag { IsBag left.old }
@@ -109,15 +113,20 @@ fn put_in_group<'a>(
     let key = key(alloc, columns, row.values())?;
     let mut run = Vec::new(alloc);
     run.push((row.try_clone(alloc)?, times))?;
-    let next = take_run(alloc, columns, key.values(), left, &mut run)?;
+    let next = take_run(alloc, columns, key.values(), left, &mut run, meter)?;
     let group = groups.entry(key)?.or_insert(Bag::new(alloc));
     put_run(run, group)?;
     Ok(next)
 }
 
 /// Each key of the rows, and the rows that have it. A key is made and looked up once for rows that
-/// follow one another.
-pub fn groups(alloc: Global, columns: &[usize], bag: &Bag) -> Result<BTreeMap<Row, Bag>, AllocError>
+/// follow one another. Each row is a step.
+pub fn groups(
+    alloc: Global,
+    columns: &[usize],
+    bag: &Bag,
+    meter: &mut Meter,
+) -> Result<BTreeMap<Row, Bag>, AllocError>
     ensures { IfOk result (λ m. m.entries ≡ groups_by columns.now bag.now) }
 {
     own_entries();
@@ -126,7 +135,8 @@ pub fn groups(alloc: Global, columns: &[usize], bag: &Bag) -> Result<BTreeMap<Ro
     let mut left = bag.entries();
     let mut next = left.next();
     while let Some((row, times)) = next {
-        next = put_in_group(alloc, columns, &mut groups, row, *times, &mut left)?;
+        meter.step()?;
+        next = put_in_group(alloc, columns, &mut groups, row, *times, &mut left, meter)?;
     }
     Ok(groups)
 }
@@ -189,12 +199,18 @@ fn item_on_group(alloc: Global, item: &Item, group: &Bag) -> Result<Option<Value
     }
 }
 
-// The items on the group, unless one is outside i64.
-pub fn row_of_group(alloc: Global, items: &[Item], group: &Bag) -> Result<Option<Row>, AllocError>
+/// The items on the group, unless one is outside i64. Each row is a step for each item.
+pub fn row_of_group(
+    alloc: Global,
+    items: &[Item],
+    group: &Bag,
+    meter: &mut Meter,
+) -> Result<Option<Row>, AllocError>
     ensures { IfOk result (λ r. r ≡ items_over items.now group.now) }
 {
     let mut values = Vec::with_capacity(alloc, items.len())?;
     for item in items {
+        meter.add(group.size())?;
         match item_on_group(alloc, item, group)? {
             Some(value) => values.push(value)?,
             None => return Ok(None),

@@ -11,7 +11,7 @@ use crate::difference::tell_difference;
 use crate::group::{groups, row_of_group};
 use cql_algebra::law::node_types_law;
 use cql_bag::{Bag, Change};
-use cql_ops::OpError;
+use cql_ops::{Meter, OpError};
 use cql_plan::{Item, Shape};
 use std::alloc::Global;
 
@@ -38,11 +38,11 @@ fn only_counts(items: &[Item]) -> bool
 }
 
 // The items on the whole bag, in one row.
-fn shape_whole(alloc: Global, items: &[Item], bag: &Bag) -> Result<Bag, OpError>
+fn shape_whole(alloc: Global, items: &[Item], bag: &Bag, meter: &mut Meter) -> Result<Bag, OpError>
     ensures ok { IfOk result (λ b. groups_value items.now (bag.now ∷ []) ≡ Some b) }
     ensures err { IfErr result (λ e. (e ≡ NoMemory) ⊎ ((e ≡ Overflow) × (groups_value items.now (bag.now ∷ []) ≡ None))) }
 {
-    match row_of_group(alloc, items, bag)? {
+    match row_of_group(alloc, items, bag, meter)? {
         Some(row) => {
             let mut shaped = Bag::new(alloc);
             shaped.add(row)?;
@@ -53,14 +53,20 @@ fn shape_whole(alloc: Global, items: &[Item], bag: &Bag) -> Result<Bag, OpError>
 }
 
 // The items on the rows of each key.
-fn shape_keys(alloc: Global, columns: &[usize], items: &[Item], bag: &Bag) -> Result<Bag, OpError>
+fn shape_keys(
+    alloc: Global,
+    columns: &[usize],
+    items: &[Item],
+    bag: &Bag,
+    meter: &mut Meter,
+) -> Result<Bag, OpError>
     ensures ok { IfOk result (λ b. groups_value items.now (key_groups columns.now bag.now) ≡ Some b) }
     ensures err { IfErr result (λ e. (e ≡ NoMemory) ⊎ ((e ≡ Overflow) × (groups_value items.now (key_groups columns.now bag.now) ≡ None))) }
 {
-    let found = groups(alloc, columns, bag)?;
+    let found = groups(alloc, columns, bag, meter)?;
     let mut shaped = Bag::new(alloc);
     for (_, group) in found.iter() {
-        match row_of_group(alloc, items, group)? {
+        match row_of_group(alloc, items, group, meter)? {
             Some(row) => shaped.add(row)?,
             None => return Err(OpError::Overflow),
         }
@@ -76,26 +82,33 @@ pub(crate) fn is_grouped(shape: &Shape) -> bool
 }
 
 // The value of a shape with groups.
-fn shape_groups(alloc: Global, shape: &Shape, bag: &Bag) -> Result<Bag, OpError>
+fn shape_groups(alloc: Global, shape: &Shape, bag: &Bag, meter: &mut Meter) -> Result<Bag, OpError>
     ensures ok { IfOk result (λ b. grouped_value shape.now bag.now ≡ Some b) }
     ensures err { IfErr result (λ e. (e ≡ NoMemory) ⊎ ((e ≡ Overflow) × (grouped_value shape.now bag.now ≡ None))) }
 {
     if shape.groups.len() != 0 {
-        shape_keys(alloc, shape.groups.as_slice(), shape.items.as_slice(), bag)
+        shape_keys(
+            alloc,
+            shape.groups.as_slice(),
+            shape.items.as_slice(),
+            bag,
+            meter,
+        )
     } else if bag.is_empty() && !only_counts(shape.items.as_slice()) {
         Ok(Bag::new(alloc))
     } else {
-        shape_whole(alloc, shape.items.as_slice(), bag)
+        shape_whole(alloc, shape.items.as_slice(), bag, meter)
     }
 }
 
-/// Tells the changes of a shape with groups, whose value is computed anew; or `Overflow` where a
-/// SUM is outside i64.
+/// Tells the changes of a shape with groups, whose value is computed anew, in steps over its rows; or
+/// `Overflow` where a SUM is outside i64.
 pub(crate) fn emit_groups(
     alloc: Global,
     shape: &Shape,
     port: &Bag,
     told: &mut Bag,
+    meter: &mut Meter,
     out: &mut Vec<Change>,
 ) -> Result<(), OpError>
     requires { KeepsGroups shape.now port.now told.old }
@@ -105,7 +118,7 @@ pub(crate) fn emit_groups(
     ensures err { IfErr result (FailsToShape shape.now port.now) }
 {
     node_types_law();
-    let value = shape_groups(alloc, shape, port)?;
+    let value = shape_groups(alloc, shape, port, meter)?;
     tell_difference(alloc, told, &value, out)?;
     *told = value;
     Ok(())

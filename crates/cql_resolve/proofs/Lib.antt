@@ -14,3 +14,4 @@ mod Seen
 mod PlainPlans
 pub mod CrossTrees
 pub mod CrossQueries
+mod Instances

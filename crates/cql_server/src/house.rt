@@ -5,7 +5,7 @@ use crate::ending::Ending;
 use crate::floor::{Floor, LATE, Turn};
 use crate::guest::{Guest, Needs};
 use crate::turns::Task;
-use cql_hall::{Gate, Journal, Point};
+use cql_hall::{EndReason, Gate, Journal, Point};
 use cql_wire::ScriptError;
 use mio::unix::SourceFd;
 use mio::{Interest, Registry, Token, Waker};
@@ -106,7 +106,7 @@ impl House {
         for key in keys {
             let called = self.call_one(rt, *key);
             if let Err(turn) = called {
-                self.end(rt, gate, turn, Some(ScriptError::NoMemory));
+                self.end(rt, gate, turn, Some(ScriptError::NoMemory), EndReason::Fault);
             }
         }
         match keys.len() {
@@ -123,14 +123,15 @@ impl House {
         called
     }
 
-    /// The next guest whose turn it is, once there is one; or none where the workers are to end.
-    pub(crate) fn next<R: Wait>(&self, rt: &R) -> Option<Task<Turn>> {
+    /// The next guest whose turn it is, once there is one, at a thread that computes answers or at one
+    /// that doesn't; or none where the workers are to end.
+    pub(crate) fn next<R: Wait>(&self, rt: &R, computes: bool) -> Option<Task<Turn>> {
         let mut floor = self.floor.lock(rt);
         for _ in rt.forever() {
             if floor.is_closed {
                 return None;
             }
-            let task = floor.take();
+            let task = floor.take(computes);
             self.waiting.store(floor.waiting(), Ordering::SeqCst);
             if task.is_some() {
                 return task;
@@ -186,14 +187,24 @@ impl House {
         needs: Needs,
     ) {
         let refused = match needs {
-            Needs::End(fault) => return self.end(rt, gate, turn, fault),
+            Needs::End(fault) => {
+                let reason = turn.guest.reason(fault);
+                return self.end(rt, gate, turn, fault, reason);
+            }
             Needs::Worker => self.floor.lock(rt).push(turn),
-            Needs::Answer => self.floor.lock(rt).push_answer(turn),
+            Needs::Answer => self.push_answer(rt, turn),
             Needs::Bytes | Needs::Room => self.keep(rt, turn, needs),
         };
         if let Err(turn) = refused {
-            self.end(rt, gate, turn, Some(ScriptError::Write));
+            self.end(rt, gate, turn, Some(ScriptError::Write), EndReason::Fault);
         }
+    }
+
+    // Has a guest wait for a worker who may compute an answer.
+    fn push_answer<R: Wait>(&self, rt: &R, turn: Turn) -> Result<(), Turn> {
+        let pushed = self.floor.lock(rt).push_answer(turn);
+        self.called.notify_one();
+        pushed
     }
 
     // Keeps a guest until what it needs has come.
@@ -207,18 +218,21 @@ impl House {
         self.floor.lock(rt).keep(turn, needs, now)
     }
 
-    /// Ends a session. The accepting thread is told, since there is room for one more.
+    /// Ends a session, for this reason. The accepting thread is told, since there is room for one
+    /// more.
     pub(crate) fn end<R: Wait, G: Gate>(
         &self,
         rt: &R,
         gate: &G,
         turn: Turn,
         fault: Option<ScriptError>,
+        reason: EndReason,
     ) {
         let Turn { key, guest } = turn;
+        let tenant = guest.tenant();
         let end = Box::into_inner(guest).leave(self.alloc, fault);
         self.leave(rt, key, end);
-        gate.at(Point::Closed);
+        gate.at(Point::Closed(tenant, reason));
         let _ = self.waker.wake();
     }
 
@@ -236,7 +250,8 @@ impl House {
         let mut late = Vec::new(self.alloc);
         self.floor.lock(rt).take_late(now, &mut late);
         for turn in late {
-            self.end(rt, gate, turn, Some(LATE));
+            let reason = turn.guest.reason_of_late();
+            self.end(rt, gate, turn, Some(LATE), reason);
         }
     }
 }

@@ -80,9 +80,8 @@ pub struct Task<T> {
 }
 
 /// What waits for a worker: short turns, and answers. Owners take turns in either. Short turns go
-/// first, but for one answer after every sixteen of them. All workers but one may compute answers
-/// at once, or the only one; and for one owner half of these, rounded up, while an answer of
-/// another one waits.
+/// first, but for one answer after every sixteen of them. All workers may compute answers at once; and
+/// for one owner half of them, rounded up, while an answer of another one waits.
 #[derive(Drop)]
 pub struct Turns<T> {
     short: Queues<T>,
@@ -104,7 +103,7 @@ impl<T: Drop> Turns<T> {
         Ok(Turns {
             short,
             answers,
-            most: workers.saturating_sub(1).max(1),
+            most: workers,
             busy: 0,
             busy_of,
             in_a_row: 0,
@@ -162,16 +161,17 @@ impl<T: Drop> Turns<T> {
         self.busy < self.most && (busy < share || !self.answers.has_other(owner))
     }
 
-    /// What is to be done next, if anything can be now.
-    pub fn take(&mut self) -> Option<Task<T>> {
+    /// What is to be done next, if anything can be now, by a thread that computes answers or by one
+    /// that doesn't.
+    pub fn take(&mut self, computes: bool) -> Option<Task<T>> {
+        if !computes {
+            return self.take_short();
+        }
         if self.in_a_row < IN_A_ROW
-            && let Some(item) = self.short.pop()
+            && let Some(task) = self.take_short()
         {
-            self.in_a_row += 1;
-            return Some(Task {
-                item,
-                is_answer: false,
-            });
+            self.in_a_row = self.in_a_row.saturating_add(1);
+            return Some(task);
         }
         if let Some(item) = self.take_answer() {
             return Some(Task {
@@ -180,6 +180,11 @@ impl<T: Drop> Turns<T> {
             });
         }
         self.in_a_row = 0;
+        self.take_short()
+    }
+
+    // The next short turn.
+    fn take_short(&mut self) -> Option<Task<T>> {
         let item = self.short.pop()?;
         Some(Task {
             item,

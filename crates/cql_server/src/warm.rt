@@ -5,8 +5,9 @@ ghost use Rattle.cql_eval.specs.Warm.{IsWarm};
 ghost use Rattle.cql_server.specs.declared.failure.Failure.TheVariants as failure;
 
 use crate::failure::Failure;
-use cql_core::{BenchOf, Lender, Operator, Pin, Pool, Pooled, Warm};
-use cql_hall::{Gate, Point};
+use crate::held::tell_held;
+use cql_core::{BenchOf, Lender, Operator, Pin, Pool, Pooled, TenantTable, Warm};
+use cql_hall::{Gate, Hall, Journal, Point};
 use crossbeam_channel::{Receiver, RecvTimeoutError};
 use std::alloc::{AllocError, Global};
 use std::sync::{Mutex, Wait};
@@ -83,11 +84,13 @@ impl<O: Operator> SharedPool<O> {
         }
     }
 
-    /// Tells the gate each second, and now and then lets go of what nobody used, until the sender
-    /// is let go.
-    pub(crate) fn sweep_on<R: Wait + Clock, G: Gate>(
+    /// Tells the gate each second, with which rows are held where it wants that, and now and then
+    /// lets go of what nobody used, until the sender is let go.
+    pub(crate) fn sweep_on<R: Wait + Clock, J: Journal, G: Gate>(
         &self,
         rt: &R,
+        hall: &Hall<J>,
+        table: &TenantTable,
         gate: &G,
         stopped: &Receiver<()>,
     ) {
@@ -96,6 +99,9 @@ impl<O: Operator> SharedPool<O> {
             match stopped.recv_timeout(rt, Duration::from_secs(1)) {
                 Err(RecvTimeoutError::Timeout) => gate.at(Point::Second),
                 _ => return,
+            }
+            if gate.wants_held() {
+                tell_held(rt, hall, table, gate);
             }
             left = left.saturating_sub(1);
             if left == 0 {
@@ -108,20 +114,26 @@ impl<O: Operator> SharedPool<O> {
 
 /// Starts the thread that lets go of what nobody used and tells the gate each second, until the
 /// sender is let go; or it can't be made.
-pub(crate) fn start_sweeper<'s, T, R, G, O>(
+pub(crate) fn start_sweeper<'s, T, R, J, G, O>(
     scope: &Scope<'s, T>,
     rt: &'s R,
     pool: &'s SharedPool<O>,
+    hall: &'s Hall<J>,
+    table: &'s TenantTable,
     gate: &'s G,
     stopped: Receiver<()>,
 ) -> Result<(), Failure>
 where
     R: Wait + Clock + Sync + 's,
+    J: Journal + Send + 's,
     G: Gate + 's,
     O: Operator + Send + 's,
     ensures { IfErr result (λ f. f ≡ failure.NoMemory) }
 {
-    let started = Builder::new().spawn_scoped(scope, move || pool.sweep_on(rt, gate, &stopped));
+    let started = Builder::new().spawn_scoped(
+        scope,
+        move || pool.sweep_on(rt, hall, table, gate, &stopped),
+    );
     match started {
         Ok(_handle) => Ok(()),
         Err(_refused) => Err(Failure::NoMemory),

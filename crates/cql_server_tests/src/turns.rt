@@ -17,12 +17,12 @@ fn answer(turns: &mut Turns<u32>, owner: usize, item: u32) -> Result<(), AllocEr
 // Whether these are done next, in this order, and then nothing can be.
 fn gives(turns: &mut Turns<u32>, wanted: &[u32]) -> bool {
     for item in wanted {
-        match turns.take() {
+        match turns.take(true) {
             Some(task) if task.item == *item => {}
             _ => return false,
         }
     }
-    turns.take().is_none()
+    turns.take(true).is_none()
 }
 
 fn three_owners(alloc: Global, workers: usize) -> Result<Turns<u32>, AllocError> {
@@ -66,10 +66,10 @@ fn answers_are_not_starved(rt: HostRuntime) -> Result<(), Fail> {
     Ok(())
 }
 
-// Of three workers two compute answers.
+// Both workers compute answers, and no more are computed.
 #[test]
-fn a_worker_is_left(rt: HostRuntime) -> Result<(), Fail> {
-    let mut turns = three_owners(rt.alloc(), 3)?;
+fn workers_compute_answers(rt: HostRuntime) -> Result<(), Fail> {
+    let mut turns = three_owners(rt.alloc(), 2)?;
     for item in [1, 2, 3] {
         answer(&mut turns, 0, item)?;
     }
@@ -78,6 +78,26 @@ fn a_worker_is_left(rt: HostRuntime) -> Result<(), Fail> {
     turns.end_answer(0);
     assert_eq!(rt; turns.waiting(), 1);
     assert!(rt; gives(&mut turns, &[3]));
+    Ok(())
+}
+
+// A thread that computes no answers takes short turns alone.
+#[test]
+fn short_turns_alone(rt: HostRuntime) -> Result<(), Fail> {
+    let mut turns = three_owners(rt.alloc(), 4)?;
+    answer(&mut turns, 0, 1)?;
+    short(&mut turns, 0, 2)?;
+    assert!(rt;
+        turns
+            .take(false)
+            .is_some_and(|task| task.item == 2 && !task.is_answer)
+    );
+    assert!(rt; turns.take(false).is_none());
+    assert!(rt;
+        turns
+            .take(true)
+            .is_some_and(|task| task.item == 1 && task.is_answer)
+    );
     Ok(())
 }
 
@@ -93,11 +113,11 @@ fn one_worker_does_both(rt: HostRuntime) -> Result<(), Fail> {
     Ok(())
 }
 
-// Of five workers four compute answers. One owner has them all while nobody else waits; once
-// another one waits it gets none before it holds less than two.
+// One owner has all four workers while nobody else waits; once another one waits it gets none before
+// it holds less than two.
 #[test]
 fn half_is_left_to_others(rt: HostRuntime) -> Result<(), Fail> {
-    let mut turns = three_owners(rt.alloc(), 5)?;
+    let mut turns = three_owners(rt.alloc(), 4)?;
     for item in [1, 2, 3, 4, 5, 6] {
         answer(&mut turns, 0, item)?;
     }
@@ -116,7 +136,7 @@ fn half_is_left_to_others(rt: HostRuntime) -> Result<(), Fail> {
 // An answer that needn't wait begins at once, and else it has to.
 #[test]
 fn answers_begin_at_once(rt: HostRuntime) -> Result<(), Fail> {
-    let mut turns = three_owners(rt.alloc(), 3)?;
+    let mut turns = three_owners(rt.alloc(), 2)?;
     assert!(rt; turns.begin_answer(0));
     assert!(rt; turns.begin_answer(0));
     assert!(rt; !turns.begin_answer(1), "two are computed");

@@ -8,3 +8,5 @@ pub mod Next
 pub mod Later
 pub mod Told
 pub mod Search
+pub mod Lifted
+mod Instances

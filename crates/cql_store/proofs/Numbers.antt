@@ -94,7 +94,7 @@ pub past_limit : (count : ℕ) (s : Stub) → limit s < count → count ≤ grea
 past_limit count s past top = let over : s.hold < held_count count s = omega (arith, past, top) in grind (arith, nat_tests, over)
 
 -- and one that isn't has no more
-within_limit : (count : ℕ) (s : Stub) → count ≤ limit s → length s.kept ≤ s.hold → held_count count s ≤ s.hold
+pub within_limit : (count : ℕ) (s : Stub) → count ≤ limit s → length s.kept ≤ s.hold → held_count count s ≤ s.hold
 within_limit count s low few = omega (arith, low, few)
 
 -- a marked stub is marked already
@@ -116,7 +116,7 @@ mark_fewer (x ∷ slots) zero s found live =
     omega (arith, was)
 mark_fewer (x ∷ slots) (suc id) s found live = let less : live_count (set slots id (Some (emptied s))) < live_count slots = mark_fewer slots id s found live in omega (arith, less)
 
-map_none : (F : Option Stub → Option Stub) (slots : Slots) → F None ≡ None → ((id : ℕ) (s : Stub) → slot_of slots id ≡ Some s → F (Some s) ≡ Some s) → map F slots ≡ slots
+pub map_none : (F : Option Stub → Option Stub) (slots : Slots) → F None ≡ None → ((id : ℕ) (s : Stub) → slot_of slots id ≡ Some s → F (Some s) ≡ Some s) → map F slots ≡ slots
 map_none F [] none some = refl
 map_none F (None ∷ slots) none some = λ i. none i ∷ map_none F slots none (λ id s h. some (suc id) s h) i
 map_none F (Some s ∷ slots) none some = λ i. some 0 s refl i ∷ map_none F slots none (λ id s h. some (suc id) s h) i

@@ -1,7 +1,9 @@
 // What the stubs need of the store's rows, without a look at them.
-ghost use Rattle.std.specs.Prelude.{◌≡◌, ◌≤◌, ◌<◌, ◌+◌, [], IfSome, IfNone, OnOk, length, set, slice_index, map, drop};
+ghost use Rattle.std.specs.Prelude.{◌≡◌, ◌≤◌, ◌<◌, ◌+◌, [], IfSome, IfNone, IsSome, IsTrue, OnOk, Some, length, set, slice_index, map, drop};
 ghost use Rattle.std.specs.List.{All, Contains};
-ghost use Rattle.cql_store.specs.Places.{greatest, AreLonger, AreKnown, AreWithin, IsKnown, IsStore, Slots, all_shown, at_some, marked, live_count};
+ghost use Rattle.cql_least.specs.Levels.{changed_where};
+ghost use Rattle.cql_store.specs.declared.stub.Stub.{Stub as StubValue};
+ghost use Rattle.cql_store.specs.Places.{greatest, AreLonger, AreKnown, AreOf, AreWithin, IsKnown, IsStore, Slots, all_shown, at_some, emptied, limit_at, marked, live_count, slot_of};
 
 use crate::stub::{Stub, mark};
 use cql_chunks::Chunks;
@@ -10,6 +12,12 @@ use cql_seq::Waste;
 use slab::Slab;
 use std::alloc::{AllocError, Global};
 use std::marker::Model;
+
+// So many stubs that an append overruns are marked one by one.
+const FEW: usize = 64;
+
+// Or such a share of all stubs, where that is more. One by one they take less than a walk over all.
+const SHARE: usize = 64;
 
 /// By slot, the first row that its stub needs, and how many rows may have come before the stub has
 /// one too many. Where no stub lives both are the greatest number.
@@ -71,6 +79,22 @@ impl Needs {
     {
         self.limits.below(count)
     }
+
+    /// So many stubs are worth no walk over all.
+    pub(crate) fn few(&self) -> usize {
+        FEW.max(self.limits.len() / SHARE)
+    }
+
+    /// The numbers of each slot whose stub has one too many where so many rows have come become the
+    /// greatest, in one walk over all slots. This takes no memory.
+    pub(crate) fn lift(&mut self, count: u64)
+        ensures firsts { self.new.firsts ≡ changed_where self.old.limits count greatest self.old.firsts }
+        ensures limits { self.new.limits ≡ changed_where self.old.limits count greatest self.old.limits }
+    {
+        self.firsts
+            .set_where(self.limits.numbers(), count, u64::MAX);
+        self.limits.set_below(count, u64::MAX);
+    }
 }
 
 // Makes a place for each slot up to this one, with the greatest number.
@@ -101,17 +125,62 @@ fn mark_one(stubs: &mut Slab<Stub>, needs: &mut Needs, waste: &mut Waste, slot: 
     needs.put(slot, u64::MAX, u64::MAX);
 }
 
-/// Marks each stub that has more than it may hold where so many rows have come. It looks at no
-/// other stub. What the stubs kept is let go later.
+// Marks stubs that have more than they may hold where so many rows have come, one by one: all of
+// them where they are few. It looks at no other stub, and tells whether none is left.
+fn mark_few(stubs: &mut Slab<Stub>, needs: &mut Needs, waste: &mut Waste, count: u64) -> bool
+    requires known { AreKnown stubs.old.slots needs.old.firsts needs.old.limits }
+    requires within { AreWithin stubs.old.slots }
+    ensures marked { map (at_some (marked count)) stubs.new.slots ≡ map (at_some (marked count)) stubs.old.slots }
+    ensures known { AreKnown stubs.new.slots needs.new.firsts needs.new.limits }
+    ensures within { AreWithin stubs.new.slots }
+    ensures none { IsTrue result → All (λ n. count ≤ n) needs.new.limits }
+{
+    for _ in 0..needs.few() {
+        let Some(slot) = needs.overdue(count) else {
+            return true;
+        };
+        mark_one(stubs, needs, waste, slot, count);
+    }
+    needs.overdue(count).is_none()
+}
+
+// Marks the stub of a slot.
+fn mark_at(stubs: &mut Slab<Stub>, waste: &mut Waste, slot: usize)
+    requires { IsSome (slot_of stubs.old.slots slot) }
+    ensures { (s : StubValue) → slot_of stubs.old.slots slot ≡ Some s → stubs.new.slots ≡ set stubs.old.slots slot (Some (emptied s)) }
+{
+    match stubs.get_mut(slot) {
+        Some(stub) => mark(stub, waste),
+        None => unreachable!(),
+    }
+}
+
+// Marks each stub whose limit is below the count, in one walk over all limits.
+fn mark_slots(stubs: &mut Slab<Stub>, limits: &[u64], waste: &mut Waste, count: u64)
+    requires limits { AreOf limit_at stubs.old.slots limits.now }
+    requires within { AreWithin stubs.old.slots }
+    ensures { stubs.new.slots ≡ map (at_some (marked count)) stubs.old.slots }
+{
+    for (slot, limit) in limits.iter().enumerate() {
+        if *limit < count {
+            mark_at(stubs, waste, slot);
+        }
+    }
+}
+
+/// Marks each stub that has more than it may hold where so many rows have come. Where these are few
+/// it looks at no other stub; else it walks once over all. What the stubs kept is let go later.
 pub(crate) fn mark_all(stubs: &mut Slab<Stub>, needs: &mut Needs, waste: &mut Waste, count: u64)
     requires known { AreKnown stubs.old.slots needs.old.firsts needs.old.limits }
     requires within { AreWithin stubs.old.slots }
     ensures stubs { stubs.new.slots ≡ map (at_some (marked count)) stubs.old.slots }
     ensures known { AreKnown stubs.new.slots needs.new.firsts needs.new.limits }
 {
-    while let Some(slot) = needs.overdue(count) {
-        mark_one(stubs, needs, waste, slot, count);
+    if mark_few(stubs, needs, waste, count) {
+        return;
     }
+    mark_slots(stubs, needs.limits.numbers(), waste, count);
+    needs.lift(count);
 }
 
 // Lets go of so many rows at the front.

@@ -95,7 +95,8 @@ impl Store {
 
     /// One more row for every stub that isn't overrun. A stub for which it is one too many is
     /// overrun from then on, and has no rows. It looks at the stubs that it overruns, and at no
-    /// other. No store takes 2^64 rows: the last is refused as for want of memory.
+    /// other, or where these are many once at all. No store takes 2^64 rows: the last is refused as
+    /// for want of memory.
     pub fn append(&mut self, row: Timed) -> Result<(), AllocError>
         requires { CanAppend self.old row }
         ensures ok { OnOk result (self.new ≡ map (fed_at row) self.old) }

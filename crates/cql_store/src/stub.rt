@@ -117,6 +117,10 @@ impl Kept {
     pub(crate) fn clear(&mut self, waste: &mut Waste)
         ensures { self.new ≡ [] }
     {
+        // a stub that keeps none, as most do, isn't written to
+        if self.rows.is_none() {
+            return;
+        }
         if let Some(rows) = self.rows.take() {
             rows.let_go(waste);
         }

@@ -19,3 +19,4 @@ pub mod Again
 pub mod AgainQuery
 pub mod Cuts
 pub mod RoundTrip
+mod Instances

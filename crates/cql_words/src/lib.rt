@@ -52,6 +52,8 @@ pub struct Config {
     pub log: u32,
     /// Whether each call is kept, and checked after the last session.
     pub audit: bool,
+    /// Whether the tenants are looked at, and nobody is served.
+    pub check: bool,
 }
 
 /// Reads the words, of which the first is the program's name.
@@ -80,6 +82,7 @@ pub fn read_words(alloc: Global, words: &[String]) -> Result<Config, Error>
         warm: matches.get_one::<u16>("warm").unwrap_or(64).min(1024),
         log: matches.get_one::<u32>("log").unwrap_or(0).min(86_400),
         audit: matches.get_flag("audit"),
+        check: matches.get_flag("check"),
     })
 }
 
@@ -104,9 +107,10 @@ fn command<'a>(alloc: Global) -> Result<Command<'a>, Error> {
         warm(alloc),
         log(alloc),
         audit(alloc),
+        check(alloc),
     ]?;
     let command = Command::new(alloc, "cqld").version(VERSION).about(
-        "Serves continuous queries to the tenants of the first line of standard input",
+        "Serves continuous queries to the tenants that standard input names",
     );
     Ok(command.args(words)?)
 }
@@ -175,7 +179,8 @@ fn join<'a>(alloc: Global) -> Arg<'a> {
 }
 
 fn log<'a>(alloc: Global) -> Arg<'a> {
-    let help = "How often counts are told on standard error, or 0 for never";
+    let help =
+        "How often counts are told on standard error, with who comes and leaves, or 0 for nothing";
     valued(alloc, "log", "SECONDS", "0", help).value_parser(clap::value_parser!(u32).range(
         0..=86_400,
     ))
@@ -186,9 +191,20 @@ fn warm<'a>(alloc: Global) -> Arg<'a> {
     valued(alloc, "warm", "N", "64", help).value_parser(clap::value_parser!(u16).range(0..=1024))
 }
 
-fn audit<'a>(alloc: Global) -> Arg<'a> {
-    Arg::new(alloc, "audit")
-        .long("audit")
+// A word that takes no value.
+fn flag<'a>(alloc: Global, word: &'a str, help: &'a str) -> Arg<'a> {
+    Arg::new(alloc, word)
+        .long(word)
         .action(ArgAction::SetTrue)
-        .help("Keep each call, and check them after the last session")
+        .help(help)
+}
+
+fn audit<'a>(alloc: Global) -> Arg<'a> {
+    let help = "Keep each call, and check them after the last session";
+    flag(alloc, "audit", help)
+}
+
+fn check<'a>(alloc: Global) -> Arg<'a> {
+    let help = "Tell whether the tenants are right, and serve nobody";
+    flag(alloc, "check", help)
 }

@@ -9,7 +9,7 @@ mod operators;
 use clap::error::ErrorKind;
 use cql_core::{Operator, TenantTable};
 use cql_server::{Benches, Failure, Hub, Limits, Watch, benches_of, serve};
-use cql_wire::{TableFault, Watched, first_table};
+use cql_wire::{Watched, given_table};
 use cql_words::{Config, JoinForm, callers_with_files, read_words};
 use operators::{Operators, keyed_operators, plain_operators};
 use std::alloc::Global;
@@ -25,7 +25,7 @@ fn main(rt: HostRuntime) -> ExitCode {
         Ok(config) => config,
         Err(status) => return ExitCode::from(status),
     };
-    match outcome(&rt, rt.alloc(), config) {
+    match run(&rt, rt.alloc(), config) {
         Ok(()) => ExitCode::SUCCESS,
         Err(failure) => ExitCode::from(told(&rt, failure)),
     }
@@ -65,9 +65,8 @@ fn config_of(rt: &HostRuntime) -> Result<Config, u8> {
     }
 }
 
-/// Reads the tenants line, makes a bench for each worker and those that they borrow, listens, and
-/// serves.
-fn outcome<R>(rt: &R, alloc: Global, config: Config) -> Result<(), Failure>
+/// Reads the tenants, and serves them, or tells that they are right.
+fn run<R>(rt: &R, alloc: Global, config: Config) -> Result<(), Failure>
 where
     R: Threads
         + Wait
@@ -81,7 +80,33 @@ where
     if config.audit && config.sessions == 0 {
         return Err(Failure::NoSessions);
     }
-    let table = first_table(alloc, &mut Watched::new(rt.reader())).map_err(failure_of)?;
+    let table = given_table(alloc, &mut Watched::new(rt.reader()))?;
+    if config.check {
+        return tell_checked(rt, &table);
+    }
+    outcome(rt, alloc, config, &table)
+}
+
+/// Tells that the tenants are right.
+fn tell_checked(rt: &impl Print, table: &TenantTable) -> Result<(), Failure> {
+    let many = table.tenants().len();
+    if println!(rt; "the tenants line is right, tenants: {many}").is_err() {
+        return Err(Failure::Writing);
+    }
+    Ok(())
+}
+
+/// Makes a bench for each worker and those that they borrow, listens, and serves.
+fn outcome<R>(rt: &R, alloc: Global, config: Config, table: &TenantTable) -> Result<(), Failure>
+where
+    R: Threads
+        + Wait
+        + Clock
+        + Net<Listener = TcpListener, Stream = TcpStream>
+        + Print
+        + Eprint
+        + Sync,
+{
     let workers = u16::from(config.workers);
     let mut own = Vec::new(alloc);
     let mut shared = Vec::new(alloc);
@@ -127,16 +152,7 @@ where
     }
     let own = benches_of(alloc, own)?;
     let shared = benches_of(alloc, shared)?;
-    listen(rt, alloc, config, &table, Benches { own, shared })
-}
-
-// Why no table of tenants was told, as the failure of the server.
-fn failure_of(fault: TableFault) -> Failure {
-    match fault {
-        TableFault::Refused => Failure::Tenants,
-        TableFault::Read => Failure::Reading,
-        TableFault::NoMemory => Failure::NoMemory,
-    }
+    listen(rt, alloc, config, table, Benches { own, shared })
 }
 
 /// Tells the port that it listens on, and before it where fewer callers than were asked for have files;
@@ -166,7 +182,7 @@ where
     let Ok(hub) = Hub::new(rt, alloc, &listener) else {
         return Err(Failure::Listening);
     };
-    let Some(watch) = Watch::new(rt, config.log) else {
+    let Some(watch) = Watch::new(rt, alloc, table, config.log) else {
         return Err(Failure::NoMemory);
     };
     let Ok(addr) = listener.local_addr() else {

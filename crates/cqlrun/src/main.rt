@@ -3,23 +3,31 @@
 
 use cql_core::{Pool, Pooled};
 use cql_plain::plain_bench;
-use cql_wire::{Ending, Watched, program};
+use cql_wire::{Ending, Outcome, Watched, program};
 use std::alloc::AllocError;
 use std::process::ExitCode;
 use std::{env, io};
 
 fn main(rt: HostRuntime) -> ExitCode {
-    let (status, text) = match outcome(&rt) {
+    let outcome = match outcome(&rt) {
         Ok(outcome) => outcome,
         Err(AllocError) => Ending::NoMemory.outcome(),
     };
-    if !text.is_empty() {
-        let _ = rt.eprintln(text);
-    }
-    ExitCode::from(status)
+    tell(&rt, outcome);
+    ExitCode::from(outcome.status)
 }
 
-fn outcome(rt: &HostRuntime) -> Result<(u8, &'static str), AllocError> {
+// Tells how the run ended, where there is something to tell.
+fn tell(rt: &impl Eprint, outcome: Outcome) {
+    let text = outcome.text;
+    if let Some(rule) = outcome.rule {
+        let _ = eprintln!(rt; "{text}: {rule}");
+    } else if !text.is_empty() {
+        let _ = rt.eprintln(text);
+    }
+}
+
+fn outcome(rt: &HostRuntime) -> Result<Outcome, AllocError> {
     let alloc = rt.alloc();
     let Ok(args) = env::args(rt) else {
         return Ok(Ending::Words.outcome());

@@ -21,9 +21,9 @@ fn replies<E: Evaluator>(alloc: Global, text: &[u8], bench: &mut E) -> Result<Ve
     let mut reader = Watched::new(text);
     let mut writer = Watched::new(Vec::new(alloc));
     let told = program(alloc, &[], &mut reader, &mut writer, bench);
-    match told {
-        (0, _) => Ok(writer.into_inner()),
-        (_, fault) => Err(fault),
+    match told.status {
+        0 => Ok(writer.into_inner()),
+        _ => Err(told.text),
     }
 }
 

@@ -1,4 +1,4 @@
-use Rattle.std.proofs.Common.{◌≡◌, take, drop, ◌∙◌}
+use Rattle.std.proofs.Common.{take, drop, ◌∙◌}
 use Rattle.std.proofs.lemmas.Result.{IfOk-weaker}
 use Rattle.cql_window.proofs.Coming.{more_come}
 use Rattle.cql_store.proofs.moves.behind.Goals as goal

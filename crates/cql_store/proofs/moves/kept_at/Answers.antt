@@ -1,6 +1,6 @@
-use Rattle.std.proofs.Common.{subst, arith, ◌-◌}
+use Rattle.std.proofs.Common.{subst, arith}
 use Rattle.cql_window.specs.Window.{IsWindow}
-use Rattle.cql_store.specs.Places.{shifted, IsKept}
+use Rattle.cql_store.specs.Places.{shifted}
 use Rattle.cql_store.proofs.Later.{some_ready}
 use Rattle.cql_store.proofs.moves.kept_at.Goals as goal
 

@@ -1,6 +1,5 @@
-use Rattle.std.proofs.Common.{◌≡◌, ◌≤◌, ◌+◌, ◌-◌, length, drop, take, ap, sym, ◌∙◌, arith, length-drop}
+use Rattle.std.proofs.Common.{◌≡◌, ◌+◌, ◌-◌, drop, arith, length-drop}
 use Rattle.cql_window.proofs.Ends.{before_le}
-use Rattle.cql_window.specs.Window.{count_before}
 use Rattle.cql_store.specs.Places.{shifted}
 use Rattle.cql_store.proofs.Later.{fit_pin, fit_unseen, pin_shown}
 use Rattle.cql_store.proofs.moves.pin_of.Goals as goal

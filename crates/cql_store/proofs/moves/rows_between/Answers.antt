@@ -2,7 +2,6 @@ use Rattle.std.proofs.Common.{◌≡◌, ℕ, ◌≤◌, ◌<◌, ◌+◌, ◌-�
 use Rattle.std.proofs.lemmas.List.{get_or-drop, get_or-take, length-take}
 use Rattle.cql_value.specs.Element.{Element}
 use Rattle.cql_window.proofs.Ends.{before_le}
-use Rattle.cql_window.specs.Window.{AreAscending, count_before}
 use Rattle.cql_store.proofs.Fit.{asc_take}
 use Rattle.cql_store.proofs.Search.{before_at, past_at}
 use Rattle.cql_store.proofs.moves.rows_between.Goals.{After-at}

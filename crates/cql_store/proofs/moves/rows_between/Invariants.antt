@@ -1,4 +1,4 @@
-use Rattle.std.proofs.Common.{◌≡◌, ◌≤◌, ◌-◌, length, drop, take}
+use Rattle.std.proofs.Common.{◌≤◌, ◌-◌, drop, take}
 use Rattle.cql_window.specs.Window.{count_before}
 use Rattle.cql_store.proofs.moves.rows_between.Given as goal
 

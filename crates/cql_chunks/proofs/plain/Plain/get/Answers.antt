@@ -14,7 +14,7 @@ row_in-requires c =
     let within : s.gone + c.args.place < length rows = omega (arith, c.requires, held, length-drop s.gone rows, c.self.invariant.all, c.self.invariant.within) in
     let is : k ≡ chunk_of (s.gone + c.args.place) (length s.full.items) = search rules in
     let chunk : c.chunk_of.result.now ≡ chunk_at s.full.items s.last.items k = search rules in
-    let before : s.gone + c.args.place < 64 * k + length (chunk_at s.full.items s.last.items k) = rw is (place_before (s.gone + c.args.place) s.full.items s.last.items c.self.invariant.are_full within) in
+    let before : s.gone + c.args.place < 128 * k + length (chunk_at s.full.items s.last.items k) = rw is (place_before (s.gone + c.args.place) s.full.items s.last.items c.self.invariant.are_full within) in
     rw chunk (omega (arith, before, (chunk_below (s.gone + c.args.place) k s.full.items is).1))
 
 pub returns : goal.returns
@@ -27,12 +27,12 @@ returns c =
     let within : s.gone + c.args.place < length rows = omega (arith, c.requires, held, length-drop s.gone rows, c.self.invariant.all, c.self.invariant.within) in
     let is : k ≡ chunk_of (s.gone + c.args.place) (length s.full.items) = search rules in
     let chunk : c.chunk_of.result.now ≡ chunk_at s.full.items s.last.items k = search rules in
-    let before : s.gone + c.args.place < 64 * k + length (chunk_at s.full.items s.last.items k) = rw is (place_before (s.gone + c.args.place) s.full.items s.last.items c.self.invariant.are_full within) in
+    let before : s.gone + c.args.place < 128 * k + length (chunk_at s.full.items s.last.items k) = rw is (place_before (s.gone + c.args.place) s.full.items s.last.items c.self.invariant.are_full within) in
     let below = chunk_below (s.gone + c.args.place) k s.full.items is in
-    let at : 64 * k + (s.gone + c.args.place - 64 * k) ≡ s.gone + c.args.place = omega (arith, below.1) in
+    let at : 128 * k + (s.gone + c.args.place - 128 * k) ≡ s.gone + c.args.place = omega (arith, below.1) in
     c.row_in.ensures
-    ∙ ap (λ l. get_or l (s.gone + c.args.place - 64 * k) d) chunk
-    ∙ sym (rows_get k (s.gone + c.args.place - 64 * k) s.full.items s.last.items d c.self.invariant.are_full below.0 (omega (arith, before, below.1)))
+    ∙ ap (λ l. get_or l (s.gone + c.args.place - 128 * k) d) chunk
+    ∙ sym (rows_get k (s.gone + c.args.place - 128 * k) s.full.items s.last.items d c.self.invariant.are_full below.0 (omega (arith, before, below.1)))
     ∙ ap (λ n. get_or rows n d) at
     ∙ sym (get_or-drop s.gone rows c.args.place d)
     ∙ ap (λ l. get_or l c.args.place d) c.self.view_is

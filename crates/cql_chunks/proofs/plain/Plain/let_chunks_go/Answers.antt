@@ -9,7 +9,7 @@ invariant_of-self c =
     let k = c.min-whole.result in
     let drained : c.drop-drain.new.self.0.items ≡ drop k s.full.items = search rules in
     let bound : k ≤ length s.full.items = search rules in
-    let below : 64 * k ≤ s.gone = search rules in
+    let below : 128 * k ≤ s.gone = search rules in
     rw drained (trim_chunks s.full.items s.last.items s.gone s.end k c.self.invariant bound below)
 
 pub returns : goal.returns
@@ -18,5 +18,5 @@ returns c =
     let k = c.min-whole.result in
     let drained : c.drop-drain.new.self.0.items ≡ drop k s.full.items = search rules in
     let bound : k ≤ length s.full.items = search rules in
-    let below : 64 * k ≤ s.gone = search rules in
+    let below : 128 * k ≤ s.gone = search rules in
     rw (drained, ← c.self.view_is) (trim_rows s.full.items s.last.items s.gone s.end k c.self.invariant bound below)

@@ -14,7 +14,7 @@ copies_in-requires-clause-within c =
     let bound : stop ≤ length rows = omega (arith, c.requires.within, held, length-drop s.gone rows, c.self.invariant.all, c.self.invariant.within) in
     let is : k ≡ chunk_of stop (length s.full.items) = search rules in
     let chunk : c.chunk_of-rest.result.now ≡ chunk_at s.full.items s.last.items k = search rules in
-    let within : stop ≤ 64 * k + length (chunk_at s.full.items s.last.items k) = rw is (place_within stop s.full.items s.last.items c.self.invariant.are_full bound) in
+    let within : stop ≤ 128 * k + length (chunk_at s.full.items s.last.items k) = rw is (place_within stop s.full.items s.last.items c.self.invariant.are_full bound) in
     rw chunk (omega (arith, within))
 
 pub copies_in-requires-2-clause-within : goal.copies_in-requires-2-clause-within
@@ -27,7 +27,7 @@ copies_in-requires-2-clause-within c =
     let bound : stop ≤ length rows = omega (arith, c.requires.within, held, length-drop s.gone rows, c.self.invariant.all, c.self.invariant.within) in
     let is : k ≡ chunk_of stop (length s.full.items) = search rules in
     let chunk : c.chunk_of-rest.result.now ≡ chunk_at s.full.items s.last.items k = search rules in
-    let within : stop ≤ 64 * k + length (chunk_at s.full.items s.last.items k) = rw is (place_within stop s.full.items s.last.items c.self.invariant.are_full bound) in
+    let within : stop ≤ 128 * k + length (chunk_at s.full.items s.last.items k) = rw is (place_within stop s.full.items s.last.items c.self.invariant.are_full bound) in
     rw chunk (omega (arith, within))
 
 pub returns-then-whole-first : goal.returns-then-whole-first
@@ -41,7 +41,7 @@ returns-then-whole-first c =
     let bound : stop ≤ length rows = omega (arith, c.requires.within, held, length-drop s.gone rows, c.self.invariant.all, c.self.invariant.within) in
     let is : k ≡ chunk_of stop (length s.full.items) = search rules in
     let chunk : c.chunk_of-rest.result.now ≡ chunk_at s.full.items s.last.items k = search rules in
-    let copied : c.in_ok-last.last.items ≡ take (stop - 64 * k - (start - 64 * k)) (drop (start - 64 * k) c.chunk_of-rest.result.now) = search rules in
+    let copied : c.in_ok-last.last.items ≡ take (stop - 128 * k - (start - 128 * k)) (drop (start - 128 * k) c.chunk_of-rest.result.now) = search rules in
     rw (c.new-full.ensures.items, copied, chunk, ← c.self.view_is) (one_rows k start stop s.gone c.args.from c.args.to s.full.items s.last.items c.self.invariant.are_full is c.if-whole-first.true bound c.requires.order refl refl)
 
 pub invariant_of-result-2 : goal.invariant_of-result-2
@@ -55,8 +55,8 @@ invariant_of-result-2 c =
     let bound : stop ≤ length rows = omega (arith, c.requires.within, held, length-drop s.gone rows, c.self.invariant.all, c.self.invariant.within) in
     let is : k ≡ chunk_of stop (length s.full.items) = search rules in
     let chunk : c.chunk_of-rest.result.now ≡ chunk_at s.full.items s.last.items k = search rules in
-    let copied : c.in_ok-last-2.last.items ≡ take (stop - 64 * k) c.chunk_of-rest.result.now = search rules in
-    let shared : c.in_ok-full.full.items ≡ take (k - start / 64) (drop (start / 64) s.full.items) = search rules in
+    let copied : c.in_ok-last-2.last.items ≡ take (stop - 128 * k) c.chunk_of-rest.result.now = search rules in
+    let shared : c.in_ok-full.full.items ≡ take (k - start / 128) (drop (start / 128) s.full.items) = search rules in
     let fits : stop < 2 ^ 63 = omega (arith, bound, c.self.invariant.all, c.self.invariant.fits) in
     rw (shared, copied, chunk) (more_chunks k start stop s.end s.full.items s.last.items c.self.invariant.are_full is c.if-whole-first.false bound (omega (arith, c.requires.order)) fits (chunk_short k s.full.items s.last.items c.self.invariant.are_full c.self.invariant.short))
 
@@ -71,8 +71,8 @@ returns c =
     let bound : stop ≤ length rows = omega (arith, c.requires.within, held, length-drop s.gone rows, c.self.invariant.all, c.self.invariant.within) in
     let is : k ≡ chunk_of stop (length s.full.items) = search rules in
     let chunk : c.chunk_of-rest.result.now ≡ chunk_at s.full.items s.last.items k = search rules in
-    let copied : c.in_ok-last-2.last.items ≡ take (stop - 64 * k) c.chunk_of-rest.result.now = search rules in
-    let shared : c.in_ok-full.full.items ≡ take (k - start / 64) (drop (start / 64) s.full.items) = search rules in
+    let copied : c.in_ok-last-2.last.items ≡ take (stop - 128 * k) c.chunk_of-rest.result.now = search rules in
+    let shared : c.in_ok-full.full.items ≡ take (k - start / 128) (drop (start / 128) s.full.items) = search rules in
     rw (shared, copied, chunk, ← c.self.view_is) (more_rows k start stop s.gone c.args.from c.args.to s.full.items s.last.items c.self.invariant.are_full is c.if-whole-first.false bound c.requires.order refl refl)
 
 pub invariant_of-result : goal.invariant_of-result

@@ -25,8 +25,10 @@ pub enum JoinForm {
 pub struct Config {
     /// The port of 127.0.0.1; at 0 the system chooses one.
     pub port: u16,
-    /// How many sessions are served at once, 1 to 64.
+    /// How many threads serve callers, 1 to 64.
     pub workers: u8,
+    /// How many callers are connected at once, 1 to 65,536; further ones wait to be accepted.
+    pub callers: u32,
     /// How many sessions are served in all; at 0 there is no end.
     pub sessions: u16,
     /// By how many seconds of a session its login line has to be whole, up to 3,600; at 0 it need
@@ -34,6 +36,9 @@ pub struct Config {
     pub login: u16,
     /// For how many seconds a session waits for its caller, up to 86,400; at 0 there is no end.
     pub idle: u32,
+    /// For how many seconds an answer is computed before it is given up, up to 86,400; at 0 there is
+    /// no end.
+    pub answer: u32,
     /// How joins and groups are computed.
     pub join: JoinForm,
     /// How many benches go on with the queries that they answered last, up to 1,024; at 0 each
@@ -48,8 +53,10 @@ pub struct Config {
 /// Reads the words, of which the first is the program's name.
 pub fn read_words(alloc: Global, words: &[String]) -> Result<Config, Error>
     ensures workers { IfOk result (λ c. (1 ≤ c.workers) × (c.workers ≤ 64)) }
+    ensures callers { IfOk result (λ c. (1 ≤ c.callers) × (c.callers ≤ 65536)) }
     ensures login { IfOk result (λ c. c.login ≤ 3600) }
     ensures idle { IfOk result (λ c. c.idle ≤ 86400) }
+    ensures answer { IfOk result (λ c. c.answer ≤ 86400) }
     ensures warm { IfOk result (λ c. c.warm ≤ 1024) }
     ensures log { IfOk result (λ c. c.log ≤ 86400) }
 {
@@ -57,9 +64,14 @@ pub fn read_words(alloc: Global, words: &[String]) -> Result<Config, Error>
     Ok(Config {
         port: matches.get_one::<u16>("port").unwrap_or(0),
         workers: matches.get_one::<u8>("workers").unwrap_or(4).clamp(1, 64),
+        callers: matches
+            .get_one::<u32>("callers")
+            .unwrap_or(1024)
+            .clamp(1, 65_536),
         sessions: matches.get_one::<u16>("sessions").unwrap_or(0),
         login: matches.get_one::<u16>("login").unwrap_or(10).min(3600),
         idle: matches.get_one::<u32>("idle").unwrap_or(0).min(86_400),
+        answer: matches.get_one::<u32>("answer").unwrap_or(60).min(86_400),
         join: join_form(matches.get_str("join")),
         warm: matches.get_one::<u16>("warm").unwrap_or(64).min(1024),
         log: matches.get_one::<u32>("log").unwrap_or(0).min(86_400),
@@ -79,9 +91,11 @@ fn command<'a>(alloc: Global) -> Result<Command<'a>, Error> {
     let words = vec![in alloc;
         port(alloc),
         workers(alloc),
+        callers(alloc),
         sessions(alloc),
         login(alloc),
         idle(alloc),
+        answer(alloc),
         join(alloc),
         warm(alloc),
         log(alloc),
@@ -114,8 +128,15 @@ fn port<'a>(alloc: Global) -> Arg<'a> {
 }
 
 fn workers<'a>(alloc: Global) -> Arg<'a> {
-    let help = "How many sessions are served at once, 1 to 64";
+    let help = "How many threads serve callers, 1 to 64";
     valued(alloc, "workers", "N", "4", help).value_parser(clap::value_parser!(u8).range(1..=64))
+}
+
+fn callers<'a>(alloc: Global) -> Arg<'a> {
+    let help = "How many callers are connected at once, 1 to 65536; further ones wait";
+    valued(alloc, "callers", "N", "1024", help).value_parser(clap::value_parser!(u32).range(
+        1..=65_536,
+    ))
 }
 
 fn sessions<'a>(alloc: Global) -> Arg<'a> {
@@ -133,6 +154,13 @@ fn login<'a>(alloc: Global) -> Arg<'a> {
 fn idle<'a>(alloc: Global) -> Arg<'a> {
     let help = "How long a session waits for its caller, or 0 for no end";
     valued(alloc, "idle", "SECONDS", "0", help).value_parser(clap::value_parser!(u32).range(
+        0..=86_400,
+    ))
+}
+
+fn answer<'a>(alloc: Global) -> Arg<'a> {
+    let help = "How long an answer is computed before it is given up, or 0 for no end";
+    valued(alloc, "answer", "SECONDS", "60", help).value_parser(clap::value_parser!(u32).range(
         0..=86_400,
     ))
 }

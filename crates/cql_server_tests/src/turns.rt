@@ -59,7 +59,9 @@ fn answers_are_not_starved(rt: HostRuntime) -> Result<(), Fail> {
     for item in 1..19 {
         short(&mut turns, 1, item)?;
     }
-    let wanted = [1, 2, 3, 4, 5, 6, 7, 8, 9, 10, 11, 12, 13, 14, 15, 16, 100, 17, 18];
+    let wanted = [
+        1, 2, 3, 4, 5, 6, 7, 8, 9, 10, 11, 12, 13, 14, 15, 16, 100, 17, 18,
+    ];
     assert!(rt; gives(&mut turns, &wanted));
     Ok(())
 }

@@ -1,5 +1,5 @@
 use denote.Param.{param}
-use denote.Param.Send.{IsSend, IsSync, sendable}
+use denote.Param.Send.{IsSync, sendable}
 use Rattle.std.proofs.Crossing.{crosses}
 use Rattle.cql_server.specs.contracts.warm.SharedPool as pool_type
 use Rattle.cql_server.proofs.Crosses.{pool_sync}

@@ -179,7 +179,9 @@ where
         rt,
         alloc,
         hub,
-        Limits::of_seconds(config.login, config.idle),
+        Limits::of_seconds(config.login, config.idle)
+            .with_callers(config.callers)
+            .with_answer(config.answer),
         &mut io::writer(rt),
         table,
         benches,

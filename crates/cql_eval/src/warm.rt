@@ -12,7 +12,7 @@ use crate::pin::Pin;
 use crate::seen_walk::SeenWalk;
 use crate::shown::{LastTold, Shown};
 use crate::walks::advance;
-use cql_ops::{BenchOf, Operator};
+use cql_ops::{BenchOf, Cancellation, Operator};
 use cql_value::Items;
 use std::alloc::{AllocError, Global};
 use std::marker::Model;
@@ -97,6 +97,11 @@ impl<O: Operator> Warm<O> {
             pushed: 0,
             used: 0,
         }
+    }
+
+    /// The flag by which an answer of its bench is given up.
+    pub fn cancellation(&self) -> &Cancellation {
+        self.bench.cancellation()
     }
 
     /// Whether it stands for no query.

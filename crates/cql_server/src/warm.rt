@@ -4,10 +4,12 @@ ghost use Rattle.cql_ops.specs.Bench.{IsBench};
 ghost use Rattle.cql_eval.specs.Warm.{IsWarm};
 ghost use Rattle.cql_server.specs.declared.failure.Failure.TheVariants as failure;
 
+use crate::answers::Answers;
 use crate::failure::Failure;
 use crate::held::tell_held;
 use cql_core::{BenchOf, Lender, Operator, Pin, Pool, Pooled, TenantTable, Warm};
 use cql_hall::{Gate, Hall, Journal, Point};
+use cql_ops::Cancellation;
 use crossbeam_channel::{Receiver, RecvTimeoutError};
 use std::alloc::{AllocError, Global};
 use std::sync::{Mutex, Wait};
@@ -19,6 +21,9 @@ const PERIOD: u32 = 15;
 
 const UNUSED: u64 = 40;
 
+// How often answers are looked at that may take only so long: so many times a second.
+const LOOKS: u64 = 4;
+
 /// A pool that threads share.
 #[derive(Drop)]
 pub(crate) struct SharedPool<O: Operator> {
@@ -26,18 +31,21 @@ pub(crate) struct SharedPool<O: Operator> {
     pool: Mutex<Pool<O>>,
     count: usize,
     begun: Instant,
+    answers: Answers,
 }
 
 impl<O: Operator> SharedPool<O> {
-    /// Of these benches, none of which stands for a query.
+    /// Of these benches, none of which stands for a query, for threads whose answers are these.
     pub(crate) fn new<R: Clock>(
         rt: &R,
         alloc: Global,
         benches: Vec<BenchOf<O>>,
+        answers: Answers,
     ) -> Result<SharedPool<O>, AllocError>
         requires { All (IsBench O.seen_in) benches.items }
     {
         let count = benches.len();
+        let benches = with_flags(alloc, benches, &answers)?;
         let pool = Pool::new(alloc, benches)?;
         let Ok(begun) = Instant::now(rt) else {
             return Err(AllocError);
@@ -47,6 +55,7 @@ impl<O: Operator> SharedPool<O> {
             pool: Mutex::new(pool),
             count,
             begun,
+            answers,
         })
     }
 
@@ -84,8 +93,24 @@ impl<O: Operator> SharedPool<O> {
         }
     }
 
-    /// Tells the gate each second, with which rows are held where it wants that, and now and then
-    /// lets go of what nobody used, until the sender is let go.
+    // Waits for a second, and gives up late answers meanwhile. Whether the sender is still there.
+    fn second<R: Wait + Clock>(&self, rt: &R, stopped: &Receiver<()>) -> bool {
+        let (looks, pause) = if self.answers.are_limited() {
+            (LOOKS, 1000 / LOOKS)
+        } else {
+            (1, 1000)
+        };
+        for _ in 0..looks {
+            match stopped.recv_timeout(rt, Duration::from_millis(pause)) {
+                Err(RecvTimeoutError::Timeout) => self.answers.give_up_late(rt),
+                _ => return false,
+            }
+        }
+        true
+    }
+
+    /// Tells the gate each second, with which rows are held where it wants that, gives up answers that
+    /// take too long, and now and then lets go of what nobody used, until the sender is let go.
     pub(crate) fn sweep_on<R: Wait + Clock, J: Journal, G: Gate>(
         &self,
         rt: &R,
@@ -96,10 +121,10 @@ impl<O: Operator> SharedPool<O> {
     ) {
         let mut left = PERIOD;
         for _ in rt.forever() {
-            match stopped.recv_timeout(rt, Duration::from_secs(1)) {
-                Err(RecvTimeoutError::Timeout) => gate.at(Point::Second),
-                _ => return,
+            if !self.second(rt, stopped) {
+                return;
             }
+            gate.at(Point::Second);
             if gate.wants_held() {
                 tell_held(rt, hall, table, gate);
             }
@@ -112,8 +137,8 @@ impl<O: Operator> SharedPool<O> {
     }
 }
 
-/// Starts the thread that lets go of what nobody used and tells the gate each second, until the
-/// sender is let go; or it can't be made.
+/// Starts the thread that gives up late answers, lets go of what nobody used and tells the gate each
+/// second, until the sender is let go; or it can't be made.
 pub(crate) fn start_sweeper<'s, T, R, J, G, O>(
     scope: &Scope<'s, T>,
     rt: &'s R,
@@ -140,21 +165,75 @@ where
     }
 }
 
-/// Borrows benches of a shared pool.
+// Where answers may take only so long, each bench heeds a flag of its own from now on.
+fn with_flags<O: Operator>(
+    alloc: Global,
+    benches: Vec<BenchOf<O>>,
+    answers: &Answers,
+) -> Result<Vec<BenchOf<O>>, AllocError>
+    requires { All (IsBench O.seen_in) benches.items }
+    ensures { IfOk result (λ v. All (IsBench O.seen_in) v.items) }
+{
+    if !answers.are_limited() {
+        return Ok(benches);
+    }
+    let mut all = Vec::with_capacity(alloc, benches.len())?;
+    for bench in benches {
+        let one = with_flag(alloc, bench)?;
+        all.push(one)?;
+    }
+    Ok(all)
+}
+
+// The bench, which heeds a flag of its own.
+fn with_flag<O: Operator>(alloc: Global, bench: BenchOf<O>) -> Result<BenchOf<O>, AllocError>
+    requires { IsBench O.seen_in bench }
+    ensures { IfOk result (IsBench O.seen_in) }
+{
+    let mut bench = bench;
+    bench.heed(Cancellation::new(alloc)?)?;
+    Ok(bench)
+}
+
+/// Borrows benches of a shared pool for a thread, and tells which of them, or whether the thread's
+/// own bench, computes its answer.
 #[derive(Drop)]
 pub(crate) struct Borrower<'a, R, O: Operator> {
     rt: &'a R,
     shared: &'a SharedPool<O>,
+    // the thread's place
+    thread: usize,
+    // the flag of the thread's own bench
+    own: Cancellation,
+}
+
+impl<R: Wait + Clock, O: Operator> Borrower<'_, R, O> {
+    // The bench of this flag begins an answer.
+    fn begin(&self, flag: &Cancellation) {
+        self.shared.answers.begin(self.rt, self.thread, flag);
+    }
 }
 
 impl<'a, R: Wait + Clock, O: Operator> Lender<O> for Borrower<'a, R, O> {
     fn lend(&mut self, alloc: Global, pin: &Pin) -> Option<Warm<O>> {
-        self.shared.pool.lock(self.rt).take(alloc, pin)
+        let lent = self.shared.pool.lock(self.rt).take(alloc, pin);
+        match lent {
+            Some(bench) => {
+                self.begin(bench.cancellation());
+                Some(bench)
+            }
+            None => {
+                self.begin(&self.own);
+                None
+            }
+        }
     }
 
+    // The slot is left before another thread may borrow the bench.
     fn take_back(&mut self, bench: Warm<O>)
         requires { IsWarm O.seen_in bench }
     {
+        self.shared.answers.end(self.rt, self.thread);
         self.shared.put(self.rt, bench);
     }
 }
@@ -175,9 +254,36 @@ where
     requires { All (IsBench O.seen_in) own.items }
     ensures { IfOk result (λ v. All (λ p. IsBench O.seen_in p.cold) v.items) }
 {
-    let mut all = Vec::with_capacity(alloc, own.len())?;
-    for bench in own {
-        all.push(Pooled::new(bench, Borrower { rt, shared }))?;
+    let benches = with_flags(alloc, own, &shared.answers)?;
+    let mut all = Vec::with_capacity(alloc, benches.len())?;
+    for bench in benches {
+        let one = borrowing_of(rt, bench, shared, all.len())?;
+        all.push(one)?;
     }
     Ok(all)
+}
+
+// The one of the thread of this place.
+fn borrowing_of<'a, R, O>(
+    rt: &'a R,
+    bench: BenchOf<O>,
+    shared: &'a SharedPool<O>,
+    thread: usize,
+) -> Result<Borrowing<'a, R, O>, AllocError>
+where
+    R: Wait + Clock,
+    O: Operator,
+    requires { IsBench O.seen_in bench }
+    ensures { IfOk result (λ p. IsBench O.seen_in p.cold) }
+{
+    let own = bench.cancellation().share()?;
+    Ok(Pooled::new(
+        bench,
+        Borrower {
+            rt,
+            shared,
+            thread,
+            own,
+        },
+    ))
 }

@@ -197,7 +197,9 @@ where
         rt,
         alloc,
         hub,
-        Limits::of_seconds(config.login, config.idle).with_callers(callers),
+        Limits::of_seconds(config.login, config.idle)
+            .with_callers(callers)
+            .with_answer(config.answer),
         &mut io::writer(rt),
         table,
         benches,

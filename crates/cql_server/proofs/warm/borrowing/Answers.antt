@@ -1,5 +1,5 @@
 use Rattle.std.proofs.Common.{All, subst, sym}
-use Rattle.std.proofs.lemmas.List.Elements.{All-rest, All-head, All-push}
+use Rattle.std.proofs.lemmas.List.Elements.{All-rest, All-push}
 use Rattle.std.specs.Vec.Iter.{into_iter_items}
 use Rattle.cql_ops.specs.Bench.{IsBench}
 use Rattle.cql_server.proofs.warm.borrowing.Goals as goal
@@ -13,10 +13,5 @@ loop-bench-preserved g c =
     record {
       left = All-rest is b rest (into_iter_items c.loop-bench.bench-iterator) steps c.loop-bench.invariant.left;
       made = subst (All (λ p. is p.cold)) (sym c.in_ok-push.ensures.items)
-          (All-push (λ p. is p.cold) c.loop-bench.all.items c.new.result c.loop-bench.invariant.made c.new.ensures);
+          (All-push (λ p. is p.cold) c.loop-bench.all.items c.in_ok-one.one c.loop-bench.invariant.made c.in_ok-one.ensures);
     }
-
-pub new-requires : goal.new-requires
-new-requires g c =
-    let is = IsBench g.O.Operator.seen_in in
-    All-head is c.in-Some.bench (into_iter_items c.next.new.self) (subst (All is) c.in-Some.ensures.steps.0 c.loop-bench.invariant.left)

@@ -1,0 +1,104 @@
+"""What tests/server checks of answers that take longer than the word --answer lets them. Each check gives
+pairs of a name and of what is wrong, or None. The time limit is a second, and two seconds more are allowed.
+"""
+import contextlib
+import time
+
+from served import (
+    Caller,
+    Ended,
+    Server,
+    audit,
+    beat,
+    block,
+    difference,
+    line_of,
+    put,
+    refused,
+    tenants,
+    told,
+)
+
+LIMIT, MOST = 1, 3
+ROWS = 1_000
+TABLE = tenants("ab", hold=ROWS)
+NO_MEMORY = refused(70, "NoMemory")
+
+# A join of three inputs without equal columns grows with the cube of its rows: of a thousand it takes 20 s
+# and more. Of the rows at instant 1 none meet.
+LONG = "Select Istream(x.v) From s [Range 5] x, s [Range 5] y, s [Range 5] z Where x.v < 0 Or y.v < 0 Or z.v < 0"
+SHORT = "Select Istream(v) From t [Now]"
+FETCH_LONG = line_of(do="fetch", name="long")
+FETCH_SHORT = line_of(do="fetch", name="short")
+MADE = (
+    line_of(columns=[["v", "int"]], do="stream", name="s"),
+    line_of(columns=[["v", "int"]], do="stream", name="t"),
+    line_of(do="query", name="long", text=LONG),
+    line_of(do="query", name="short", text=SHORT),
+    *(put(1, number) for number in range(ROWS)),
+    put(3, 7, stream="t"),
+    beat(20),
+    beat(20, stream="t"),
+)
+SHORT_TOLD = told(21, block(3, 3, 7))
+# The rows of instant 1 are acknowledged, and one row comes that meets itself.
+MADE_FEW = (line_of(do="ack", name="long", to=10), put(21, -1), beat(30))
+FEW_TOLD = told(31, block(21, 21, -1))
+# The lines of a session in `given_up`, without its login.
+CALLS = len(MADE) + 2 + 1 + len(MADE_FEW) + 2
+
+FORMS = (
+    ("its worker's bench", {"warm": 0}),
+    ("the bench that is lent", {"warm": 1}),
+    ("plain operators", {"join": "plain", "warm": 0}),
+)
+
+
+def gives_up(caller):
+    """What is wrong with a fetch that is to be given up."""
+    start = time.monotonic()
+    fault = difference(caller.ask(FETCH_LONG), NO_MEMORY)
+    taken = time.monotonic() - start
+    return fault or (None if LIMIT <= taken <= MOST else f"it takes {taken:.2f} s")
+
+
+def given_up(program):
+    """An answer that takes too long is given up, again and again, and the session and its bench go on."""
+    for name, words in FORMS:
+        with Server(program, TABLE, workers=1, sessions=1, audit=True, answer=LIMIT, **words) as server:
+            with Caller(server, "a") as caller:
+                caller.serve(MADE)
+                yield f"a long answer by {name}", gives_up(caller)
+                yield f"it once more by {name}", gives_up(caller)
+                yield f"a short answer behind it by {name}", difference(caller.ask(FETCH_SHORT), SHORT_TOLD)
+                caller.serve(MADE_FEW)
+                yield f"the same query of few rows by {name}", difference(caller.ask(FETCH_LONG), FEW_TOLD)
+                yield f"the short answer once more by {name}", difference(caller.ask(FETCH_SHORT), SHORT_TOLD)
+            yield f"the audit of {name}", difference(server.end(), Ended(0, b"", audit(CALLS)))
+
+
+def others_go_on(program):
+    """Beside answers that are given up other callers' answers aren't."""
+    with Server(program, TABLE, workers=3, warm=2, answer=LIMIT) as server, contextlib.ExitStack() as open_ones:
+        late, other = (open_ones.enter_context(Caller(server, name)) for name in "ab")
+        late.serve(MADE)
+        other.serve(line for line in MADE if b'"put"' not in line)
+        other.serve([put(21, 7, stream="t"), beat(22, stream="t")])
+        late.send(FETCH_LONG, FETCH_LONG)
+        replies, end = set(), time.monotonic() + 2 * LIMIT
+        while time.monotonic() < end:
+            replies.add(other.ask(FETCH_SHORT))
+        yield "short answers beside long ones", difference(replies, {told(23, block(21, 21, 7))})
+        found = [late.replies.readline() for _ in range(2)]
+        yield "long answers beside short ones", difference(found, 2 * [NO_MEMORY])
+
+
+def to_its_end(program):
+    """At 0 no answer is given up."""
+    with Server(program, TABLE, workers=1, answer=0) as server, Caller(server, "a") as caller:
+        caller.serve(MADE)
+        caller.send(FETCH_LONG)
+        yield "a long answer without a limit", None if caller.is_silent(MOST) else "it is told"
+
+
+CHECKS = given_up, others_go_on, to_its_end

@@ -9,6 +9,8 @@ mod audits;
 #[cfg(test)]
 mod callers;
 #[cfg(test)]
+mod given_up;
+#[cfg(test)]
 mod halls;
 pub mod holding;
 pub mod made;

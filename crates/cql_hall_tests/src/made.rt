@@ -11,6 +11,10 @@ const TENANTS: &[u8] = b"{\"tenants\":[\
 const OTHERS: &[u8] = b"{\"tenants\":[\
 {\"hold\":100,\"key\":\"ka\",\"name\":\"a\",\"queries\":8,\"result\":10,\"streams\":8}]}";
 
+// Its windows may have many rows.
+const MANY: &[u8] = b"{\"tenants\":[\
+{\"hold\":4000,\"key\":\"ka\",\"name\":\"a\",\"queries\":8,\"result\":1000,\"streams\":8}]}";
+
 /// Why a value of a test wasn't made.
 #[derive(Debug, Drop)]
 pub enum Unmade {
@@ -66,4 +70,9 @@ pub fn table_at_last(alloc: Global) -> Result<TenantTable, Unmade> {
 /// The tenant a alone, whose joined bags may have fewer rows.
 pub fn other_table(alloc: Global) -> Result<TenantTable, Unmade> {
     Ok(read_tenants(alloc, OTHERS)?)
+}
+
+/// The tenant a alone, whose windows may have many rows.
+pub fn many_table(alloc: Global) -> Result<TenantTable, Unmade> {
+    Ok(read_tenants(alloc, MANY)?)
 }

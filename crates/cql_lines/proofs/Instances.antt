@@ -15,9 +15,19 @@ one : (b : ℕ) → is_feed b ≡ false → HasNoFeed (b ∷ [])
 one b is = All-cons (λ b. is_feed b ≡ false) b [] is (All-nil (λ b. is_feed b ≡ false))
 
 taking : Taking pieces [] (whole (97 ∷ 98 ∷ []) ∷ []) (99 ∷ [])
-taking = (97 ∷ [], one 97 refl, (λ front is. kept_grown front [] (97 ∷ []) is),
-  (97 ∷ 98 ∷ [], [], one 98 refl, (λ front is. kept_grown front (97 ∷ []) (98 ∷ []) is), refl,
-  (99 ∷ [], one 99 refl, (λ front is. kept_grown front [] (99 ∷ []) is), (refl, refl))))
+taking = (
+  97 ∷ [],
+  one 97 refl,
+  (λ front is. kept_grown front [] (97 ∷ []) is),
+  (
+    97 ∷ 98 ∷ [],
+    [],
+    one 98 refl,
+    (λ front is. kept_grown front (97 ∷ []) (98 ∷ []) is),
+    refl,
+    (99 ∷ [], one 99 refl, (λ front is. kept_grown front [] (99 ∷ []) is), (refl, refl)),
+  ),
+)
 
 pieces_law_at : PiecesLaw → lines_of (bytes_of pieces) ≡ whole (97 ∷ 98 ∷ []) ∷ cons_option (line_found (99 ∷ [])) []
 pieces_law_at law = law pieces (whole (97 ∷ 98 ∷ []) ∷ []) (99 ∷ []) taking

@@ -106,7 +106,13 @@ impl House {
         for key in keys {
             let called = self.call_one(rt, *key);
             if let Err(turn) = called {
-                self.end(rt, gate, turn, Some(ScriptError::NoMemory), EndReason::Fault);
+                self.end(
+                    rt,
+                    gate,
+                    turn,
+                    Some(ScriptError::NoMemory),
+                    EndReason::Fault,
+                );
             }
         }
         match keys.len() {

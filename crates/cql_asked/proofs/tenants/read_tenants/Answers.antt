@@ -6,4 +6,4 @@ use Rattle.cql_asked.proofs.tenants.read_tenants.Goals as goal
 pub unwrap-requires : goal.unwrap-requires
 unwrap-requires c =
     subst (λ o. IsSome o) (sym c.rule_of_tree.ensures)
-        (refused_breaks (view c.in_ok-tree.tree) (rw c.in-Err-Refused.field-0-is at c.in-Err-Refused.ensures))
+    (refused_breaks (view c.in_ok-tree.tree) (rw c.in-Err-Refused.field-0-is at c.in-Err-Refused.ensures))

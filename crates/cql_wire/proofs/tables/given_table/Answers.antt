@@ -12,4 +12,4 @@ returns-in-Json-clause-told g c =
     let broken = subst (λ rule. Breaks (tree_of c.as_slice.result.now) rule) c.in-Json.is refused.1 in
     let no_tree = json_has_no_tree (tree_of c.as_slice.result.now) c.in-Json.line c.in-Json.column broken in
     behind _ _ _ c.in_ok-line.line.items c.whole_table.result c.in_ok-line.ensures.line
-        (subst (λ line. tree_of line ≡ None) c.as_slice.ensures.value no_tree) c.whole_table.ensures.told
+    (subst (λ line. tree_of line ≡ None) c.as_slice.ensures.value no_tree) c.whole_table.ensures.told

@@ -1,11 +1,16 @@
 // The texts and statuses by which a server ends badly.
 use cql_server::Failure;
+use cql_wire::BrokenRule;
 use std::alloc::Global;
 use std::test::Fail;
 
 const ENDINGS: &[(Failure, u8, &str)] = &[
     (Failure::NoSessions, 2, "audit needs sessions"),
-    (Failure::Tenants, 2, "the tenants line is refused"),
+    (
+        Failure::Tenants(BrokenRule::OneKey),
+        2,
+        "the tenants line is refused: it is no object with the one key tenants",
+    ),
     (Failure::Reading, 3, "reading failed"),
     (Failure::Writing, 4, "writing failed"),
     (Failure::NoMemory, 5, "no memory"),

@@ -255,8 +255,8 @@ def callers_who_do_not_read(program):
     words = {"workers": 2, "login": TICK, "idle": TICK}
     with Server(program, WIDE, GIVES_BACK, **words) as server:
         yield "rows for those who don't read", filled(server)
-        files, before = files_at_rest(server), None
-        for _ in range(3):
+        files, sizes = files_at_rest(server), []
+        for _ in range(4):
             with contextlib.ExitStack() as open_ones:
                 callers = [
                     open_ones.enter_context(Caller(server, "a", window=4096)) for _ in range(2)
@@ -266,8 +266,9 @@ def callers_who_do_not_read(program):
                 yield "a caller behind them", served_in(server, 2 * TICK + 1, "b")
                 settle(server, files, 60)
                 yield "files of those who don't read", difference(files_of(server), files)
-            before = before or server.memory()
-        yield "memory behind them", growth(before, server.memory())
+            sizes.append(server.memory())
+        # the C library keeps the room of one long reply for good, from the first or the second time on
+        yield "memory behind them", growth(sizes[1], sizes[-1])
 
 
 def files_at_rest(server):

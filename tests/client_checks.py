@@ -702,15 +702,18 @@ def typed(port, history, *keys):
         preexec_fn=lambda: fcntl.ioctl(0, termios.TIOCSCTTY, 0),
     )
     os.close(far)
-    seen, end = b"", time.monotonic() + SECONDS
+    seen, end, begin = b"", time.monotonic() + SECONDS, 0
     waiting = [*keys]
     try:
-        while select.select([near], [], [], max(0, end - time.monotonic()))[0]:
+        while time.monotonic() < end:
+            more = select.select([near], [], [], 1)[0]
             try:
-                seen += os.read(near, 1 << 16)
+                seen += os.read(near, 1 << 16) if more else b""
             except OSError:
                 break  # the other end is closed
-            if waiting and seen.endswith(b"a> "):
+            # on a busy machine something may stand behind the prompt
+            if waiting and (seen.endswith(b"a> ") or not more and b"a> " in seen[begin:]):
+                begin = len(seen)
                 os.write(near, waiting.pop(0))
         return seen, child.wait(SECONDS)
     finally:

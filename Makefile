@@ -7,13 +7,16 @@ RUN_TIME := one to three minutes
 BUILD_TIME := a quarter of an hour or more
 TEST_TIME := half an hour to 70 minutes on four cores, 5,200 to 15,400 s of processor time
 
-.PHONY: help run build test bench
+.PHONY: help run build test look drive bench clauses lemmas
 
 # tells what the targets do
 help:
 	@echo 'make run     the replies to $(FIRST), from a run that is checked and not proved ($(RUN_TIME))'
 	@echo 'make build   proves and builds $(RUNNER) and $(SERVER) ($(BUILD_TIME))'
 	@echo 'make test    the gate, and then the built programs as users run them ($(TEST_TIME))'
+	@echo 'make look    the part of the gate that needs nothing built: pages, laws and worked replies (ten seconds)'
+	@echo 'make drive   the part of the gate that drives the built programs'
+	@echo 'make clauses all public clauses, one a line; make lemmas: those that stand twice or that nothing cites (a second each)'
 	@echo 'make bench   builds the programs, and times puts, query texts, fetches, rounds of them, shared streams, a store, the server, ten thousand callers and texts that ask for much, and counts instructions (an hour and a quarter)'
 
 # runs the first script with no proof
@@ -32,6 +35,27 @@ build:
 test:
 	@echo 'The gate. It takes $(TEST_TIME); a line tells how far it is after each crate.'
 	@.ci/run
+
+# what the pages name, the figures of docs/READING.md, laws and their instances, and worked replies by the definitions
+look:
+	tests/names
+	tests/reading
+	tests/laws
+	tests/by_definition
+
+# the built programs as users run them
+drive:
+	tests/programs
+	tests/memory
+	tests/server
+	tests/joins
+	bench/joins --quick $(SERVER)
+	tests/warm
+	tests/page
+
+# what a person looks at, and no check: all public clauses, and lemmas that stand twice or that nothing cites
+clauses lemmas:
+	@tools/$@
 
 # times puts, texts of two lengths, fetches over many rows, and many readers of one stream, through
 # the built cqlrun, and counts the instructions of fetches; appends to one store, through the built stores; and sessions of the

@@ -1,0 +1,286 @@
+// The callers who are connected: who waits, whose turn it is, and whose time has passed.
+
+use crate::connection::Limits;
+use crate::turns::{Task, Turns};
+use cql_sessions::{Ending, Guest, Needs};
+use cql_wire::ScriptError;
+use slab::Slab;
+use std::alloc::{AllocError, Global};
+use std::time::{Duration, Instant};
+
+// How many bytes may be held for one tenant's callers who don't take them, beside one reply.
+const MOST_HELD: usize = 64 << 20;
+
+// How many callers are looked at in a row.
+const AT_ONCE: usize = 4096;
+
+/// A guest whose turn it is, under its key.
+#[derive(Drop)]
+pub struct Turn {
+    pub key: usize,
+    pub guest: Box<Guest>,
+}
+
+// A caller who is connected: the guest unless it is at a worker or waits for one, since when it is
+// waited for, what is held for it, and whether something came while it wasn't here.
+struct Place {
+    guest: Option<Box<Guest>>,
+    since: Instant,
+    held: usize,
+    is_called: bool,
+}
+
+impl Drop for Place {
+    fn drop(self) {
+        let Place {
+            guest: _,
+            since: _,
+            held: _,
+            is_called: _,
+        } = self;
+    }
+}
+
+/// The callers who are connected.
+pub struct Floor {
+    limits: Limits,
+    places: Slab<Place>,
+    turns: Turns<Turn>,
+    // how many bytes are held for each owner
+    held: Vec<usize>,
+    // where the look round goes on
+    looked: usize,
+    ends: Vec<Ending>,
+    is_whole: bool,
+    /// Whether workers are to end.
+    pub is_closed: bool,
+}
+
+impl Drop for Floor {
+    fn drop(self) {
+        let Floor {
+            limits: _,
+            places: _,
+            turns: _,
+            held: _,
+            looked: _,
+            ends: _,
+            is_whole: _,
+            is_closed: _,
+        } = self;
+    }
+}
+
+impl Floor {
+    /// Nobody is connected. Owners are numbers below the given one. There is room for so many ends.
+    pub fn new(
+        alloc: Global,
+        limits: Limits,
+        owners: usize,
+        workers: usize,
+        room: usize,
+    ) -> Result<Floor, AllocError> {
+        let turns = Turns::new(alloc, owners, workers)?;
+        let held = vec![in alloc; 0; owners]?;
+        let ends = Vec::with_capacity(alloc, room)?;
+        Ok(Floor {
+            limits,
+            places: Slab::new(alloc),
+            turns,
+            held,
+            looked: 0,
+            ends,
+            is_whole: true,
+            is_closed: false,
+        })
+    }
+
+    /// Whether nobody is connected.
+    pub(crate) fn is_empty(&self) -> bool {
+        self.places.is_empty()
+    }
+
+    /// Whether no further caller has room.
+    pub(crate) fn is_full(&self) -> bool {
+        self.places.len() >= self.limits.callers as usize
+    }
+
+    /// How much waits that a worker could do now.
+    pub(crate) fn waiting(&self) -> usize {
+        self.turns.waiting()
+    }
+
+    /// The ends of all sessions; or there was no room for one.
+    pub(crate) fn into_ends(self) -> Result<Vec<Ending>, AllocError> {
+        let Floor {
+            limits: _,
+            places: _,
+            turns: _,
+            held: _,
+            looked: _,
+            ends,
+            is_whole,
+            is_closed: _,
+        } = self;
+        if is_whole { Ok(ends) } else { Err(AllocError) }
+    }
+
+    /// A guest has come, and waits for its caller. Its key; or there was no memory.
+    pub(crate) fn enter(&mut self, guest: Box<Guest>, since: Instant) -> Result<usize, AllocError> {
+        let place = Place {
+            guest: Some(guest),
+            since,
+            held: 0,
+            is_called: false,
+        };
+        match self.places.insert(place) {
+            Ok(key) => Ok(key),
+            Err(_) => Err(AllocError),
+        }
+    }
+
+    /// The session of a key has ended.
+    pub(crate) fn forget(&mut self, key: usize) {
+        let _ = self.places.try_remove(key);
+    }
+
+    /// Keeps how a session ended.
+    pub(crate) fn note(&mut self, end: Option<Ending>) {
+        if let Some(end) = end
+            && self.ends.push(end).is_err()
+        {
+            self.is_whole = false;
+        }
+    }
+
+    // Takes a guest that waits for its caller.
+    fn leave_place(&mut self, key: usize) -> Option<Box<Guest>> {
+        let place = self.places.get_mut(key)?;
+        let Some(guest) = place.guest.take() else {
+            place.is_called = true;
+            return None;
+        };
+        let held = std::mem::replace(&mut place.held, 0);
+        if let Some(all) = self.held.get_mut(guest.owner()) {
+            *all = all.saturating_sub(held);
+        }
+        Some(guest)
+    }
+
+    /// Something has come for the guest of a key: it waits for a worker. Without memory for that
+    /// it comes back.
+    pub(crate) fn call(&mut self, key: usize) -> Result<(), Turn> {
+        match self.leave_place(key) {
+            Some(guest) => self.push(Turn { key, guest }),
+            None => Ok(()),
+        }
+    }
+
+    /// A guest waits for a worker. Without memory for that it comes back.
+    pub(crate) fn push(&mut self, turn: Turn) -> Result<(), Turn> {
+        self.turns.push_short(turn.guest.owner(), turn)
+    }
+
+    /// A guest waits for a worker who may compute an answer. Without memory it comes back.
+    pub(crate) fn push_answer(&mut self, turn: Turn) -> Result<(), Turn> {
+        self.turns.push_answer(turn.guest.owner(), turn)
+    }
+
+    /// The next guest whose turn it is, at a thread that computes answers or at one that doesn't.
+    pub(crate) fn take(&mut self, computes: bool) -> Option<Task<Turn>> {
+        self.turns.take(computes)
+    }
+
+    /// Begins an answer for the owner, if it needn't wait.
+    pub(crate) fn begin_answer(&mut self, owner: usize) -> bool {
+        self.turns.begin_answer(owner)
+    }
+
+    /// An answer for the owner has ended.
+    pub(crate) fn end_answer(&mut self, owner: usize) {
+        self.turns.end_answer(owner);
+    }
+
+    /// A guest who waits for its caller from now on; who waits for a worker where something has
+    /// come meanwhile. It comes back without memory, or where too much is held already for its
+    /// owner.
+    pub(crate) fn keep(
+        &mut self,
+        turn: Turn,
+        needs: Needs,
+        now: Option<Instant>,
+    ) -> Result<(), Turn> {
+        let Some(place) = self.places.get_mut(turn.key) else {
+            return Err(turn);
+        };
+        if place.is_called {
+            place.is_called = false;
+            return self.push(turn);
+        }
+        if let Some(all) = self.held.get_mut(turn.guest.owner()) {
+            let held = turn.guest.held();
+            if needs == Needs::Room && *all > MOST_HELD {
+                return Err(turn);
+            }
+            *all = all.saturating_add(held);
+            place.held = held;
+        }
+        if turn.guest.is_inside()
+            && let Some(now) = now
+        {
+            place.since = now;
+        }
+        place.guest = Some(turn.guest);
+        Ok(())
+    }
+
+    /// Guests whose time has passed by now, of some callers in a row. It goes on with those the next
+    /// time.
+    pub(crate) fn take_late(&mut self, now: Instant, late: &mut Vec<Turn>) {
+        if self.limits.login.is_none() && self.limits.idle.is_none() {
+            return;
+        }
+        let first = self.looked;
+        let end = self.places.capacity();
+        let last = end.min(first.saturating_add(AT_ONCE));
+        self.looked = if last < end { last } else { 0 };
+        for key in first..last {
+            if self.is_late(now, key)
+                && late.reserve(1).is_ok()
+                && let Some(guest) = self.leave_place(key)
+            {
+                late.push_reserved(Turn { key, guest });
+            }
+        }
+    }
+
+    // Whether a guest that is waited for has let its time pass.
+    fn is_late(&self, now: Instant, key: usize) -> bool {
+        let Some(place) = self.places.get(key) else {
+            return false;
+        };
+        let Some(guest) = &place.guest else {
+            return false;
+        };
+        let within = if guest.is_inside() {
+            self.limits.idle
+        } else {
+            earlier(self.limits.login, self.limits.idle)
+        };
+        match within {
+            Some(within) => now.saturating_duration_since(place.since) >= within,
+            None => false,
+        }
+    }
+}
+
+fn earlier(a: Option<Duration>, b: Option<Duration>) -> Option<Duration> {
+    match (a, b) {
+        (Some(a), Some(b)) => Some(a.min(b)),
+        (Some(a), None) => Some(a),
+        (None, b) => b,
+    }
+}
+
+/// Why a guest whose time has passed is sent away: as at a read that fails.
+pub(crate) const LATE: ScriptError = ScriptError::Read;

@@ -1,0 +1,255 @@
+// What the accepting thread and the workers share.
+
+use crate::floor::{Floor, LATE, Turn};
+use crate::turns::Task;
+use cql_hall::{EndReason, Gate, Journal, Point};
+use cql_sessions::{Ending, Guest, Needs};
+use cql_wire::ScriptError;
+use mio::unix::SourceFd;
+use mio::{Interest, Registry, Token, Waker};
+use std::alloc::{AllocError, Global};
+use std::io;
+use std::net::TcpStream;
+use std::os::fd::AsRawFd;
+use std::sync::atomic::{AtomicUsize, Ordering};
+use std::sync::{Condvar, Mutex, Wait};
+use std::time::{Clock, Instant};
+
+/// The callers who are connected, and what tells of those who send.
+#[derive(Drop)]
+pub struct House {
+    alloc: Global,
+    floor: Mutex<Floor>,
+    // tells workers that something waits for them
+    called: Condvar,
+    // how much waits for workers
+    waiting: AtomicUsize,
+    registry: Registry,
+    // wakes the accepting thread
+    waker: Waker,
+}
+
+impl House {
+    /// Nobody is connected.
+    pub fn new(alloc: Global, floor: Floor, registry: Registry, waker: Waker) -> House {
+        House {
+            alloc,
+            floor: Mutex::new(floor),
+            called: Condvar::new(),
+            waiting: AtomicUsize::new(0),
+            registry,
+            waker,
+        }
+    }
+
+    /// The ends of all sessions; or there was no room for one.
+    pub fn into_ends(self) -> Result<Vec<Ending>, AllocError> {
+        let House {
+            alloc: _,
+            floor,
+            called: _,
+            waiting: _,
+            registry: _,
+            waker: _,
+        } = self;
+        floor.into_inner().into_ends()
+    }
+
+    /// Whether nobody is connected.
+    pub(crate) fn is_empty<R: Wait>(&self, rt: &R) -> bool {
+        self.floor.lock(rt).is_empty()
+    }
+
+    /// Whether no further caller has room.
+    pub(crate) fn is_full<R: Wait>(&self, rt: &R) -> bool {
+        self.floor.lock(rt).is_full()
+    }
+
+    /// Whether something waits for a worker.
+    pub fn is_waited_for(&self) -> bool {
+        self.waiting.load(Ordering::SeqCst) > 0
+    }
+
+    /// Ends the workers, each once it has ended its turn.
+    pub fn close<R: Wait>(&self, rt: &R) {
+        self.floor.lock(rt).is_closed = true;
+        self.called.notify_all();
+    }
+
+    /// Lets a caller in, and waits for its first bytes.
+    pub(crate) fn let_in<J: Journal, R: Wait + Clock, G: Gate>(
+        &self,
+        rt: &R,
+        gate: &G,
+        stream: TcpStream,
+    ) -> io::Result<()> {
+        let mut guest = Box::new(self.alloc, Guest::new::<J>(self.alloc, stream)?)?;
+        let since = Instant::now(rt)?;
+        let fd = guest.stream.as_raw_fd();
+        guest.is_listed = true;
+        let key = self.floor.lock(rt).enter(guest, since)?;
+        let told = self
+            .registry
+            .register(&mut SourceFd(&fd), Token(key), Interest::READABLE);
+        if told.is_ok() {
+            gate.at(Point::Opened);
+        } else {
+            self.floor.lock(rt).forget(key);
+        }
+        told
+    }
+
+    /// Has the guests of these keys wait for workers. A session for which there is no memory ends.
+    pub(crate) fn call<R: Wait, G: Gate>(&self, rt: &R, gate: &G, keys: &[usize]) {
+        for key in keys {
+            let called = self.call_one(rt, *key);
+            if let Err(turn) = called {
+                self.end(
+                    rt,
+                    gate,
+                    turn,
+                    Some(ScriptError::NoMemory),
+                    EndReason::Fault,
+                );
+            }
+        }
+        match keys.len() {
+            0 => {}
+            1 => self.called.notify_one(),
+            _ => self.called.notify_all(),
+        }
+    }
+
+    fn call_one<R: Wait>(&self, rt: &R, key: usize) -> Result<(), Turn> {
+        let mut floor = self.floor.lock(rt);
+        let called = floor.call(key);
+        self.waiting.store(floor.waiting(), Ordering::SeqCst);
+        called
+    }
+
+    /// The next guest whose turn it is, once there is one, at a thread that computes answers or at one
+    /// that doesn't; or none where the workers are to end.
+    pub fn next<R: Wait>(&self, rt: &R, computes: bool) -> Option<Task<Turn>> {
+        let mut floor = self.floor.lock(rt);
+        for _ in rt.forever() {
+            if floor.is_closed {
+                return None;
+            }
+            let task = floor.take(computes);
+            self.waiting.store(floor.waiting(), Ordering::SeqCst);
+            if task.is_some() {
+                return task;
+            }
+            floor = self.called.wait(rt, floor);
+        }
+        None
+    }
+
+    /// Begins an answer for the owner, if it needn't wait.
+    pub fn begin_answer<R: Wait>(&self, rt: &R, owner: usize) -> bool {
+        self.floor.lock(rt).begin_answer(owner)
+    }
+
+    /// An answer for the owner has ended.
+    pub fn end_answer<R: Wait>(&self, rt: &R, owner: usize) {
+        let mut floor = self.floor.lock(rt);
+        floor.end_answer(owner);
+        self.waiting.store(floor.waiting(), Ordering::SeqCst);
+    }
+
+    /// From now on the hub isn't told what comes for the guest.
+    pub fn unlist(&self, guest: &mut Guest) {
+        if guest.is_listed {
+            let fd = guest.stream.as_raw_fd();
+            guest.is_listed = self.registry.deregister(&mut SourceFd(&fd)).is_err();
+        }
+    }
+
+    // From now on the hub is told once what the guest needs.
+    fn list(&self, turn: &mut Turn, needs: Needs) -> io::Result<()> {
+        let interest = if needs == Needs::Room {
+            Interest::WRITABLE
+        } else {
+            Interest::READABLE
+        };
+        let fd = turn.guest.stream.as_raw_fd();
+        let (mut source, token) = (SourceFd(&fd), Token(turn.key));
+        if turn.guest.is_listed {
+            return self.registry.reregister(&mut source, token, interest);
+        }
+        self.registry.register(&mut source, token, interest)?;
+        turn.guest.is_listed = true;
+        Ok(())
+    }
+
+    /// Takes back a guest who has had a turn, and ends its session where it needs nothing more.
+    pub fn take_back<R: Wait + Clock, G: Gate>(&self, rt: &R, gate: &G, turn: Turn, needs: Needs) {
+        let refused = match needs {
+            Needs::End(fault) => {
+                let reason = turn.guest.reason(fault);
+                return self.end(rt, gate, turn, fault, reason);
+            }
+            Needs::Worker => self.floor.lock(rt).push(turn),
+            Needs::Answer => self.push_answer(rt, turn),
+            Needs::Bytes | Needs::Room => self.keep(rt, turn, needs),
+        };
+        if let Err(turn) = refused {
+            self.end(rt, gate, turn, Some(ScriptError::Write), EndReason::Fault);
+        }
+    }
+
+    // Has a guest wait for a worker who may compute an answer.
+    fn push_answer<R: Wait>(&self, rt: &R, turn: Turn) -> Result<(), Turn> {
+        let pushed = self.floor.lock(rt).push_answer(turn);
+        self.called.notify_one();
+        pushed
+    }
+
+    // Keeps a guest until what it needs has come.
+    fn keep<R: Wait + Clock>(&self, rt: &R, turn: Turn, needs: Needs) -> Result<(), Turn> {
+        let mut turn = turn;
+        turn.guest.rest();
+        if self.list(&mut turn, needs).is_err() {
+            return Err(turn);
+        }
+        let now = Instant::now(rt).ok();
+        self.floor.lock(rt).keep(turn, needs, now)
+    }
+
+    /// Ends a session, for this reason. The accepting thread is told, since there is room for one
+    /// more.
+    pub(crate) fn end<R: Wait, G: Gate>(
+        &self,
+        rt: &R,
+        gate: &G,
+        turn: Turn,
+        fault: Option<ScriptError>,
+        reason: EndReason,
+    ) {
+        let Turn { key, guest } = turn;
+        let tenant = guest.tenant();
+        let end = Box::into_inner(guest).leave(self.alloc, fault);
+        self.leave(rt, key, end);
+        gate.at(Point::Closed(tenant, reason));
+        let _ = self.waker.wake();
+    }
+
+    fn leave<R: Wait>(&self, rt: &R, key: usize, end: Option<Ending>) {
+        let mut floor = self.floor.lock(rt);
+        floor.forget(key);
+        floor.note(end);
+    }
+
+    /// Ends the sessions of some of those whose time has passed.
+    pub(crate) fn look_round<R: Wait + Clock, G: Gate>(&self, rt: &R, gate: &G) {
+        let Ok(now) = Instant::now(rt) else {
+            return;
+        };
+        let mut late = Vec::new(self.alloc);
+        self.floor.lock(rt).take_late(now, &mut late);
+        for turn in late {
+            let reason = turn.guest.reason_of_late();
+            self.end(rt, gate, turn, Some(LATE), reason);
+        }
+    }
+}

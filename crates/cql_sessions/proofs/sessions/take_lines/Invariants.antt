@@ -1,0 +1,12 @@
+use Rattle.std.proofs.Common.{◌≡◌, false, length}
+use Rattle.cql_sessions.proofs.sessions.take_lines.Given as goal
+
+abbrev pub invariant-loop-visit : goal.invariant-loop-visit
+invariant-loop-visit g l = record {
+  bench : g.E.Evaluator.is_ready l.bench;
+  kept : l.visit.is_kept ≡ l.initial.visit.is_kept;
+  going : l.visit.is_held ≡ false;
+}
+
+abbrev pub decreases-loop-visit : goal.decreases-loop-visit
+decreases-loop-visit g l = length l.rest

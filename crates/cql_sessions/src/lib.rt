@@ -1,0 +1,18 @@
+//! Sessions of callers: one over any reader and writer, and one between two pieces of its input, at a
+//! connection that never waits for long.
+#![tactic(auto)]
+
+mod asked;
+mod caller;
+mod desk;
+mod ending;
+mod guest;
+mod login;
+mod sessions;
+mod visit;
+
+pub use caller::Service;
+pub use desk::Desk;
+pub use ending::Ending;
+pub use guest::{Guest, May, Needs};
+pub use sessions::{SessionEnd, session};

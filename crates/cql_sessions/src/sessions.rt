@@ -1,0 +1,164 @@
+// One session.
+ghost use Rattle.std.specs.Prelude.{◌≡◌, [], true, false, None, IfSome, OnOk, All};
+ghost use Rattle.cql_sessions.specs.Tallies.{placed};
+
+use crate::caller::Service;
+use crate::desk::Desk;
+use crate::visit::Visit;
+use cql_core::{Evaluator, TenantTable};
+use cql_hall::{Gate, Hall, Journal, Receipt, Seat};
+use cql_wire::{Gathered, LineFault, Scratch, ScriptError, Watched, write_fault};
+use std::alloc::Global;
+use std::io::{Read, Write};
+use std::sync::Wait;
+
+/// What is left of a session: the seat of its caller, if that has logged in; where calls are kept
+/// a receipt of each call, in order; and the fault that ended it, if one did.
+#[derive(Drop)]
+pub struct SessionEnd {
+    pub seat: Option<Seat>,
+    pub receipts: Vec<Receipt>,
+    pub fault: Option<ScriptError>,
+}
+
+// The most reads of one session.
+const MAX_READS: u64 = 1 << 40;
+
+/// Serves one caller to the end of its input. Lines that are blank are passed over.
+///
+/// The first line is the login: it is told `{"ok":true}`, or 13, and then the session ends. Each
+/// later line is answered with one line: that of its fault (10, 11 or 12), or of the reply to its
+/// command, which is a call of the hall by the login's tenant and may not name one (12). A line
+/// that finds no memory is answered 70; where that was so before its call, no call is made.
+///
+/// Replies are gathered, up to 65,536 bytes. All that are gathered are written before a fetch,
+/// before a read, which may wait, and at the end. A session ends with the first fault: of the reader, after which
+/// nothing of a line that isn't whole runs; of the writer; or want of memory before the login is
+/// answered, of which the line of 70 is told.
+pub fn session<H, R, W, J, E, G>(
+    rt: &H,
+    alloc: Global,
+    reader: R,
+    writer: W,
+    hall: &Hall<J>,
+    table: &TenantTable,
+    bench: &mut E,
+    gate: &G,
+) -> SessionEnd
+where
+    H: Wait,
+    R: Read + Drop,
+    W: Write + Drop,
+    J: Journal,
+    E: Evaluator,
+    G: Gate,
+    requires bench { E.is_ready bench.old }
+    ensures bench { E.is_ready bench.new }
+    ensures counted { J.keeps ≡ true → IfSome result.seat (λ s. placed result.receipts.items ≡ s.count) }
+    ensures whose { IfSome result.seat (λ s. All (λ r. r.tenant ≡ s.tenant) result.receipts.items) }
+    ensures bare { J.keeps ≡ false → result.receipts.items ≡ [] }
+    ensures nobody { result.seat ≡ None → result.receipts.items ≡ [] }
+{
+    let mut reader = Watched::new(reader);
+    let mut writer = Watched::new(writer);
+    let service = Service {
+        rt,
+        alloc,
+        hall,
+        table,
+        gate,
+    };
+    let mut visit = Visit::new::<J>(alloc);
+    let served = attend(&service, bench, &mut visit, &mut reader, &mut writer);
+    if served == Err(ScriptError::NoMemory) && visit.tenant().is_none() {
+        let _ = write_fault(&mut writer, &LineFault::NoMemory);
+    }
+    visit.into_end(alloc, served.err())
+}
+
+// Serves a caller of whom nothing has come.
+fn attend<H: Wait, J: Journal, E: Evaluator, G: Gate, R: Read, W: Write>(
+    service: &Service<'_, H, J, G>,
+    bench: &mut E,
+    visit: &mut Visit,
+    reader: &mut Watched<R>,
+    writer: &mut Watched<W>,
+) -> Result<(), ScriptError>
+    requires bench { E.is_ready bench.old }
+    requires going { visit.old.is_held ≡ false }
+    ensures bench { E.is_ready bench.new }
+    ensures kept { visit.new.is_kept ≡ visit.old.is_kept }
+{
+    visit.make_room(service.alloc)?;
+    let mut desk = Desk::new(service.alloc)?;
+    for _ in 0..MAX_READS {
+        read_once(service, bench, visit, &mut desk, reader, writer)?;
+        if visit.is_over() {
+            desk.gathered.flush(writer)?;
+            return Ok(());
+        }
+    }
+    Err(ScriptError::Read)
+}
+
+// Writes all that is gathered, reads once, and answers what came: at the end of the input the line
+// that no line feed has ended.
+fn read_once<H: Wait, J: Journal, E: Evaluator, G: Gate, R: Read, W: Write>(
+    service: &Service<'_, H, J, G>,
+    bench: &mut E,
+    visit: &mut Visit,
+    desk: &mut Desk,
+    reader: &mut Watched<R>,
+    writer: &mut Watched<W>,
+) -> Result<(), ScriptError>
+    requires bench { E.is_ready bench.old }
+    requires going { visit.old.is_held ≡ false }
+    ensures bench { E.is_ready bench.new }
+    ensures kept { visit.new.is_kept ≡ visit.old.is_kept }
+    ensures going { OnOk result (visit.new.is_held ≡ false) }
+{
+    let Desk {
+        chunk,
+        gathered,
+        scratch,
+    } = desk;
+    gathered.flush(writer)?;
+    let count = reader.read(chunk)?;
+    if count == 0 {
+        visit.end(service, bench, true, gathered, scratch, writer)?;
+        return Ok(());
+    }
+    take_lines(
+        service,
+        bench,
+        visit,
+        &chunk[..count],
+        gathered,
+        scratch,
+        writer,
+    )
+}
+
+// Answers each line that is whole in the bytes.
+fn take_lines<H: Wait, J: Journal, E: Evaluator, G: Gate, W: Write>(
+    service: &Service<'_, H, J, G>,
+    bench: &mut E,
+    visit: &mut Visit,
+    bytes: &[u8],
+    gathered: &mut Gathered,
+    scratch: &mut Scratch,
+    writer: &mut Watched<W>,
+) -> Result<(), ScriptError>
+    requires bench { E.is_ready bench.old }
+    requires going { visit.old.is_held ≡ false }
+    ensures bench { E.is_ready bench.new }
+    ensures kept { visit.new.is_kept ≡ visit.old.is_kept }
+    ensures going { OnOk result (visit.new.is_held ≡ false) }
+{
+    let mut rest = bytes;
+    while !rest.is_empty() && !visit.is_over() {
+        let step = visit.take_line(service, bench, rest, true, gathered, scratch, writer)?;
+        rest = &rest[step.count..];
+    }
+    Ok(())
+}

@@ -85,10 +85,13 @@ def others_go_on(program):
         other.serve(line for line in MADE if b'"put"' not in line)
         other.serve([put(21, 7, stream="t"), beat(22, stream="t")])
         late.send(FETCH_LONG, FETCH_LONG)
-        replies, end = set(), time.monotonic() + 2 * LIMIT
+        time.sleep(LIMIT / 4)
+        replies, early, end = set(), 0, time.monotonic() + 2 * LIMIT
         while time.monotonic() < end:
             replies.add(other.ask(FETCH_SHORT))
+            early += late.is_silent(0)
         yield "short answers beside long ones", difference(replies, {told(23, block(21, 21, 7))})
+        yield "short answers before the first long one's end", None if early else "there is none"
         found = [late.replies.readline() for _ in range(2)]
         yield "long answers beside short ones", difference(found, 2 * [NO_MEMORY])
 

@@ -1,21 +1,26 @@
 """Checks of tests/memory over the built cqld: that no want of memory is told of many rows, how many requests
-for memory a row makes, and that what an answer took is given back to the system.
+for memory a row makes, that a login which finds none is told so, and that what an answer took is given back to
+the system.
 """
 import collections
+import concurrent.futures
+import contextlib
+import os
 import re
 import time
 
 from counted import beats, put
-from served import Caller, Server, line_of, tenants
+from served import DONE, Caller, Server, line_of, login, refused, tenants
 
 COLUMNS = [["k", "int"], ["g", "int"], ["v", "int"]]
 TABLE = tenants("a", queries=64, hold=65536, result=65536)
+NO_MEMORY = refused(70, "NoMemory")
 FETCH = line_of(do="fetch", name="q")
 DROP = line_of(do="drop", name="q")
 FORMS = "keyed", "plain"
 
 # A text over streams, the rows of each, all of the first instant but where they stand `apart`, and the rows
-# that are told.
+# that are told; or None where there are too many.
 Large = collections.namedtuple("Large", "name text s p told apart", defaults=(False,))
 GROUPED = "Select Istream(x.k, Count(*)) From s x, p y Where x.k = y.k Group By x.k"
 LARGE = (
@@ -34,6 +39,13 @@ LARGE = (
         [(it, 3, it) for it in range(6_000)],
         [],
         [[3, 6_000, 17_997_000, 0, 5_999]],
+    ),
+    Large(
+        "7,000 rows beside a fault",
+        "Select Istream(x.v) From s x, p y Where x.k < y.k",
+        [(it, 0, 0) for it in range(7_000)],
+        [(7_000, 0, it) for it in range(10)],
+        None,
     ),
     Large(
         "12,000 parts",
@@ -70,6 +82,8 @@ def query(text, name="q"):
 
 def told(large):
     """The reply to the fetch of all."""
+    if large.told is None:
+        return line_of(blocks=[{"fault": "oversize", "from": 0, "to": 0}], next=1)
     last = len(large.s) - 1 if large.apart else 0
     runs = [[at, [row]] for at, row in enumerate(large.told)] if large.apart else [[0, large.told]]
     return line_of(blocks=[{"from": at, "rows": rows, "to": at} for at, rows in runs], next=last + 1)
@@ -98,10 +112,10 @@ def many(program):
 FEW, MANY = 1_000, 3_000
 # A put of a row and its part in the fetch make so many requests, and a tenth more are too many.
 REQUESTS = (
-    ("a linear query", "s", "Select Istream(*) From s [Range 100]", 18.1),
-    ("a sliding group", "s", "Select Istream(g, Count(*), Sum(v)) From s [Range 100] Group By g", 26.1),
-    ("a sliding join", "sp", "Select Istream(x.v, y.g) From s [Range 100] x, p [Range 100] y Where x.v = y.v", 24.8),
-    ("distinct rows", "s", "Istream(Select Distinct v From s [Range 100])", 20.3),
+    ("a linear query", "s", "Select Istream(*) From s [Range 100]", 9.1),
+    ("a sliding group", "s", "Select Istream(g, Count(*), Sum(v)) From s [Range 100] Group By g", 17.1),
+    ("a sliding join", "sp", "Select Istream(x.v, y.g) From s [Range 100] x, p [Range 100] y Where x.v = y.v", 15.7),
+    ("distinct rows", "s", "Istream(Select Distinct v From s [Range 100])", 11.3),
 )
 MOST = 1.1
 READERS = 64
@@ -148,6 +162,30 @@ def rows_are_shared(program, library):
     one, all_of_them = (each_row(program, library, "s", ["Select * From s"] * it, 0) for it in (1, READERS))
     same = abs(all_of_them - one) < 0.05
     yield f"requests of a put behind {READERS} readers", None if same else f"{one:.2f} and {all_of_them:.2f}"
+
+
+# So many requests at the end of a session of a login alone are refused, one in each run; some are of that.
+LAST = 100
+
+
+def login_without(program, library, number):
+    """What a caller is told who logs in where one request for memory is refused; nothing where the server
+    doesn't begin, or lets nobody in."""
+    under = "env", f"LD_PRELOAD={library}", f"REFUSED={number}"
+    with contextlib.suppress(OSError):
+        with Server(program, TABLE, under, workers=1, sessions=1) as server, Caller(server) as caller:
+            return caller.ask(login("a"))
+    return b""
+
+
+def logins(program, library):
+    """A login for which there is no memory is told so."""
+    all_of_them = requests(program, library, [])
+    numbers = range(max(1, all_of_them - LAST), all_of_them + 1)
+    with concurrent.futures.ThreadPoolExecutor(os.cpu_count()) as pool:
+        told_them = set(pool.map(lambda it: login_without(program, library, it), numbers))
+    right = NO_MEMORY in told_them and told_them <= {DONE, NO_MEMORY, b""}
+    yield "logins without one request", None if right else f"{told_them}"
 
 
 # ---- What is given back.

@@ -87,6 +87,14 @@ fn add_ten(port: usize, each_a: bool, each_b: bool, puts: &mut Vec<Put>) -> Resu
     Ok(())
 }
 
+// Rows into a port that have one number in both columns, from 1 to below this one.
+fn add_numbers(port: usize, end: i64, puts: &mut Vec<Put>) -> Result<(), AllocError> {
+    for n in 1..end {
+        puts.push(Put { port, a: n, b: n })?;
+    }
+    Ok(())
+}
+
 // A row comes, and the operator tells what that changes, if it is to.
 #[tactic(auto, using(crate::proofs::Twos::can_push_two, crate::proofs::Twos::has_pushed_two, crate::proofs::Twos::has_emitted_twos))]
 fn come<O: Operator>(
@@ -156,13 +164,13 @@ fn as_many_changes_are_kept_as_the_limit_allows(rt: HostRuntime) -> Result<(), F
     let alloc = rt.alloc();
     let node = join_of(alloc, 2, equal(X_A, Y_A))?;
     let mut puts = Vec::new(alloc);
-    add_ten(0, true, true, &mut puts)?;
-    add_ten(1, true, true, &mut puts)?;
+    add_numbers(0, 6_001, &mut puts)?;
+    add_numbers(1, 6_001, &mut puts)?;
     let mut join = KeyedJoin::new(alloc);
     let mut out = Vec::new(alloc);
-    run(alloc, &mut join, 2, &node, 10, &puts, false, &mut out)?;
-    assert!(rt; out.len() == 10);
-    assert!(rt; join.tried() == 10);
+    run(alloc, &mut join, 2, &node, 6_000, &puts, false, &mut out)?;
+    assert!(rt; out.len() == 6_000);
+    assert!(rt; join.tried() == 6_000);
     Ok(())
 }
 
@@ -324,17 +332,18 @@ fn a_join_without_equal_columns_is_given_up(rt: HostRuntime) -> Result<(), Fail>
 #[test]
 fn what_meets_nothing_is_counted_in_a_plain_join(rt: HostRuntime) -> Result<(), Fail> {
     let alloc = rt.alloc();
-    let less = column_to_column(X_B, Comparison::Less, Y_B);
-    let condition = both(alloc, equal(X_A, Y_A), less)?;
-    let node = join_of(alloc, 2, condition)?;
+    let two = both(alloc, equal(Y_A, Z_A), equal(Y_B, Z_B))?;
+    let node = join_of(alloc, 3, both(alloc, equal(X_A, Y_A), two)?)?;
     let mut puts = Vec::new(alloc);
-    add_ten(0, false, true, &mut puts)?;
-    add_ten(1, false, true, &mut puts)?;
+    for port in 0..3 {
+        add_numbers(port, 11, &mut puts)?;
+    }
     let mut join = PlainJoin::new(alloc);
     let mut out = Vec::new(alloc);
-    run(alloc, &mut join, 2, &node, 100, &puts, false, &mut out)?;
-    // Of a hundred pairs of the numbers from 1 to 10, 45 ascend.
-    assert!(rt; out.len() == 45);
-    assert!(rt; join.tried() == 100);
+    run(alloc, &mut join, 3, &node, 100, &puts, false, &mut out)?;
+    // A hundred pairs of the first two ports' rows, of which ninety fail alone and are put to none of
+    // the third; behind each other one the third's row with both numbers is looked up.
+    assert!(rt; out.len() == 10);
+    assert!(rt; join.tried() == 110);
     Ok(())
 }

@@ -183,6 +183,17 @@ const TURNS: &[Computed] = &[
         most: 5,
     },
     Computed {
+        what: "each of three rows comes and goes at instants of its own",
+        asked: Asked {
+            rows: &[(11, 1), (21, 2), (31, 3)],
+            settled: 0,
+            next: 41,
+            ..LATER
+        },
+        least: 7,
+        most: 7,
+    },
+    Computed {
         what: "each of three rows comes and goes once",
         asked: Asked {
             text: "Select Rstream(*) From s [Partition By v Rows 1]",

@@ -132,6 +132,9 @@ told_now laws layout port told es left was = laws.same (put_all (told_rows es) [
     zero_in : (n : ℕ) → 0 + n ≡ n
     zero_in n = omega arith
 
+pub as_told : (laws : Laws) (layout : Layout) (port told : Counts) (es : Groups) (left : List Row) → IsGrouping layout port told es left → IsGrouping layout port (told_of es) es left
+as_told laws layout port told es left was = subst (λ t. IsGrouping layout port t es left) (sym (told_now laws layout port told es left was)) was
+
 -- ---- what waits
 
 or_other : (a b : Bool) → a ≡ false → (a || b) ≡ true → b ≡ true
@@ -326,7 +329,7 @@ module _ (laws : Laws) (typing : IsGroupTypesLaw) (layout : Layout) (port told :
   -- the groups after one of them was settled
   pub settled_some : (new : Group) (some : Bool) (now : Groups) → IsSettled layout.sources g new some → some ≡ true → now ≡ set_value (λ k. is_eq (row_cmp key k)) es new → ((q : Row) → at_key q now ≡ cond (is_eq (row_cmp key q)) (Some new) (at_key q es))
       → IsGrouping layout port (changed_by (with_change true new.told []) gone) now rest
-  settled_some new some now settled yes is looks = by_row new.told settled.due (sym settled.is ∙ yes) settled.same
+  settled_some new some now settled has is looks = by_row new.told settled.due (sym settled.is ∙ has) settled.same
     where
       by_row : (o : Option Row) → IsDue layout.sources g o → is_some o ≡ true → new ≡ record g { told = o; pushed = false } → IsGrouping layout port (changed_by (with_change true o []) gone) now rest
       by_row None due h e = absurd cc
@@ -334,7 +337,7 @@ module _ (laws : Laws) (typing : IsGroupTypesLaw) (layout : Layout) (port told :
 
   pub settled_none : (new : Group) (some : Bool) (mid now : Groups) → IsSettled layout.sources g new some → some ≡ false → mid ≡ set_value (λ k. is_eq (row_cmp key k)) es new → ((q : Row) → at_key q mid ≡ cond (is_eq (row_cmp key q)) (Some new) (at_key q es))
       → now ≡ remove_entry (λ k. is_eq (row_cmp key k)) mid → ((q : Row) → at_key q now ≡ cond (is_eq (row_cmp key q)) None (at_key q mid)) → IsGrouping layout port (changed_by (with_change true new.told []) gone) now rest
-  settled_none new some mid now settled no set_is looks is gone_at = by_row new.told settled.due (sym settled.is ∙ no)
+  settled_none new some mid now settled has set_is looks is gone_at = by_row new.told settled.due (sym settled.is ∙ has)
     where
       over : {A : Type 0} (b : Bool) (w x : Option A) → cond b None (cond b w x) ≡ cond b None x
       over true w x = refl

@@ -19,7 +19,7 @@ use Rattle.cql_groups.specs.declared.layout.Layout.{Layout}
 use Rattle.cql_groups.proofs.PartLaws.{row_is}
 use Rattle.cql_algebra.proofs.Keys.{bag_of_keys}
 use Rattle.cql_groups.proofs.GroupKeys.{rows_of, keyed_value, no_row}
-use Rattle.cql_groups.proofs.GroupingLaws.{held}
+use Rattle.cql_groups.proofs.GroupingLaws.{held, told_now}
 use Rattle.cql_bag.proofs.Rows.{count_rest}
 
 abbrev Row : Type 0
@@ -82,13 +82,6 @@ each_told layout port [] all = refl
 each_told layout port (e ∷ es) all =
     ap (λ o. with_first (times_over 1 o) (rows_of layout.shape port (sizes es))) all.0.is ∙ ap (with_first (Some (all.0.row, 1))) (each_told layout port es all.1) ∙ ap (λ o. Some (with_entry o 1 (told_rows es))) (sym all.0.told)
 
-positive_rows : (es : Groups) → ArePositive (told_rows es)
-positive_rows [] = λ i d lt. absurd (omega (arith, lt))
-positive_rows (e ∷ es) = elim (e.1.told) as (λ o. ArePositive (with_entry o 1 (told_rows es))) [
-  | None ↦ positive_rows es
-  | Some row ↦ All-cons (λ (x : Row × ℕ). 1 ≤ x.1) (row, 1) (told_rows es) (omega arith) (positive_rows es)
-]
-
 module _ (laws : Laws) (layout : Layout) (port told : Counts) (es : Groups) (was : IsGrouping layout port told es []) (up : IsStrictlySortedBy row_cmp (keys_of es)) (found : All (λ (e : Row × Group). at_key e.0 es ≡ Some e.1) es) where
   told_one : (e : Row × Group) → at_key e.0 es ≡ Some e.1 → HasTold layout port e
   told_one e at = by_pushed (e.1.pushed) refl
@@ -124,12 +117,6 @@ module _ (laws : Laws) (layout : Layout) (port told : Counts) (es : Groups) (was
   keys_are : sizes es ≡ key_bag layout.shape.groups port
   keys_are = laws.same (sizes es) (key_bag layout.shape.groups port) sizes_bag (bag_of_keys laws.puts laws.entries layout.shape.groups port was.port_bag) count_sizes
 
-  told_is : put_all (told_rows es) [] ≡ told
-  told_is = laws.same (put_all (told_rows es) []) told ((laws.puts (told_rows es) []).0 tt (positive_rows es)) was.told_bag (λ q. (laws.puts (told_rows es) []).1 q ∙ zero_in (count q (told_rows es)) ∙ sym (was.rows q))
-    where
-      zero_in : (n : ℕ) → 0 + n ≡ n
-      zero_in n = omega arith
-
   -- the bag told is the shape's value
   pub value_is : shape_value layout.shape port ≡ Some told
-  value_is = keyed_value layout.shape port was.layout.keyed ∙ ap (λ k. as_bag (rows_of layout.shape port k)) (sym keys_are) ∙ ap as_bag (each_told layout port es all_told) ∙ ap (λ b. Some b) told_is
+  value_is = keyed_value layout.shape port was.layout.keyed ∙ ap (λ k. as_bag (rows_of layout.shape port k)) (sym keys_are) ∙ ap as_bag (each_told layout port es all_told) ∙ ap (λ b. Some b) (told_now laws layout port told es [] was)

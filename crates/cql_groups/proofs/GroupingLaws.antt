@@ -1,16 +1,18 @@
 -- What is kept of the groups of a bag, as rows come and go and as they are told.
 use Rattle.std.proofs.Common.{◌≡◌, ℕ, ◌+◌, ◌-◌, ◌<◌, ◌≤◌, List, [], ◌∷◌, ◌++◌, map, append_assoc, Bool, true, false, ◌||◌, cond, if◌then◌else◌, Option, Some, None, refl, sym, ap, ◌∙◌, subst, arith, Less, Equal, Greater}
-use Rattle.std.specs.Prelude.{IfSome, Result, Ok, Err, OnOk}
+use Rattle.std.specs.Prelude.{IfSome, Result, Ok, Err, OnOk, is_some}
 use Rattle.std.specs.Map.{remove_entry, set_value}
 use Rattle.std.specs.BTreeMap.{insert_entry}
 use Rattle.std.specs.Ordering.{is_eq, match_ordering}
+use Rattle.std.proofs.lemmas.List.Elements.{All-cons}
 use Rattle.std.proofs.lemmas.List.Folds.{list_any-append}
 use Rattle.cql_value.specs.Order.{row_cmp}
 use Rattle.cql_value.specs.Schema.{HasTypes}
 use Rattle.cql_value.specs.declared.value.Value.{Value}
 use Rattle.cql_value.specs.declared.schema.ColumnType.{ColumnType}
 use Rattle.cql_value.proofs.Ties.{tied, ties, ties_itself}
-use Rattle.cql_bag.specs.Bag.{Counts, IsBag, count, less_one, size_of}
+use Rattle.cql_bag.specs.Bag.{Counts, IsBag, count, less_one, put_all, size_of}
+use Rattle.cql_bag.specs.Law.{ArePositive}
 use Rattle.cql_bag.specs.Changes.{changed, changed_by, change_of, CanChange, CanChangeBy}
 use Rattle.cql_bag.specs.declared.change.Change.{Change}
 use Rattle.cql_plan.specs.Fit.{IsTyped}
@@ -21,7 +23,7 @@ use Rattle.cql_algebra.specs.Shape.{key_of, group_of, items_over}
 use Rattle.cql_algebra.specs.Typed.{AreOf}
 use Rattle.cql_groups.specs.Parts.{part_of}
 use Rattle.cql_ops.specs.Clauses.{AreChangesOf}
-use Rattle.cql_groups.specs.Grouped.{IsGroupOf, IsChangedGroup, IsDue, IsHeldOf, IsHeldAt, at_key, IsTaken, told_rows, IsNew, CanChangeAt, IsChangedAt, IsGrouping, one_if, lacking_groups, AreTold, TellsGroups}
+use Rattle.cql_groups.specs.Grouped.{IsGroupOf, IsChangedGroup, IsDue, IsHeldOf, IsHeldAt, at_key, IsTaken, told_rows, told_of, IsSettled, IsNew, CanChangeAt, IsChangedAt, IsGrouping, one_if, lacking_groups, AreTold, TellsGroups}
 use Rattle.cql_groups.specs.GroupLaws.{Laws}
 use Rattle.cql_ops.specs.Linear.{with_entry, with_change}
 use Rattle.cql_ops.specs.Settle.{is_among}
@@ -86,6 +88,52 @@ told_with q key (e ∷ es) g h =
   where
     here : (a b : ℕ) → a + b ≡ b + a
     here a b = omega arith
+
+-- a group that is exchanged where it stands
+pub told_renewed : (q key : Row) (es : Groups) (g new : Group) → at_key key es ≡ Some g → count q (told_rows (set_value (λ k. is_eq (row_cmp key k)) es new)) + times_of q g.told ≡ count q (told_rows es) + times_of q new.told
+told_renewed q key [] g new h = absurd cc
+told_renewed q key (e ∷ es) g new h =
+    elim (is_eq (row_cmp key e.0)) as (λ b. cond b (Some e.1) (at_key key es) ≡ Some g → count q (told_rows (cond b ((e.0, new) ∷ es) (e ∷ set_value (λ k. is_eq (row_cmp key k)) es new))) + times_of q g.told ≡ count q (with_entry e.1.told 1 (told_rows es)) + times_of q new.told) [
+      | true ↦ λ f. exchanged (count q (with_entry new.told 1 (told_rows es))) (count q (with_entry e.1.told 1 (told_rows es))) (times_of q new.told) (times_of q e.1.told) (times_of q g.told) (count q (told_rows es)) (count_entry q new.told (told_rows es)) (count_entry q e.1.told (told_rows es)) (ap (λ (x : Group). times_of q x.told) (same e.1 g f))
+      | false ↦ λ f.
+          let rest = set_value (λ k. is_eq (row_cmp key k)) es new in
+          behind (count q (with_entry e.1.told 1 (told_rows rest))) (count q (with_entry e.1.told 1 (told_rows es))) (times_of q e.1.told) (count q (told_rows rest)) (count q (told_rows es)) (times_of q g.told) (times_of q new.told) (count_entry q e.1.told (told_rows rest)) (count_entry q e.1.told (told_rows es)) (told_renewed q key es g new f)
+    ] h
+  where
+    exchanged : (a b n o g c : ℕ) → a ≡ n + c → b ≡ o + c → o ≡ g → a + g ≡ b + n
+    exchanged a b n o g c h i j = omega (arith, h, i, j)
+
+    behind : (a b o c d g n : ℕ) → a ≡ o + c → b ≡ o + d → c + g ≡ d + n → a + g ≡ b + n
+    behind a b o c d g n h i j = omega (arith, h, i, j)
+
+    same : (x y : Group) → Some x ≡ Some y → x ≡ y
+    same x y h = cc
+
+-- it is taken out as the one before
+remove_renewed : (key : Row) (es : Groups) (new : Group) → remove_entry (λ k. is_eq (row_cmp key k)) (set_value (λ k. is_eq (row_cmp key k)) es new) ≡ remove_entry (λ k. is_eq (row_cmp key k)) es
+remove_renewed key [] new = refl
+remove_renewed key (e ∷ es) new =
+    elim (is_eq (row_cmp key e.0)) as (λ b. is_eq (row_cmp key e.0) ≡ b → remove_entry (λ k. is_eq (row_cmp key k)) (cond b ((e.0, new) ∷ es) (e ∷ set_value (λ k. is_eq (row_cmp key k)) es new)) ≡ cond b es (e ∷ remove_entry (λ k. is_eq (row_cmp key k)) es)) [
+      | true ↦ λ t. ap (λ b. cond b es ((e.0, new) ∷ remove_entry (λ k. is_eq (row_cmp key k)) es)) t
+      | false ↦ λ t. ap (λ b. cond b (set_value (λ k. is_eq (row_cmp key k)) es new) (e ∷ remove_entry (λ k. is_eq (row_cmp key k)) (set_value (λ k. is_eq (row_cmp key k)) es new))) t ∙ ap (λ l. e ∷ l) (remove_renewed key es new)
+    ] refl
+
+positive_rows : (es : Groups) → ArePositive (told_rows es)
+positive_rows [] = λ i d lt. absurd (omega (arith, lt))
+positive_rows (e ∷ es) = elim (e.1.told) as (λ o. ArePositive (with_entry o 1 (told_rows es))) [
+  | None ↦ positive_rows es
+  | Some row ↦ All-cons (λ (x : Row × ℕ). 1 ≤ x.1) (row, 1) (told_rows es) (omega arith) (positive_rows es)
+]
+
+-- the bag that was told is that of the groups
+pub told_now : (laws : Laws) (layout : Layout) (port told : Counts) (es : Groups) (left : List Row) → IsGrouping layout port told es left → told_of es ≡ told
+told_now laws layout port told es left was = laws.same (put_all (told_rows es) []) told ((laws.puts (told_rows es) []).0 tt (positive_rows es)) was.told_bag (λ q. (laws.puts (told_rows es) []).1 q ∙ zero_in (count q (told_rows es)) ∙ sym (was.rows q))
+  where
+    zero_in : (n : ℕ) → 0 + n ≡ n
+    zero_in n = omega arith
+
+pub as_told : (laws : Laws) (layout : Layout) (port told : Counts) (es : Groups) (left : List Row) → IsGrouping layout port told es left → IsGrouping layout port (told_of es) es left
+as_told laws layout port told es left was = subst (λ t. IsGrouping layout port t es left) (sym (told_now laws layout port told es left was)) was
 
 -- ---- what waits
 
@@ -257,25 +305,19 @@ module _ (laws : Laws) (typing : IsGroupTypesLaw) (layout : Layout) (port told :
         cancel a t c d n m h i j = omega (arith, h, i, j)
 
   -- a group with rows stays, with the row that was told
-  pub kept_on : (row : Row) (now : Groups) → IsDue layout.sources g (Some row) → ((q : Row) → at_key q now ≡ cond (is_eq (row_cmp key q)) (Some (record g { told = Some row; pushed = false })) (at_key q es))
-      → now ≡ insert_entry row_cmp (remove_entry (λ k. is_eq (row_cmp key k)) es) key (record g { told = Some row; pushed = false }) → at_key key (remove_entry (λ k. is_eq (row_cmp key k)) es) ≡ None
-      → IsGrouping layout port (changed_by (with_change true (Some row) []) gone) now rest
-  kept_on row now due looks is none =
+  kept_on : (row : Row) (now : Groups) → IsDue layout.sources g (Some row) → ((q : Row) → at_key q now ≡ cond (is_eq (row_cmp key q)) (Some (record g { told = Some row; pushed = false })) (at_key q es))
+      → now ≡ set_value (λ k. is_eq (row_cmp key k)) es (record g { told = Some row; pushed = false }) → IsGrouping layout port (changed_by (with_change true (Some row) []) gone) now rest
+  kept_on row now due looks is =
       renewed (Some row) due (Some (record g { told = Some row; pushed = false })) now looks (record {
         group = record { size = held.group.size; few = held.group.few; parts = held.group.parts; sample = held.group.sample; types = held.group.types };
         lacks = held.lacks;
         waits = λ p. absurd cc;
         settled = λ p. (row, refl, due.0, row_of row due);
         typed = λ typed. row_types row due typed;
-      }) (λ q.
-      let out = remove_entry (λ k. is_eq (row_cmp key k)) es in
-      sums (count q (told_rows now)) (count q (told_rows out)) (times_of q g.told) (count q (told_rows es)) (times_of q (Some row)) (ap (λ l. count q (told_rows l)) is ∙ told_with q key out (record g { told = Some row; pushed = false }) none) (told_without q key es g there))
-    where
-      sums : (a b t c d : ℕ) → a ≡ b + d → c ≡ b + t → a + t ≡ c + d
-      sums a b t c d h i = omega (arith, h, i)
+      }) (λ q. ap (λ l. count q (told_rows l) + times_of q g.told) is ∙ told_renewed q key es g (record g { told = Some row; pushed = false }) there)
 
   -- one without rows goes
-  pub let_go : (now : Groups) → IsDue layout.sources g None → ((q : Row) → at_key q now ≡ cond (is_eq (row_cmp key q)) None (at_key q es)) → now ≡ remove_entry (λ k. is_eq (row_cmp key k)) es
+  let_go : (now : Groups) → IsDue layout.sources g None → ((q : Row) → at_key q now ≡ cond (is_eq (row_cmp key q)) None (at_key q es)) → now ≡ remove_entry (λ k. is_eq (row_cmp key k)) es
       → IsGrouping layout port (changed_by (with_change true None []) gone) now rest
   let_go now due looks is =
       renewed None due None now looks (no_rows its_rows rows_is_bag (sym held.group.size ∙ due)) (λ q.
@@ -283,6 +325,27 @@ module _ (laws : Laws) (typing : IsGroupTypesLaw) (layout : Layout) (port told :
     where
       sums : (a t c : ℕ) {b : ℕ} → a ≡ b → c ≡ b + t → a + t ≡ c + 0
       sums a t c h i = omega (arith, h, i)
+
+  -- the groups after one of them was settled
+  pub settled_some : (new : Group) (some : Bool) (now : Groups) → IsSettled layout.sources g new some → some ≡ true → now ≡ set_value (λ k. is_eq (row_cmp key k)) es new → ((q : Row) → at_key q now ≡ cond (is_eq (row_cmp key q)) (Some new) (at_key q es))
+      → IsGrouping layout port (changed_by (with_change true new.told []) gone) now rest
+  settled_some new some now settled has is looks = by_row new.told settled.due (sym settled.is ∙ has) settled.same
+    where
+      by_row : (o : Option Row) → IsDue layout.sources g o → is_some o ≡ true → new ≡ record g { told = o; pushed = false } → IsGrouping layout port (changed_by (with_change true o []) gone) now rest
+      by_row None due h e = absurd cc
+      by_row (Some row) due h e = kept_on row now due (λ q. looks q ∙ ap (λ x. cond (is_eq (row_cmp key q)) (Some x) (at_key q es)) e) (is ∙ ap (set_value (λ k. is_eq (row_cmp key k)) es) e)
+
+  pub settled_none : (new : Group) (some : Bool) (mid now : Groups) → IsSettled layout.sources g new some → some ≡ false → mid ≡ set_value (λ k. is_eq (row_cmp key k)) es new → ((q : Row) → at_key q mid ≡ cond (is_eq (row_cmp key q)) (Some new) (at_key q es))
+      → now ≡ remove_entry (λ k. is_eq (row_cmp key k)) mid → ((q : Row) → at_key q now ≡ cond (is_eq (row_cmp key q)) None (at_key q mid)) → IsGrouping layout port (changed_by (with_change true new.told []) gone) now rest
+  settled_none new some mid now settled has set_is looks is gone_at = by_row new.told settled.due (sym settled.is ∙ has)
+    where
+      over : {A : Type 0} (b : Bool) (w x : Option A) → cond b None (cond b w x) ≡ cond b None x
+      over true w x = refl
+      over false w x = refl
+
+      by_row : (o : Option Row) → IsDue layout.sources g o → is_some o ≡ false → IsGrouping layout port (changed_by (with_change true o []) gone) now rest
+      by_row None due h = let_go now due (λ q. gone_at q ∙ ap (cond (is_eq (row_cmp key q)) None) (looks q) ∙ over (is_eq (row_cmp key q)) (Some new) (at_key q es)) (is ∙ ap (remove_entry (λ k. is_eq (row_cmp key k))) set_is ∙ remove_renewed key es new)
+      by_row (Some row) due h = absurd cc
 
 -- ---- a row that comes or goes
 
@@ -406,10 +469,6 @@ can_change_at laws layout port told es left lacking c key is_key was counts type
     one_more : (b : Bool) (n : ℕ) → b ≡ true → one_if b ≡ n → 1 ≤ n
     one_more true n e h = (let i : 1 ≡ n = h in omega (arith, i))
     one_more false n e h = absurd cc
-
-pub looks_both : {A : Type 0} (b : Bool) (w x : Option A) → cond b w (cond b None x) ≡ cond b w x
-looks_both true w x = refl
-looks_both false w x = refl
 
 -- a row that came or went in the group of its key
 module _ (laws : Laws) (layout : Layout) (port told : Counts) (es : Groups) (left : List Row) (c : Change) (key : Row) (is_key : key_of layout.shape.groups c.row ≡ key) (was : IsGrouping layout port told es left) (types : HasTypes layout.shape.columns c.row) (can : CanChange c port)

@@ -1,12 +1,12 @@
 -- A shape by its groups: what is kept of each, what is told, and how many have no value.
-use Rattle.std.specs.Prelude.{◌≡◌, ◌++◌, ◌+◌, ◌<◌, ◌≤◌, ◌^◌, ℕ, List, [], ◌∷◌, Option, Some, None, IfSome, Bool, true, false, ◌&&◌, nat_lt, map, if◌then◌else◌}
+use Rattle.std.specs.Prelude.{◌≡◌, ◌++◌, ◌+◌, ◌<◌, ◌≤◌, ◌^◌, ℕ, List, [], ◌∷◌, Option, Some, None, IfSome, is_some, Bool, true, false, ◌&&◌, nat_lt, map, if◌then◌else◌}
 use Rattle.std.specs.List.{list_any}
 use Rattle.std.specs.Map.{lookup}
 use Rattle.std.specs.Ordering.{is_eq}
 use Rattle.cql_value.specs.Order.{row_cmp}
 use Rattle.cql_value.specs.Schema.{HasTypes}
 use Rattle.cql_value.specs.declared.value.Value.{Value}
-use Rattle.cql_bag.specs.Bag.{Counts, IsBag, count, size_of}
+use Rattle.cql_bag.specs.Bag.{Counts, IsBag, count, put_all, size_of}
 use Rattle.cql_bag.specs.Changes.{changed_by, CanChangeBy}
 use Rattle.cql_bag.specs.declared.change.Change.{Change}
 use Rattle.cql_plan.specs.declared.node.Shape.{Shape}
@@ -88,6 +88,16 @@ IsTaken asked row (Some h) g = g ≡ h
 abbrev pub told_rows : List (List Value × Group) → Counts
 told_rows [] = []
 told_rows (e ∷ es) = with_entry e.1.told 1 (told_rows es)
+
+-- the bag that was told of some groups
+abbrev pub told_of : List (List Value × Group) → Counts
+told_of groups = put_all (told_rows groups) []
+
+-- a group that told its row, in the place of the one told before, and whether it has one
+pub record IsSettled (sources : List Source) (old new : Group) (some : Bool) : Type 0 where
+  pub due : IsDue sources old new.told
+  pub same : new ≡ record old { told = new.told; pushed = false }
+  pub is : some ≡ is_some new.told
 
 -- a row may come or go where such a group is, or where there is none; one that lacks a value is among as many
 abbrev pub CanChangeAt : List Asked → Change → Option Group → ℕ → Type 0

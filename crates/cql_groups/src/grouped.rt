@@ -1,10 +1,10 @@
 // The groups of a shape, each with what its row needs.
 ghost use Rattle.std.specs.Prelude.{◌≡◌, ◌+◌, ◌<◌, ◌≤◌, ◌^◌, ◌⊎◌, ◌++◌, [], ◌∷◌, Some, true, false, if◌then◌else◌, IfOk, IfErr, OnOk, OnErr};
-ghost use Rattle.cql_bag.specs.Changes.{changed, changed_by, change_of, CanChange, Grows};
+ghost use Rattle.cql_bag.specs.Changes.{changed, change_of, CanChange, Grows};
 ghost use Rattle.std.specs.BTreeMap.{insert_entry, Updates};
 ghost use Rattle.cql_value.specs.Order.{row_cmp};
 ghost use Rattle.cql_value.specs.Schema.{HasTypes};
-ghost use Rattle.cql_groups.specs.Grouped.{IsNew, at_key, IsChangedGroup, CanChangeAt, IsChangedAt, IsDue, IsLacking, IsGrouping, lacking_groups, one_if, TellsGroups};
+ghost use Rattle.cql_groups.specs.Grouped.{IsNew, at_key, IsChangedGroup, CanChangeAt, IsChangedAt, IsDue, IsLacking, IsGrouping, IsSettled, lacking_groups, one_if, TellsGroups, told_of};
 ghost use Rattle.cql_groups.specs.GroupLaws.{Laws};
 ghost use Rattle.cql_ops.specs.Linear.{with_change};
 ghost use Rattle.cql_ops.specs.declared.error.OpError.TheVariants.{NoMemory, Overflow};
@@ -20,9 +20,10 @@ use cql_algebra::pushes::{
     ends_law, fewer_law, key_change_law, key_count_law, more_law, of_groups_law, one_group_law,
 };
 use cql_bag::law::{own_entries, put_all_counts, same_counts, take_counts};
-use cql_bag::{Bag, Change};
+use cql_bag::Change;
 use cql_ops::{Meter, OpError};
 use cql_plain::key;
+use cql_queue::RowQueue;
 use cql_value::Row;
 use std::alloc::{AllocError, Global};
 use std::collections::BTreeMap;
@@ -148,17 +149,13 @@ fn tell_one(
     alloc: Global,
     plus: bool,
     row: &Row,
-    told: &mut Bag,
     out: &mut Vec<Change>,
 ) -> Result<(), AllocError>
-    ensures told { OnOk result (told.new ≡ changed (change_of plus row.now) told.old) }
     ensures out { OnOk result (out.new.items ≡ out.old.items ++ change_of plus row.now ∷ []) }
     ensures kept { OnErr result (Grows out.old.items out.new.items) }
 {
     let row = row.try_clone(alloc)?;
-    let change = Change { plus, row };
-    told.change(alloc, &change)?;
-    out.push(change)?;
+    out.push(Change { plus, row })?;
     Ok(())
 }
 
@@ -167,15 +164,13 @@ fn tell_any(
     alloc: Global,
     plus: bool,
     row: &Option<Row>,
-    told: &mut Bag,
     out: &mut Vec<Change>,
 ) -> Result<(), AllocError>
-    ensures told { OnOk result (told.new ≡ changed_by (with_change plus row.now []) told.old) }
     ensures out { OnOk result (out.new.items ≡ out.old.items ++ with_change plus row.now []) }
     ensures kept { OnErr result (Grows out.old.items out.new.items) }
 {
     match row {
-        Some(row) => tell_one(alloc, plus, row, told, out),
+        Some(row) => tell_one(alloc, plus, row, out),
         None => Ok(()),
     }
 }
@@ -274,18 +269,18 @@ pub(crate) fn push_row(
     alloc: Global,
     layout: &Layout,
     change: &Change,
-    port: &mut Bag,
-    told: &Bag,
+    port: &mut RowQueue,
     groups: &mut BTreeMap<Row, Group>,
     touched: &mut Vec<Row>,
     lacking: &mut u64,
 ) -> Result<(), AllocError>
-    requires held { IsGrouping layout.now port.old told.now groups.old.entries touched.old.items }
+    requires held { IsGrouping layout.now port.old (told_of groups.old.entries) groups.old.entries touched.old.items }
     requires lacking { lacking.old ≡ lacking_groups layout.now.shape port.old }
     requires types { HasTypes layout.now.shape.columns change.now.row }
     requires there { CanChange change.now port.old }
     ensures port { OnOk result (port.new ≡ changed change.now port.old) }
-    ensures held { OnOk result (IsGrouping layout.now port.new told.now groups.new.entries touched.new.items) }
+    ensures told { OnOk result (told_of groups.new.entries ≡ told_of groups.old.entries) }
+    ensures held { OnOk result (IsGrouping layout.now port.new (told_of groups.new.entries) groups.new.entries touched.new.items) }
     ensures lacking { OnOk result (lacking.new ≡ lacking_groups layout.now.shape port.new) }
 {
     group_laws();
@@ -302,62 +297,75 @@ pub(crate) fn push_row(
     port.change(alloc, change)
 }
 
-// Computes the row of a key, and tells it in the place of the one told before.
+// Computes the row of a group, and tells it in the place of the one told before. Whether it has one.
+fn settle_group(
+    alloc: Global,
+    sources: &[Source],
+    group: &mut Group,
+    remade: &mut Meter,
+    out: &mut Vec<Change>,
+) -> Result<bool, OpError>
+    requires { group.old.size < 2 ^ 63 }
+    ensures settled { IfOk result (IsSettled sources.now group.old group.new) }
+    ensures out { OnOk result (out.new.items ≡ (out.old.items ++ with_change false group.old.told []) ++ with_change true group.new.told []) }
+    ensures kept { OnErr result (Grows out.old.items out.new.items) }
+    ensures err { IfErr result (λ e. (e ≡ NoMemory) ⊎ ((e ≡ Overflow) × IsLacking sources.now group.old)) }
+{
+    let row = group.row(alloc, sources, remade)?;
+    tell_any(alloc, false, &group.told, out)?;
+    tell_any(alloc, true, &row, out)?;
+    let some = row.is_some();
+    group.told = row;
+    group.pushed = false;
+    Ok(some)
+}
+
+// The group of a key, where there is one, tells its row; without rows it goes.
 fn settle_key(
     alloc: Global,
     layout: &Layout,
-    port: &Bag,
+    port: &RowQueue,
     key: &Row,
     rest: &[Row],
     groups: &mut BTreeMap<Row, Group>,
-    told: &mut Bag,
     remade: &mut Meter,
     out: &mut Vec<Change>,
 ) -> Result<(), OpError>
-    requires { IsGrouping layout.now port.now told.old groups.old.entries (key.now ∷ rest.now) }
-    ensures groups { OnOk result (IsGrouping layout.now port.now told.new groups.new.entries rest.now) }
-    ensures told { OnOk result (TellsGroups layout.now.shape told.old told.new out.old.items out.new.items) }
+    requires { IsGrouping layout.now port.now (told_of groups.old.entries) groups.old.entries (key.now ∷ rest.now) }
+    ensures groups { OnOk result (IsGrouping layout.now port.now (told_of groups.new.entries) groups.new.entries rest.now) }
+    ensures told { OnOk result (TellsGroups layout.now.shape (told_of groups.old.entries) (told_of groups.new.entries) out.old.items out.new.items) }
     ensures kept { OnErr result (Grows out.old.items out.new.items) }
     ensures err { IfErr result (FailsToShape layout.now.shape port.now) }
 {
     group_laws();
-    let Some(mut group) = groups.remove(key) else {
+    let Some(group) = groups.get_mut(key) else {
         return Ok(());
     };
-    let row = group.row(alloc, layout.sources.as_slice(), remade)?;
-    tell_any(alloc, false, &group.told, told, out)?;
-    tell_any(alloc, true, &row, told, out)?;
-    match row {
-        Some(row) => {
-            group.told = Some(row);
-            group.pushed = false;
-            put_group(alloc, key, group, groups)?;
-            Ok(())
-        }
-        None => Ok(()),
+    if !settle_group(alloc, layout.sources.as_slice(), group, remade, out)? {
+        let _ = groups.remove(key);
     }
+    Ok(())
 }
 
 // Tells the rows of these keys, one after another.
 fn settle_keys(
     alloc: Global,
     layout: &Layout,
-    port: &Bag,
+    port: &RowQueue,
     touched: &[Row],
     groups: &mut BTreeMap<Row, Group>,
-    told: &mut Bag,
     remade: &mut Meter,
     out: &mut Vec<Change>,
 ) -> Result<(), OpError>
-    requires { IsGrouping layout.now port.now told.old groups.old.entries touched.now }
-    ensures groups { OnOk result (IsGrouping layout.now port.now told.new groups.new.entries []) }
-    ensures told { OnOk result (TellsGroups layout.now.shape told.old told.new out.old.items out.new.items) }
+    requires { IsGrouping layout.now port.now (told_of groups.old.entries) groups.old.entries touched.now }
+    ensures groups { OnOk result (IsGrouping layout.now port.now (told_of groups.new.entries) groups.new.entries []) }
+    ensures told { OnOk result (TellsGroups layout.now.shape (told_of groups.old.entries) (told_of groups.new.entries) out.old.items out.new.items) }
     ensures kept { OnErr result (Grows out.old.items out.new.items) }
     ensures err { IfErr result (FailsToShape layout.now.shape port.now) }
 {
     let mut left = touched;
     while let Some((key, rest)) = left.split_first() {
-        settle_key(alloc, layout, port, key, rest, groups, told, remade, out)?;
+        settle_key(alloc, layout, port, key, rest, groups, remade, out)?;
         left = rest;
     }
     Ok(())
@@ -367,21 +375,20 @@ fn settle_keys(
 pub(crate) fn tell_groups(
     alloc: Global,
     layout: &Layout,
-    port: &Bag,
+    port: &RowQueue,
     groups: &mut BTreeMap<Row, Group>,
     touched: &mut Vec<Row>,
-    told: &mut Bag,
     remade: &mut Meter,
     out: &mut Vec<Change>,
 ) -> Result<(), OpError>
-    requires { IsGrouping layout.now port.now told.old groups.old.entries touched.old.items }
-    ensures held { OnOk result (IsGrouping layout.now port.now told.new groups.new.entries touched.new.items) }
-    ensures told { OnOk result (TellsShape layout.now.shape port.now told.old told.new out.old.items out.new.items) }
+    requires { IsGrouping layout.now port.now (told_of groups.old.entries) groups.old.entries touched.old.items }
+    ensures held { OnOk result (IsGrouping layout.now port.now (told_of groups.new.entries) groups.new.entries touched.new.items) }
+    ensures told { OnOk result (TellsShape layout.now.shape port.now (told_of groups.old.entries) (told_of groups.new.entries) out.old.items out.new.items) }
     ensures kept { OnErr result (Grows out.old.items out.new.items) }
     ensures err { IfErr result (FailsToShape layout.now.shape port.now) }
 {
     group_laws();
-    settle_keys(alloc, layout, port, touched, groups, told, remade, out)?;
+    settle_keys(alloc, layout, port, touched, groups, remade, out)?;
     let _ = groups.iter();
     touched.clear();
     Ok(())

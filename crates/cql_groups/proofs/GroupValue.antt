@@ -5,11 +5,10 @@ use Rattle.std.specs.List.Sorted.{IsStrictlySortedBy}
 use Rattle.std.specs.Map.{lookup, keys_of}
 use Rattle.std.specs.Option.{option_map, unwrap_or}
 use Rattle.std.specs.Ordering.{is_eq, ordering_reverse}
-use Rattle.std.proofs.lemmas.List.Elements.{All-cons, All-from_recursion, recursion_from_All}
+use Rattle.std.proofs.lemmas.List.Elements.{All-from_recursion, recursion_from_All}
 use Rattle.cql_value.specs.Order.{row_cmp, row_cmp_total}
 use Rattle.cql_value.specs.declared.value.Value.{Value}
-use Rattle.cql_bag.specs.Bag.{Counts, IsBag, count, put_all, size_of}
-use Rattle.cql_bag.specs.Law.{ArePositive}
+use Rattle.cql_bag.specs.Bag.{Counts, IsBag, count, size_of}
 use Rattle.cql_algebra.specs.Shape.{with_first, as_bag, times_over, key_bag, group_of, items_over, shape_value}
 use Rattle.cql_groups.specs.GroupLaws.{Laws}
 use Rattle.cql_groups.specs.Grouped.{IsLacking, IsHeldOf, IsHeldAt, at_key, told_rows, IsGrouping}

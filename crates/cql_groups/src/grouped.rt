@@ -19,8 +19,8 @@ use cql_algebra::law::{
 use cql_algebra::pushes::{
     ends_law, fewer_law, key_change_law, key_count_law, more_law, of_groups_law, one_group_law,
 };
-use cql_bag::law::{own_entries, put_all_counts, same_counts, take_counts};
 use cql_bag::Change;
+use cql_bag::law::{own_entries, put_all_counts, same_counts, take_counts};
 use cql_ops::{Meter, OpError};
 use cql_plain::key;
 use cql_queue::RowQueue;
@@ -145,12 +145,7 @@ impl Group {
 }
 
 // Tells that a row came or went.
-fn tell_one(
-    alloc: Global,
-    plus: bool,
-    row: &Row,
-    out: &mut Vec<Change>,
-) -> Result<(), AllocError>
+fn tell_one(alloc: Global, plus: bool, row: &Row, out: &mut Vec<Change>) -> Result<(), AllocError>
     ensures out { OnOk result (out.new.items ≡ out.old.items ++ change_of plus row.now ∷ []) }
     ensures kept { OnErr result (Grows out.old.items out.new.items) }
 {

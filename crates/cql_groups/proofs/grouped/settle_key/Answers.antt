@@ -1,4 +1,4 @@
-use Rattle.std.proofs.Common.{◌≡◌, ◌⊎◌, ◌++◌, [], Bool, true, false, inl, inr, refl, sym, ap, subst, rules}
+use Rattle.std.proofs.Common.{◌≡◌, ◌⊎◌, ◌++◌, [], true, false, inl, inr, refl, sym, ap, subst, rules}
 use Rattle.std.specs.Prelude.{Some, IfErr, IsSome}
 use Rattle.std.proofs.lemmas.Result.{IfErr-weaker}
 use Rattle.cql_bag.specs.Bag.{Counts}

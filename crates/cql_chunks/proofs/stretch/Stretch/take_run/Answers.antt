@@ -13,3 +13,4 @@ returns-clause-rows c =
     ∙ ap (λ l. l ++ take (s.to - s.at) (drop s.at all)) none
     ∙ sym (stretch_more s.at s.to (length c.run-run.result) all c.run-run.result c.run-run.ensures.rows c.run-run.ensures.within)
     ∙ ap (λ l. run ++ (l ++ take (s.to - (s.at + length run)) (drop (s.at + length run) all))) (sym none)
+    ∙ ap (λ n. run ++ (s.near.now ++ take (s.to - (s.at + n)) (drop (s.at + n) all))) (sym c.len.ensures)

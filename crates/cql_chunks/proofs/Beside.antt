@@ -1,5 +1,5 @@
 -- Rows whose times and numbers lie side by side.
-use Rattle.std.proofs.Common.{inl, inr, ◌≡◌, ◌↔◌, ℕ, zero, suc, ◌+◌, ◌-◌, ◌*◌, ◌≤◌, ◌<◌, ℤ, List, [], ◌∷◌, ◌++◌, length, map, take, drop, get_or, refl, sym, ap, ◌∙◌, subst, arith, length-append, length-drop}
+use Rattle.std.proofs.Common.{inl, inr, ◌≡◌, ◌↔◌, ℕ, zero, suc, ◌+◌, ◌-◌, ◌*◌, ◌≤◌, ◌<◌, ℤ, List, [], ◌∷◌, ◌++◌, length, map, take, drop, refl, sym, ap, ◌∙◌, arith, length-append, length-drop}
 use Rattle.std.proofs.Math.Nat.{mul-zero, zero-mul, mul-suc, mul-sub, mul-le-mul_left, eq-zero-or-pos}
 use Rattle.std.proofs.Math.Seq.{take-append-add, drop-append-add}
 use Rattle.std.proofs.lemmas.List.{length-map, take_at, drop_at}
@@ -100,13 +100,12 @@ pub beside_part : (w from to : ℕ) (words : List ℤ) (rows : List Element) →
     → IsBeside w (take (w * to - w * from) (drop (w * from) words)) (take (to - from) (drop from rows))
 beside_part w from to words rows beside order bound = λ some.
     let b = beside some in
-    let have = have_drop w from rows b.0 in
-    (
+    let have = have_drop w from rows b.0 in (
       have_take w (to - from) (drop from rows) have,
       ap (λ l. take (w * to - w * from) (drop (w * from) l)) b.1
-      ∙ ap (λ n. take n (drop (w * from) (words_of rows))) (sym (mul-sub w to from))
-      ∙ ap (take (w * (to - from))) (words_drop w from rows b.0 (omega (arith, order, bound)))
-      ∙ words_take w (to - from) (drop from rows) have (omega (arith, length-drop from rows, bound)),
+          ∙ ap (λ n. take n (drop (w * from) (words_of rows))) (sym (mul-sub w to from))
+          ∙ ap (take (w * (to - from))) (words_drop w from rows b.0 (omega (arith, order, bound)))
+          ∙ words_take w (to - from) (drop from rows) have (omega (arith, length-drop from rows, bound)),
     )
 
 -- as many rows from the front are the same exactly where their words are

@@ -1,6 +1,5 @@
 use Rattle.std.proofs.lemmas.Grind.{common_steps}
-use Rattle.std.proofs.Common.{◌≡◌, ◌↔◌, ◌≤◌, ◌++◌, IsTrue, true, false, ℕ, List, length, take, drop, arith, sym, subst, ap, ◌∙◌}
-use Rattle.cql_value.specs.Element.{Element}
+use Rattle.std.proofs.Common.{◌≡◌, ◌↔◌, ◌++◌, take, drop, arith, sym, ap, ◌∙◌}
 use Rattle.cql_chunks.proofs.Rows.{same_fronts, peeled}
 use Rattle.cql_chunks.proofs.same.are_joined_same.Goals as goal
 

@@ -1,5 +1,5 @@
 use Rattle.std.proofs.lemmas.Grind.{common_steps}
-use Rattle.std.proofs.Common.{◌≡◌, ◌+◌, ◌-◌, ◌≤◌, ◌<◌, ◌*◌, min, arith, rules, ap, sym, ◌∙◌, length, drop, take, length-drop, length-take, refl}
+use Rattle.std.proofs.Common.{◌≡◌, ◌+◌, ◌-◌, ◌≤◌, ◌<◌, ◌*◌, arith, rules, ap, ◌∙◌, length, drop, take, length-drop, length-take, refl}
 use Rattle.cql_chunks.specs.Chunks.{rows_of, chunk_at}
 use Rattle.cql_chunks.proofs.Rows.{place_before, chunk_below, chunk_of, run_rows}
 use Rattle.cql_chunks.proofs.plain.Plain.run.Goals as goal

@@ -1,4 +1,4 @@
-use Rattle.std.proofs.Common.{◌≡◌, ◌↔◌, ◌*◌, ◌≤◌, ◌<◌, length, take, arith, sym, subst, ap, ◌∙◌, length-take}
+use Rattle.std.proofs.Common.{◌*◌, ◌≤◌, ◌<◌, length, take, arith, sym, subst, ap, ◌∙◌, length-take}
 use Rattle.cql_chunks.specs.Beside.{IsBeside}
 use Rattle.cql_chunks.proofs.Beside.{beside_long, beside_same}
 use Rattle.cql_chunks.proofs.run.Run.begins_as.Goals as goal

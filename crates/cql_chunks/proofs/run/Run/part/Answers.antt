@@ -1,4 +1,4 @@
-use Rattle.std.proofs.Common.{◌*◌, ◌≤◌, length, arith, ap}
+use Rattle.std.proofs.Common.{◌≤◌, length, arith, ap}
 use Rattle.std.proofs.Math.Nat.{mul-le-mul_left}
 use Rattle.cql_chunks.proofs.Beside.{beside_long, beside_part}
 use Rattle.cql_chunks.proofs.run.Run.part.Goals as goal

@@ -4,6 +4,7 @@ ghost use Rattle.std.specs.Arc.{arc_value};
 ghost use Rattle.cql_seq.specs.Seq.{row_in};
 
 use crate::plain::Plain;
+use crate::run::Run;
 use crate::same::are_joined_same;
 use crate::stretch::Stretch;
 use crate::tree::Tree;
@@ -159,12 +160,12 @@ impl Chunks {
     }
 
     /// Rows from a place on that lie together: one at least, and none from another place on.
-    pub(crate) fn run(&self, from: usize, to: usize) -> &[Timed]
+    pub(crate) fn run(&self, from: usize, to: usize) -> Run<'_>
         requires order { from < to }
         requires within { to ≤ length self.now }
-        ensures some { 0 < length result.now }
-        ensures rows { result.now ≡ take (length result.now) (drop from self.now) }
-        ensures within { from + length result.now ≤ to }
+        ensures some { 0 < length result }
+        ensures rows { result ≡ take (length result) (drop from self.now) }
+        ensures within { from + length result ≤ to }
     {
         match &self.form {
             Form::Plain(plain) => plain.run(from, to),

@@ -3,6 +3,7 @@ ghost use Rattle.std.specs.Prelude.{◌≡◌, ◌≤◌, ◌<◌, ◌^◌, ◌+
 ghost use Rattle.cql_chunks.specs.Chunks.{rows_of, chunk_at, AreFull};
 
 use crate::chunk::{Chunk, SIZE};
+use crate::run::Run;
 use cql_value::{Timed, copies_of};
 use std::alloc::{AllocError, Global};
 use std::collections::VecDeque;
@@ -61,8 +62,8 @@ fn close(alloc: Global, full: &mut VecDeque<Chunk>, last: &mut Vec<Timed>) -> Re
                 Err(_) => unreachable!(),
             }
         }
-        Err(failed) => {
-            *last = failed.value;
+        Err(rows) => {
+            *last = rows;
             Err(AllocError)
         }
     }
@@ -94,6 +95,17 @@ fn chunk_of<'a>(full: &'a VecDeque<Chunk>, last: &'a [Timed], chunk: usize) -> &
     match full.get(chunk) {
         Some(full) => full.rows(),
         None => last,
+    }
+}
+
+// The rows of one chunk as a run: behind the full ones it is the last rows, whose words aren't known.
+fn run_of<'a>(full: &'a VecDeque<Chunk>, last: &'a [Timed], chunk: usize) -> Run<'a>
+    requires { chunk ≤ length full.now.items }
+    ensures { result ≡ chunk_at full.now.items last.now chunk }
+{
+    match full.get(chunk) {
+        Some(full) => full.run(),
+        None => Run::plain(last),
     }
 }
 
@@ -210,18 +222,18 @@ impl Plain {
     }
 
     /// Rows from a place on that lie in one chunk: one at least, and none from another place on.
-    pub(crate) fn run(&self, from: usize, to: usize) -> &[Timed]
+    pub(crate) fn run(&self, from: usize, to: usize) -> Run<'_>
         requires order { from < to }
         requires within { to ≤ length self.now }
-        ensures some { 0 < length result.now }
-        ensures rows { result.now ≡ take (length result.now) (drop from self.now) }
-        ensures within { from + length result.now ≤ to }
+        ensures some { 0 < length result }
+        ensures rows { result ≡ take (length result) (drop from self.now) }
+        ensures within { from + length result ≤ to }
     {
         let start = self.gone + from;
         let chunk = (start / SIZE).min(self.full.len());
-        let rows = chunk_of(&self.full, &self.last, chunk);
+        let rows = run_of(&self.full, &self.last, chunk);
         let first = start - SIZE * chunk;
-        slice_in(rows, first, rows.len().min(first + (to - from)))
+        rows.part(first, rows.len().min(first + (to - from)))
     }
 
     /// The list of these rows.

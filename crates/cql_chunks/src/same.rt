@@ -1,14 +1,14 @@
 // Whether two lists of rows are the same.
 ghost use Rattle.std.specs.Prelude.{◌≡◌, ◌↔◌, [], ◌++◌, IsTrue};
 
+use crate::run::Run;
 use crate::stretch::Stretch;
-use cql_value::{Timed, are_same};
 
 // The next rows that lie together of a run, and of two stretches after it: none only where no row
 // is left.
-fn next_run<'a>(run: &'a [Timed], first: &mut Stretch<'a>, second: &mut Stretch<'a>) -> &'a [Timed]
-    ensures rows { result.now ++ (first.new ++ second.new) ≡ run.now ++ (first.old ++ second.old) }
-    ensures none { result.now ≡ [] → first.new ++ second.new ≡ [] }
+fn next_run<'a>(run: Run<'a>, first: &mut Stretch<'a>, second: &mut Stretch<'a>) -> Run<'a>
+    ensures rows { result ++ (first.new ++ second.new) ≡ run.entry ++ (first.old ++ second.old) }
+    ensures none { result ≡ [] → first.new ++ second.new ≡ [] }
 {
     if !run.is_empty() {
         return run;
@@ -30,8 +30,8 @@ pub fn are_joined_same<'a, 'b>(
 {
     let (mut first, mut second) = one;
     let (mut third, mut fourth) = other;
-    let mut left: &'a [Timed] = &[];
-    let mut right: &'b [Timed] = &[];
+    let mut left: Run<'a> = Run::plain(&[]);
+    let mut right: Run<'b> = Run::plain(&[]);
     loop {
         left = next_run(left, &mut first, &mut second);
         right = next_run(right, &mut third, &mut fourth);
@@ -39,12 +39,10 @@ pub fn are_joined_same<'a, 'b>(
         if count == 0 {
             return left.is_empty() && right.is_empty();
         }
-        let (front, more) = left.split_at(count);
-        let (same, others) = right.split_at(count);
-        if !are_same(front, same) {
+        if !left.begins_as(&right, count) {
             return false;
         }
-        left = more;
-        right = others;
+        left = left.behind(count);
+        right = right.behind(count);
     }
 }

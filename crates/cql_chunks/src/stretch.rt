@@ -3,6 +3,7 @@ ghost use Rattle.std.specs.Prelude.{◌≡◌, [], ◌++◌, length};
 ghost use Rattle.std.specs.Iterator.{YieldsFirstRef, item_count};
 
 use crate::chunks::Chunks;
+use crate::run::Run;
 use cql_value::Timed;
 use std::marker::Model;
 
@@ -47,17 +48,17 @@ impl<'a> Stretch<'a> {
     }
 
     /// Takes the next rows that lie together: none only where no row is left.
-    pub(crate) fn take_run(&mut self) -> &'a [Timed]
-        ensures rows { self.old ≡ result.now ++ self.new }
-        ensures none { result.now ≡ [] → self.new ≡ [] }
+    pub(crate) fn take_run(&mut self) -> Run<'a>
+        ensures rows { self.old ≡ result ++ self.new }
+        ensures none { result ≡ [] → self.new ≡ [] }
     {
         if !self.near.is_empty() {
             let near = self.near;
             self.near = &[];
-            return near;
+            return Run::plain(near);
         }
         if self.at == self.to {
-            return &[];
+            return Run::plain(&[]);
         }
         let run = self.chunks.run(self.at, self.to);
         self.at += run.len();
@@ -80,7 +81,8 @@ impl<'a> Iterator for Stretch<'a> {
         if self.at == self.to {
             return None;
         }
-        let near = self.chunks.run(self.at, self.to);
+        let run = self.chunks.run(self.at, self.to);
+        let near = run.rows();
         self.at += near.len();
         match near.split_first() {
             Some((row, rest)) => {

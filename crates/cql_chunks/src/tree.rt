@@ -4,6 +4,7 @@ ghost use Rattle.std.specs.Arc.{arc_value};
 ghost use Rattle.cql_seq.specs.Seq.{row_in};
 
 use crate::plain::LIMIT;
+use crate::run::Run;
 use cql_seq::Seq;
 use cql_value::Timed;
 use std::alloc::AllocError;
@@ -71,12 +72,12 @@ impl Tree {
     }
 
     /// The row at a place, as rows that lie together.
-    pub(crate) fn run(&self, place: usize) -> &[Timed]
+    pub(crate) fn run(&self, place: usize) -> Run<'_>
         requires { place < length self.now }
-        ensures rows { result.now ≡ take 1 (drop place self.now) }
-        ensures one { length result.now ≡ 1 }
+        ensures rows { result ≡ take 1 (drop place self.now) }
+        ensures one { length result ≡ 1 }
     {
-        slice::from_ref(self.get(place))
+        Run::plain(slice::from_ref(self.get(place)))
     }
 
     /// The same rows with one more holder.

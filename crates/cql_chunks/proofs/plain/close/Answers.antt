@@ -1,6 +1,6 @@
-use Rattle.std.proofs.Common.{◌≡◌, arith, rules, ap, sym, ◌∙◌, [], ◌∷◌, ◌++◌, append-nil}
-use Rattle.cql_chunks.specs.Chunks.{rows_of, AreFull}
-use Rattle.cql_chunks.proofs.Rows.{rows_close, full_close}
+use Rattle.std.proofs.Common.{◌≡◌, rules, ap, ◌∙◌, [], ◌∷◌, ◌++◌, append-nil}
+use Rattle.cql_chunks.specs.Chunks.{rows_of}
+use Rattle.cql_chunks.proofs.Rows.{rows_close}
 use Rattle.cql_chunks.proofs.plain.close.Goals as goal
 
 pub returns-in-Ok-push_back-clause-rows : goal.returns-in-Ok-push_back-clause-rows

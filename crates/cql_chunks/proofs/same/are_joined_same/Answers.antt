@@ -1,37 +1,33 @@
 use Rattle.std.proofs.lemmas.Grind.{common_steps}
-use Rattle.std.proofs.Common.{◌≡◌, ◌↔◌, ◌≤◌, ◌++◌, IsTrue, true, false, ℕ, List, length, take, drop, arith, sym, subst, ap, ◌∙◌}
-use Rattle.cql_value.specs.Element.{Element}
+use Rattle.std.proofs.Common.{◌≡◌, ◌↔◌, ◌++◌, take, drop, arith, sym, ap, ◌∙◌}
 use Rattle.cql_chunks.proofs.Rows.{same_fronts, peeled}
 use Rattle.cql_chunks.proofs.same.are_joined_same.Goals as goal
 
 -- where the fronts differ, so do the lists
-pub returns-then-not-are_same : goal.returns-then-not-are_same
-returns-then-not-are_same c =
-    let xs = c.next_run-left.result.now in
-    let ys = c.next_run-right.result.now in
+pub returns-then-not-begins_as : goal.returns-then-not-begins_as
+returns-then-not-begins_as c =
+    let xs = c.next_run-left.result in
+    let ys = c.next_run-right.result in
     let r = c.next_run-left.new.first ++ c.next_run-left.new.second in
     let s = c.next_run-right.new.first ++ c.next_run-right.new.second in (
       λ is. cc,
       λ is.
           let now : xs ++ r ≡ ys ++ s = c.next_run-left.ensures.rows ∙ c.loop-left.invariant.1 is ∙ sym c.next_run-right.ensures.rows in
-          let fronts : c.split_at.result.0.now ≡ c.split_at-in-loop-left.result.0.now
-          = c.split_at.ensures.front ∙ same_fronts c.min-count.result xs ys r s (omega (arith, c.min-count.ensures)) (omega (arith, c.min-count.ensures)) now ∙ sym c.split_at-in-loop-left.ensures.front in
-          sym c.if-not-are_same.true ∙ c.are_same.ensures.1 fronts,
+          sym c.if-not-begins_as.true ∙ c.begins_as.ensures.1 (same_fronts c.min-count.result xs ys r s (omega (arith, c.min-count.ensures)) (omega (arith, c.min-count.ensures)) now),
     )
 
 pub loop-left-preserved : goal.loop-left-preserved
 loop-left-preserved c =
-    let xs = c.next_run-left.result.now in
-    let ys = c.next_run-right.result.now in
+    let xs = c.next_run-left.result in
+    let ys = c.next_run-right.result in
     let r = c.next_run-left.new.first ++ c.next_run-left.new.second in
     let s = c.next_run-right.new.first ++ c.next_run-right.new.second in
     let k = c.min-count.result in
-    let same : take k xs ≡ take k ys
-    = sym c.split_at.ensures.front ∙ c.are_same.ensures.0 c.if-not-are_same.false ∙ c.split_at-in-loop-left.ensures.front in
+    let same : take k xs ≡ take k ys = c.begins_as.ensures.0 c.if-not-begins_as.false in
     let is : (drop k xs ++ r ≡ drop k ys ++ s) ↔ (xs ++ r ≡ ys ++ s)
     = peeled k xs ys r s (omega (arith, c.min-count.ensures)) (omega (arith, c.min-count.ensures)) same in
-    let left = ap (λ l. l ++ r) c.split_at.ensures.back in
-    let right = ap (λ l. l ++ s) c.split_at-in-loop-left.ensures.back in (
+    let left = ap (λ l. l ++ r) c.behind-left.ensures in
+    let right = ap (λ l. l ++ s) c.behind-right.ensures in (
       λ e. c.loop-left.invariant.0 (sym c.next_run-left.ensures.rows ∙ is.0 (sym left ∙ e ∙ right) ∙ c.next_run-right.ensures.rows),
       λ e. left ∙ is.1 (c.next_run-left.ensures.rows ∙ c.loop-left.invariant.1 e ∙ sym c.next_run-right.ensures.rows) ∙ sym right,
     )

@@ -1,4 +1,4 @@
-use Rattle.std.proofs.Common.{◌≡◌, ◌↔◌, ◌+◌, ◌++◌, length}
+use Rattle.std.proofs.Common.{◌≡◌, ◌↔◌, ◌++◌, length}
 use Rattle.cql_chunks.proofs.same.are_joined_same.Given as goal
 
 abbrev pub invariant-loop-left : goal.invariant-loop-left

@@ -1,6 +1,6 @@
 use Rattle.std.proofs.lemmas.Grind.{common_steps}
-use Rattle.std.proofs.Common.{◌≡◌, ◌+◌, ◌-◌, ◌≤◌, ◌<◌, ◌*◌, arith, rules, ap, sym, ◌∙◌, length, drop, get_or, length-drop}
-use Rattle.std.proofs.lemmas.List.{get_or-drop, get_or_default}
+use Rattle.std.proofs.Common.{◌≡◌, ◌+◌, ◌-◌, ◌<◌, ◌*◌, arith, rules, ap, sym, ◌∙◌, length, drop, get_or, length-drop}
+use Rattle.std.proofs.lemmas.List.{get_or-drop}
 use Rattle.cql_chunks.specs.Chunks.{rows_of, chunk_at}
 use Rattle.cql_chunks.proofs.Rows.{place_before, rows_get, chunk_below, chunk_of}
 use Rattle.cql_chunks.proofs.plain.Plain.get.Goals as goal

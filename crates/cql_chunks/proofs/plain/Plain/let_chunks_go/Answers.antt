@@ -1,5 +1,4 @@
-use Rattle.std.proofs.Common.{◌≡◌, ◌+◌, ◌≤◌, ◌*◌, arith, rules, ap, sym, ◌∙◌, length, drop, length-drop}
-use Rattle.cql_chunks.specs.Chunks.{rows_of}
+use Rattle.std.proofs.Common.{◌≡◌, ◌≤◌, ◌*◌, rules, length, drop}
 use Rattle.cql_chunks.proofs.Rows.{trim_chunks, trim_rows}
 use Rattle.cql_chunks.proofs.plain.Plain.let_chunks_go.Goals as goal
 

@@ -1,7 +1,7 @@
 use Rattle.std.proofs.lemmas.Grind.{common_steps}
-use Rattle.std.proofs.Common.{◌≡◌, ◌+◌, ◌-◌, ◌≤◌, ◌<◌, ◌*◌, ◌/◌, ◌^◌, arith, rules, ap, sym, ◌∙◌, length, drop, take, get_or, length-drop, refl}
-use Rattle.cql_chunks.specs.Chunks.{rows_of, chunk_at, AreChunks}
-use Rattle.cql_chunks.proofs.Rows.{place_within, chunk_below, chunk_of, chunk_short, one_rows, more_rows, more_chunks}
+use Rattle.std.proofs.Common.{◌≡◌, ◌+◌, ◌-◌, ◌≤◌, ◌<◌, ◌*◌, ◌/◌, ◌^◌, arith, rules, ap, length, drop, take, length-drop, refl}
+use Rattle.cql_chunks.specs.Chunks.{rows_of, chunk_at}
+use Rattle.cql_chunks.proofs.Rows.{place_within, chunk_of, chunk_short, one_rows, more_rows, more_chunks}
 use Rattle.cql_chunks.proofs.plain.Plain.part.Goals as goal
 
 pub copies_in-requires-clause-within : goal.copies_in-requires-clause-within

@@ -1,5 +1,4 @@
-use Rattle.std.proofs.Common.{◌≡◌, ◌+◌, ◌<◌, ◌^◌, arith, rules, ap, sym, ◌∙◌, [], ◌∷◌, ◌++◌}
-use Rattle.cql_chunks.specs.Chunks.{rows_of, AreFull}
+use Rattle.std.proofs.Common.{◌≡◌, ◌+◌, ◌<◌, ◌^◌, arith, rules, [], ◌∷◌, ◌++◌}
 use Rattle.cql_chunks.proofs.Rows.{push_chunks, push_rows}
 use Rattle.cql_chunks.proofs.plain.Plain.push.Goals as goal
 

@@ -18,13 +18,24 @@ const UNUSED: u64 = 40;
 const LOOKS: u64 = 4;
 
 /// A pool that threads share.
-#[derive(Drop)]
 pub struct SharedPool<O: Operator> {
     alloc: Global,
     pool: Mutex<Pool<O>>,
     count: usize,
     begun: Instant,
     answers: Answers,
+}
+
+impl<O: Operator> Drop for SharedPool<O> {
+    fn drop(self) {
+        let SharedPool {
+            alloc: _,
+            pool: _,
+            count: _,
+            begun: _,
+            answers: _,
+        } = self;
+    }
 }
 
 impl<O: Operator> SharedPool<O> {

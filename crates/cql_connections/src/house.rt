@@ -16,7 +16,6 @@ use std::sync::{Condvar, Mutex, Wait};
 use std::time::{Clock, Instant};
 
 /// The callers who are connected, and what tells of those who send.
-#[derive(Drop)]
 pub struct House {
     alloc: Global,
     floor: Mutex<Floor>,
@@ -27,6 +26,19 @@ pub struct House {
     registry: Registry,
     // wakes the accepting thread
     waker: Waker,
+}
+
+impl Drop for House {
+    fn drop(self) {
+        let House {
+            alloc: _,
+            floor: _,
+            called: _,
+            waiting: _,
+            registry: _,
+            waker: _,
+        } = self;
+    }
 }
 
 impl House {

@@ -405,10 +405,9 @@ fn answer_next<H: Wait, J: Journal, E: Evaluator, G: Gate>(
     }
     if !unread.is_empty() {
         let bytes = unread.as_slice();
-        let used = answer_some(
+        return answer_front(
             service, bench, visit, bytes, may_fetch, gathered, scratch, outbox,
-        )?;
-        return Ok(Some(Vec::from_slice(service.alloc, &bytes[used..])?));
+        );
     }
     match read_once(outbox.inner().stream, chunk)? {
         None => Ok(None),
@@ -416,14 +415,38 @@ fn answer_next<H: Wait, J: Journal, E: Evaluator, G: Gate>(
             visit.end(service, bench, may_fetch, gathered, scratch, outbox)?;
             Ok(Some(unread))
         }
-        Some(count) => {
-            let bytes = &chunk[..count];
-            let used = answer_some(
-                service, bench, visit, bytes, may_fetch, gathered, scratch, outbox,
-            )?;
-            Ok(Some(Vec::from_slice(service.alloc, &bytes[used..])?))
-        }
+        Some(count) => answer_front(
+            service,
+            bench,
+            visit,
+            &chunk[..count],
+            may_fetch,
+            gathered,
+            scratch,
+            outbox,
+        ),
     }
+}
+
+// Answers lines of the bytes, and gives what isn't used of them.
+fn answer_front<H: Wait, J: Journal, E: Evaluator, G: Gate>(
+    service: &Service<'_, H, J, G>,
+    bench: &mut E,
+    visit: &mut Visit,
+    bytes: &[u8],
+    may_fetch: bool,
+    gathered: &mut Gathered,
+    scratch: &mut Scratch,
+    outbox: &mut Watched<Outbox<'_>>,
+) -> Result<Option<Vec<u8>>, ScriptError>
+    requires bench { E.is_ready bench.old }
+    ensures bench { E.is_ready bench.new }
+{
+    let used = answer_some(
+        service, bench, visit, bytes, may_fetch, gathered, scratch, outbox,
+    )?;
+    let rest = Vec::from_slice(service.alloc, &bytes[used..])?;
+    Ok(Some(rest))
 }
 
 // Answers lines that are whole in the bytes, up to a fetch, or as long as all is written. Gives

@@ -4,8 +4,8 @@ use Rattle.std.specs.Prelude.{codes}
 use Rattle.std.specs.List.{list_any}
 use Rattle.std.proofs.lemmas.Slice.Eq.{bytes_eq-Decides}
 use Rattle.json.specs.Token.{Token}
-use Rattle.json.specs.Json.{value, parse_map}
-use Rattle.json.proofs.Grammar.{value_is}
+use Rattle.json.specs.Json.{value, parse_map, after_end_array}
+use Rattle.json.proofs.Grammar.{value_is, closed_array}
 use Rattle.serde_json.specs.Data.{Num, unsigned, Data, number, string, Items, no_items, item, Members, no_members, put}
 use Rattle.serde_json.specs.Find.{get_member}
 use Rattle.serde_json.specs.Read.{of_json, number_of, converted}
@@ -25,6 +25,17 @@ reads_string depth before s after is = ap (converted of_json) (ap (value depth) 
 
 pub reads_number : (depth : ℕ) (before : List Token) (s : List ℕ) (x : Num) (after : List Token) → before ≡ Token.number s ∷ after → number_of s ≡ Some x → Reads depth before (number x) after
 reads_number depth before s x after is of = ap (converted of_json) (ap (value depth) is ∙ value_is depth _) ∙ rw of
+
+-- no value begins with the bracket that closes a list
+no_value : (depth : ℕ) (ts r : List Token) (d : Data) (end : Option (List Token)) → after_end_array ts ≡ end → Reads depth ts d r → end ≡ None
+no_value depth ts r d None is read = refl
+no_value depth ts r d (Some s) is read =
+    let none : converted of_json (value depth ts) ≡ None = ap (λ t. converted of_json (value depth t)) (closed_array ts s is) ∙ ap (converted of_json) (value_is depth (Token.end_array ∷ s)) in
+    let clash : None ≡ Some (d, r) = sym none ∙ read in
+    absurd (cc)
+
+pub going_on : (depth : ℕ) (ts r : List Token) (d : Data) → Reads depth ts d r → after_end_array ts ≡ None
+going_on depth ts r d read = no_value depth ts r d (after_end_array ts) refl read
 
 -- ---- lists that grow at their end
 

@@ -304,7 +304,7 @@ fn of_text(
 ) -> Result<(Option<Text>, Command), LineFault>
     ensures { Means (of_data (read text.now)) result }
 {
-    match read_put(alloc, text, scratch) {
+    match read_put(alloc, text) {
         Ok(call) => Ok(call),
         Err(NoPut::Other) => by_tree(alloc, text, scratch),
         Err(NoPut::NoMemory) => Err(LineFault::NoMemory),

@@ -9,6 +9,7 @@ ghost use Rattle.serde_json.specs.Read.{read};
 ghost use Rattle.cql_asked.specs.Command.{of_data};
 ghost use Rattle.cql_asked.specs.Put.{Reads, ReadsValue, ReadsRow, ReadsItems, ReadsMembers, ReadsPut, Holds, Takes, IsCall};
 
+use crate::named::Named;
 use crate::reading::read_number;
 use crate::tree::Number;
 use cql_meaning::Command;
@@ -182,7 +183,7 @@ impl<'a> Put<'a> {
     }
 
     // The command, where nothing is missing.
-    fn command(self, alloc: Global) -> Result<(Option<Text>, Command), NoPut>
+    fn command(self, alloc: Global) -> Result<(Option<Named<'a>>, Command), NoPut>
         ensures { IfOk result (λ call. IsCall self.entry call) }
     {
         let Put {
@@ -200,17 +201,16 @@ impl<'a> Put<'a> {
         let row = row.ok_or(NoPut::Other)?;
         let row = Row::new(alloc, row)?;
         let stream = Text::new(alloc, stream)?;
-        let tenant = copied(alloc, tenant)?;
-        Ok((tenant, Command::Put { stream, at, row }))
+        Ok((named(tenant), Command::Put { stream, at, row }))
     }
 }
 
-fn copied(alloc: Global, text: Option<&str>) -> Result<Option<Text>, AllocError>
-    ensures { IfOk result (λ copy. copy ≡ option_map (λ s. s.now) text.entry) }
+fn named<'a>(text: Option<&'a str>) -> Option<Named<'a>>
+    ensures { result ≡ option_map (λ s. s.now) text.entry }
 {
     match text {
-        Some(text) => Ok(Some(Text::new(alloc, text)?)),
-        None => Ok(None),
+        Some(text) => Some(Named::of_line(text)),
+        None => None,
     }
 }
 
@@ -235,7 +235,10 @@ fn next_put<'a>(alloc: Global, reader: &mut Reader<'a>) -> Result<Put<'a>, NoPut
 }
 
 // The put that a text is, if it is one.
-pub(crate) fn read_put(alloc: Global, text: &str) -> Result<(Option<Text>, Command), NoPut>
+pub(crate) fn read_put<'a>(
+    alloc: Global,
+    text: &'a str,
+) -> Result<(Option<Named<'a>>, Command), NoPut>
     ensures { IfOk result (λ call. of_data (read text.now) ≡ Ok call) }
 {
     let mut reader = Reader::new(text);
@@ -243,6 +246,5 @@ pub(crate) fn read_put(alloc: Global, text: &str) -> Result<(Option<Text>, Comma
     if !reader.is_at_end() {
         return Err(NoPut::Other);
     }
-    let call = put.command(alloc)?;
-    Ok(call)
+    put.command(alloc)
 }

@@ -1,5 +1,5 @@
 -- Lemmas on a number of digits alone.
-use Rattle.std.proofs.Common.{◌≡◌, ◌<◌, ◌^◌, ◌==◌, ℕ, false, List, [], Some, length, get_or, cond, drop, append-nil, lt-ltb, refl, sym, ap, ◌∙◌, subst}
+use Rattle.std.proofs.Common.{◌≡◌, ◌<◌, ◌^◌, ◌==◌, ℕ, false, List, [], Some, length, get_or, append-nil, lt-ltb, refl, sym, ap, ◌∙◌, subst}
 use Rattle.std.specs.Str.Parse.{AllDigits, IsNumeral, digits_value, without_leading_plus}
 use Rattle.fast_float.specs.Text.{Parts, scan, text_of}
 use Rattle.fast_float.proofs.Writing.{scan-text_of}

@@ -1,21 +1,24 @@
 -- Lemmas on what is read of a put.
-use Rattle.std.proofs.Common.{◌≡◌, ℕ, Bool, true, false, ◌&&◌, List, [], ◌∷◌, ◌++◌, Option, Some, None, option_map, option_and_then, Vec, Global, Bor, bytes_eq, refl, sym, ap, ◌∙◌}
-use Rattle.std.specs.Prelude.{codes}
+use Rattle.std.proofs.Common.{◌≡◌, ℕ, Bool, true, false, ◌&&◌, List, [], ◌∷◌, ◌++◌, Option, Some, None, is_some, option_map, option_and_then, Vec, Global, Bor, bytes_eq, refl, sym, ap, ◌∙◌}
+use Rattle.std.specs.Prelude.{codes, Result, Ok, Err, IfOk}
 use Rattle.std.specs.List.{list_any}
+use Rattle.std.proofs.lemmas.Bool.{false≢true}
 use Rattle.std.proofs.lemmas.Slice.Eq.{bytes_eq-Decides}
 use Rattle.json.specs.Token.{Token}
-use Rattle.json.specs.Json.{value, parse_map}
-use Rattle.json.proofs.Grammar.{value_is}
-use Rattle.serde_json.specs.Data.{Num, unsigned, Data, number, string, Items, no_items, item, Members, no_members, put}
+use Rattle.json.specs.Json.{value, parse_map, after_end_array}
+use Rattle.json.proofs.Grammar.{value_is, closed_array}
+use Rattle.serde_json.specs.Data.{Num, unsigned, Data, number, string, object, Items, no_items, item, Members, put}
 use Rattle.serde_json.specs.Find.{get_member}
 use Rattle.serde_json.specs.Read.{of_json, number_of, converted}
 use Rattle.serde_json.proofs.Views.{get_member-put, get_member-put_other}
 use Rattle.cql_value.specs.declared.value.Value.{Value}
+use Rattle.cql_meaning.specs.declared.command.Command.{Command}
+use Rattle.cql_asked.specs.declared.put.NoPut.{NoPut}
 use Rattle.cql_asked.specs.declared.put.Put.{Put}
 use Rattle.cql_asked.specs.declared.command.Word.TheVariants as kinds
 use Rattle.cql_asked.specs.Tree.{are_among, all_of}
-use Rattle.cql_asked.specs.Command.{keys_of, value_of}
-use Rattle.cql_asked.specs.Put.{Reads, values_of, Holds}
+use Rattle.cql_asked.specs.Command.{keys_of, value_of, of_data}
+use Rattle.cql_asked.specs.Put.{Reads, values_of, Holds, IsCall}
 use Rattle.cql_asked.proofs.Keys.{are_among-put}
 
 -- ---- single tokens
@@ -25,6 +28,16 @@ reads_string depth before s after is = ap (converted of_json) (ap (value depth) 
 
 pub reads_number : (depth : ℕ) (before : List Token) (s : List ℕ) (x : Num) (after : List Token) → before ≡ Token.number s ∷ after → number_of s ≡ Some x → Reads depth before (number x) after
 reads_number depth before s x after is of = ap (converted of_json) (ap (value depth) is ∙ value_is depth _) ∙ rw of
+
+-- no value begins with the bracket that closes a list
+no_value : (depth : ℕ) (ts r : List Token) (d : Data) (end : Option (List Token)) → after_end_array ts ≡ end → Reads depth ts d r → end ≡ None
+no_value depth ts r d None is read = refl
+no_value depth ts r d (Some s) is read =
+    let none : converted of_json (value depth ts) ≡ None = ap (λ t. converted of_json (value depth t)) (closed_array ts s is) ∙ ap (converted of_json) (value_is depth (Token.end_array ∷ s)) in
+    absurd (false≢true (ap is_some (sym none ∙ read)))
+
+pub going_on : (depth : ℕ) (ts r : List Token) (d : Data) → Reads depth ts d r → after_end_array ts ≡ None
+going_on depth ts r d read = no_value depth ts r d (after_end_array ts) refl read
 
 -- ---- lists that grow at their end
 
@@ -127,3 +140,8 @@ module _ (p : Put) (ms : Members) (h : Holds p ms) where
     row = ap (option_map values_of) (get_member-put (codes "row") _ ms) ∙ ap Some is;
     keys = among (codes "row") _ ms refl h.keys;
   })
+
+-- what the members of the whole text ask
+pub called : (o : Option Data) (p : Put) (ms : Members) (r : Result (Option (List ℕ) × Command) NoPut) → o ≡ Some (object ms) → Holds p ms → IfOk r (IsCall p) → IfOk r (λ call. of_data o ≡ Ok call)
+called o p ms (Ok call) is holds asked = ap of_data is ∙ asked ms holds
+called o p ms (Err e) is holds asked = tt

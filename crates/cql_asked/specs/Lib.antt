@@ -1,6 +1,7 @@
 pub mod Command
 pub mod Fault
 pub mod Login
+pub mod Named
 pub mod Put
 pub mod Reading
 pub mod Rules

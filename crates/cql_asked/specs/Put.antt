@@ -1,5 +1,5 @@
 -- What is read of a put, beside the members of its line; for private clauses.
-use Rattle.std.specs.Prelude.{◌≡◌, ℕ, Bool, true, false, List, codes, Option, Some, None, option_map, option_and_then, length, Result, Ok}
+use Rattle.std.specs.Prelude.{◌≡◌, ℕ, Bool, true, false, List, codes, Option, Some, None, option_map, option_and_then, length, Ok}
 use Rattle.json.specs.Token.{Token}
 use Rattle.json.specs.Json.{value, items, members}
 use Rattle.serde_json.specs.Data.{Data, number, unsigned, string, object, Items, Members, no_members, put}

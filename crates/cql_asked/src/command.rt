@@ -1,5 +1,5 @@
 //! The command of a line.
-ghost use Rattle.std.specs.Prelude.{◌≡◌, map, Some, ok_or, codes};
+ghost use Rattle.std.specs.Prelude.{◌≡◌, map, Some, IfOk, ok_or, codes};
 ghost use Rattle.cql_asked.specs.View.{view, items_view};
 ghost use Rattle.serde_json.specs.Find.{as_str};
 ghost use Rattle.serde_json.specs.Read.{read};
@@ -8,6 +8,7 @@ ghost use Rattle.cql_asked.specs.Command.{word_of, keys_of, value_of, column_of,
 ghost use Rattle.cql_asked.specs.Fault.{Means};
 
 use crate::fault::LineFault;
+use crate::named::Named;
 use crate::put::{NoPut, read_put};
 use crate::reading::{line_text, read_tree};
 use crate::tree::{
@@ -16,7 +17,7 @@ use crate::tree::{
 use cql_meaning::{ColumnText, Command};
 use cql_value::{Items, Row, Text, Value};
 use json::Scratch;
-use std::alloc::Global;
+use std::alloc::{AllocError, Global};
 
 /// The word of a command: what stands at the key `do`.
 #[derive(Clone, Copy)]
@@ -296,18 +297,70 @@ fn by_tree(
     of_tree(alloc, &tree)
 }
 
-// The command of a text: a put, or else what its tree says.
-fn of_text(
+// A name that was copied.
+fn named<'a>(text: Option<Text>) -> Option<Named<'a>>
+    ensures { result ≡ text }
+{
+    match text {
+        Some(text) => Some(Named::of_copy(text)),
+        None => None,
+    }
+}
+
+// A name of its own.
+fn owned(alloc: Global, name: Option<Named<'_>>) -> Result<Option<Text>, AllocError>
+    ensures { IfOk result (λ text. text ≡ name.entry) }
+{
+    match name {
+        Some(name) => {
+            let text = name.into_text(alloc)?;
+            Ok(Some(text))
+        }
+        None => Ok(None),
+    }
+}
+
+// The command of a text, by its tree, with the name that was copied.
+fn named_by_tree<'a>(
     alloc: Global,
     text: &str,
     scratch: &mut Scratch,
-) -> Result<(Option<Text>, Command), LineFault>
+) -> Result<(Option<Named<'a>>, Command), LineFault>
     ensures { Means (of_data (read text.now)) result }
 {
-    match read_put(alloc, text, scratch) {
+    match by_tree(alloc, text, scratch) {
+        Ok((tenant, command)) => Ok((named(tenant), command)),
+        Err(fault) => Err(fault),
+    }
+}
+
+// The command of a text: a put, or else what its tree says.
+fn of_text<'a>(
+    alloc: Global,
+    text: &'a str,
+    scratch: &mut Scratch,
+) -> Result<(Option<Named<'a>>, Command), LineFault>
+    ensures { Means (of_data (read text.now)) result }
+{
+    match read_put(alloc, text) {
         Ok(call) => Ok(call),
-        Err(NoPut::Other) => by_tree(alloc, text, scratch),
+        Err(NoPut::Other) => named_by_tree(alloc, text, scratch),
         Err(NoPut::NoMemory) => Err(LineFault::NoMemory),
+    }
+}
+
+/// As `read_command`, but a name that stands in the line isn't copied.
+#[tactic(auto, unfolding(crate::specs::Command::command_of))]
+pub fn read_addressed<'a>(
+    alloc: Global,
+    line: &'a [u8],
+    scratch: &mut Scratch,
+) -> Result<(Option<Named<'a>>, Command), LineFault>
+    ensures { Means (command_of line.now) result }
+{
+    match line_text(line) {
+        Some(text) => of_text(alloc, text, scratch),
+        None => Err(LineFault::BadLine),
     }
 }
 
@@ -317,7 +370,6 @@ fn of_text(
 /// In this order: `BadLine` (10) where the line isn't the UTF-8 text of one JSON object,
 /// `BadCommand` (11) where its key `do` is missing or no word of a command, `BadKey` (12) where
 /// another key is missing, unknown or of another kind. `NoMemory` (70) may be told of any line.
-#[tactic(auto, unfolding(crate::specs::Command::command_of))]
 pub fn read_command(
     alloc: Global,
     line: &[u8],
@@ -325,6 +377,11 @@ pub fn read_command(
 ) -> Result<(Option<Text>, Command), LineFault>
     ensures { Means (command_of line.now) result }
 {
-    let text = line_text(line).ok_or(LineFault::BadLine)?;
-    of_text(alloc, text, scratch)
+    match read_addressed(alloc, line, scratch) {
+        Ok((tenant, command)) => {
+            let tenant = owned(alloc, tenant)?;
+            Ok((tenant, command))
+        }
+        Err(fault) => Err(fault),
+    }
 }

@@ -4,6 +4,7 @@
 mod command;
 mod fault;
 mod login;
+mod named;
 mod put;
 mod reading;
 mod rules;
@@ -11,9 +12,10 @@ mod tenants;
 mod tree;
 mod values;
 
-pub use command::read_command;
+pub use command::{read_addressed, read_command};
 pub use fault::LineFault;
 pub use json::Scratch;
 pub use login::{named_tenant, read_login};
+pub use named::Named;
 pub use rules::{BrokenRule, TenantKey, TenantRule};
 pub use tenants::{TenantsFault, read_tenants};

@@ -1,18 +1,21 @@
 //! A put, read straight into its row.
 //!
-//! Most lines are puts. One that has what a put has and nothing else is read in one pass, with no
-//! tree. Whatever else a line is, and why it is refused, is told by its tree.
+//! Most lines are puts. One that has what a put has and nothing else, and is written plainly, is read
+//! in one pass, with no index and no tree. Whatever else a line is, and why it is refused, is told by
+//! its tree.
 ghost use Rattle.std.specs.Prelude.{◌≡◌, ◌<◌, length, Some, Ok, option_map, IfOk, OnOk};
 ghost use Rattle.serde_json.specs.Data.{string, number, unsigned, no_members};
 ghost use Rattle.serde_json.specs.Read.{read};
 ghost use Rattle.cql_asked.specs.Command.{of_data};
 ghost use Rattle.cql_asked.specs.Put.{Reads, ReadsValue, ReadsRow, ReadsItems, ReadsMembers, ReadsPut, Holds, Takes, IsCall};
 
+use crate::named::Named;
 use crate::reading::read_number;
 use crate::tree::Number;
 use cql_meaning::Command;
+use cql_tokens::{NotPlain, Reader};
 use cql_value::{Row, Text, Value};
-use json::{Invalid, Reader, Scratch, Token};
+use json::Token;
 use std::alloc::{AllocError, AllocFailed, Global};
 
 /// Why no put was read.
@@ -24,12 +27,12 @@ pub(crate) enum NoPut {
     NoMemory,
 }
 
-impl From<Invalid> for NoPut {
+impl From<NotPlain> for NoPut {
     ghost use Rattle.cql_asked.specs.declared.put.NoPut.TheVariants.{Other};
 
     ghost from_gives = { λ _ e. e ≡ Other };
 
-    fn from(_invalid: Invalid) -> NoPut {
+    fn from(_refused: NotPlain) -> NoPut {
         NoPut::Other
     }
 }
@@ -59,7 +62,7 @@ fn next_text<'a>(reader: &mut Reader<'a>) -> Result<&'a str, NoPut>
     ensures ok { IfOk result (λ s. Reads 126 reader.old (string s.now) reader.new) }
     ensures shorter { OnOk result (length reader.new < length reader.old) }
 {
-    let token = reader.next().ok_or(NoPut::Other)?;
+    let token = reader.scalar()?;
     match token {
         Token::String(text) => Ok(text),
         _ => Err(NoPut::Other),
@@ -71,7 +74,7 @@ fn next_whole(reader: &mut Reader<'_>) -> Result<u64, NoPut>
     ensures ok { IfOk result (λ n. Reads 126 reader.old (number (unsigned n)) reader.new) }
     ensures shorter { OnOk result (length reader.new < length reader.old) }
 {
-    let token = reader.next().ok_or(NoPut::Other)?;
+    let token = reader.scalar()?;
     match token {
         Token::Number(text) => match read_number(text) {
             Some(Number::Unsigned(n)) => Ok(n),
@@ -86,7 +89,7 @@ fn next_value(alloc: Global, reader: &mut Reader<'_>) -> Result<Value, NoPut>
     ensures ok { IfOk result (λ v. ReadsValue 125 reader.old v reader.new) }
     ensures shorter { OnOk result (length reader.new < length reader.old) }
 {
-    let token = reader.next().ok_or(NoPut::Other)?;
+    let token = reader.scalar()?;
     match token {
         Token::Number(text) => {
             let number = read_number(text).ok_or(NoPut::Other)?;
@@ -119,14 +122,9 @@ fn next_row(alloc: Global, reader: &mut Reader<'_>) -> Result<Vec<Value>, NoPut>
     ensures ok { IfOk result (λ v. ReadsRow 126 reader.old v.items reader.new) }
     ensures shorter { OnOk result (length reader.new < length reader.old) }
 {
-    let token = reader.next().ok_or(NoPut::Other)?;
-    match token {
-        Token::BeginArray => {
-            let values = next_values(alloc, reader)?;
-            Ok(values)
-        }
-        _ => Err(NoPut::Other),
-    }
+    reader.begin_array()?;
+    let values = next_values(alloc, reader)?;
+    Ok(values)
 }
 
 /// What is read of a put so far.
@@ -185,7 +183,7 @@ impl<'a> Put<'a> {
     }
 
     // The command, where nothing is missing.
-    fn command(self, alloc: Global) -> Result<(Option<Text>, Command), NoPut>
+    fn command(self, alloc: Global) -> Result<(Option<Named<'a>>, Command), NoPut>
         ensures { IfOk result (λ call. IsCall self.entry call) }
     {
         let Put {
@@ -203,17 +201,16 @@ impl<'a> Put<'a> {
         let row = row.ok_or(NoPut::Other)?;
         let row = Row::new(alloc, row)?;
         let stream = Text::new(alloc, stream)?;
-        let tenant = copied(alloc, tenant)?;
-        Ok((tenant, Command::Put { stream, at, row }))
+        Ok((named(tenant), Command::Put { stream, at, row }))
     }
 }
 
-fn copied(alloc: Global, text: Option<&str>) -> Result<Option<Text>, AllocError>
-    ensures { IfOk result (λ copy. copy ≡ option_map (λ s. s.now) text.entry) }
+fn named<'a>(text: Option<&'a str>) -> Option<Named<'a>>
+    ensures { result ≡ option_map (λ s. s.now) text.entry }
 {
     match text {
-        Some(text) => Ok(Some(Text::new(alloc, text)?)),
-        None => Ok(None),
+        Some(text) => Some(Named::of_line(text)),
+        None => None,
     }
 }
 
@@ -232,29 +229,22 @@ fn next_members<'a>(alloc: Global, reader: &mut Reader<'a>) -> Result<Put<'a>, N
 fn next_put<'a>(alloc: Global, reader: &mut Reader<'a>) -> Result<Put<'a>, NoPut>
     ensures { IfOk result (λ put. ReadsPut reader.old put reader.new) }
 {
-    let token = reader.next().ok_or(NoPut::Other)?;
-    match token {
-        Token::BeginObject => {
-            let put = next_members(alloc, reader)?;
-            Ok(put)
-        }
-        _ => Err(NoPut::Other),
-    }
+    reader.begin_object()?;
+    let put = next_members(alloc, reader)?;
+    Ok(put)
 }
 
 // The put that a text is, if it is one.
-pub(crate) fn read_put(
+pub(crate) fn read_put<'a>(
     alloc: Global,
-    text: &str,
-    scratch: &mut Scratch,
-) -> Result<(Option<Text>, Command), NoPut>
+    text: &'a str,
+) -> Result<(Option<Named<'a>>, Command), NoPut>
     ensures { IfOk result (λ call. of_data (read text.now) ≡ Ok call) }
 {
-    let mut reader = Reader::new(text, scratch)?;
+    let mut reader = Reader::new(text);
     let put = next_put(alloc, &mut reader)?;
-    if reader.next().is_some() {
+    if !reader.is_at_end() {
         return Err(NoPut::Other);
     }
-    let call = put.command(alloc)?;
-    Ok(call)
+    put.command(alloc)
 }

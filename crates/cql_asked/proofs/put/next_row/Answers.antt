@@ -1,6 +1,5 @@
 use Rattle.std.proofs.Common.{◌≡◌, ◌∷◌, length, ap, ◌∙◌, arith}
 use Rattle.json.specs.Token.{Token}
-use Rattle.json.specs.Reads.{token_of}
 use Rattle.json.specs.Json.{items, value, parse_map}
 use Rattle.json.proofs.Grammar.{value-begin_array}
 use Rattle.serde_json.specs.Data.{array}
@@ -8,11 +7,10 @@ use Rattle.serde_json.specs.Read.{of_json, converted}
 use Rattle.cql_asked.proofs.Turns.{converted-array}
 use Rattle.cql_asked.proofs.put.next_row.Goals as goal
 
-pub returns-in_ok-values-in-BeginArray-clause-ok : goal.returns-in_ok-values-in-BeginArray-clause-ok
-returns-in_ok-values-in-BeginArray-clause-ok c =
-    let first : c.args.reader.now ≡ token_of c.in_ok-token.token ∷ c.next.new.self = grind arith in
-    let is : c.args.reader.now ≡ Token.begin_array ∷ c.next.new.self = grind (arith, first) in
-    let found = c.in_ok-values-in-BeginArray.ensures.ok in
-    let rest = c.next.new.self in
+pub returns-clause-ok : goal.returns-clause-ok
+returns-clause-ok c =
+    let rest = c.begin_array.new.self in
+    let is : c.args.reader.now ≡ Token.begin_array ∷ rest = grind arith in
+    let found = c.in_ok-values.ensures.ok in
     let opened = ap (converted of_json) (ap (value 126) is ∙ value-begin_array 126 rest (omega arith)) ∙ converted-array (items (value 125) (length rest) rest) in
     (array found.0, opened ∙ ap (parse_map array) found.1, found.2)

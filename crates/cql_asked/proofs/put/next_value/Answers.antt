@@ -1,4 +1,4 @@
-use Rattle.std.proofs.Common.{◌≡◌, ◌∷◌, Some, None, option_map, option_and_then, refl, sym, ap, ◌∙◌, arith, rules}
+use Rattle.std.proofs.Common.{◌≡◌, ◌∷◌, Some, arith, rules}
 use Rattle.json.specs.Token.{Token}
 use Rattle.json.specs.Reads.{token_of}
 use Rattle.serde_json.specs.Data.{number, string}
@@ -10,15 +10,15 @@ use Rattle.cql_asked.proofs.put.next_value.Goals as goal
 
 pub returns-in_ok-number-in-Number-2-clause-ok : goal.returns-in_ok-number-in-Number-2-clause-ok
 returns-in_ok-number-in-Number-2-clause-ok c =
-    let first : c.args.reader.now ≡ token_of c.in_ok-token.token ∷ c.next.new.self = grind arith in
-    let is : c.args.reader.now ≡ Token.number c.in-Number.text.now ∷ c.next.new.self = grind (arith, first) in
+    let first : c.args.reader.now ≡ token_of c.in_ok-token.token ∷ c.scalar.new.self = grind arith in
+    let is : c.args.reader.now ≡ Token.number c.in-Number.text.now ∷ c.scalar.new.self = grind (arith, first) in
     let x = num_view c.in_ok-number-in-Number.number in
     let read : number_of c.in-Number.text.now ≡ Some x = grind arith in
     let whole : as_i64 x ≡ Some c.in_ok-number-in-Number-2.number = grind arith in
-    (number x, reads_number 125 c.args.reader.now c.in-Number.text.now x c.next.new.self is read, rw whole (search rules))
+    (number x, reads_number 125 c.args.reader.now c.in-Number.text.now x c.scalar.new.self is read, rw whole (search rules))
 
 pub returns-in_ok-text-in-String-clause-ok : goal.returns-in_ok-text-in-String-clause-ok
 returns-in_ok-text-in-String-clause-ok c =
-    let first : c.args.reader.now ≡ token_of c.in_ok-token.token ∷ c.next.new.self = grind arith in
-    let is : c.args.reader.now ≡ Token.string c.in-String.text.now ∷ c.next.new.self = grind (arith, first) in
-    (string c.in-String.text.now, reads_string 125 c.args.reader.now c.in-String.text.now c.next.new.self is, search rules)
+    let first : c.args.reader.now ≡ token_of c.in_ok-token.token ∷ c.scalar.new.self = grind arith in
+    let is : c.args.reader.now ≡ Token.string c.in-String.text.now ∷ c.scalar.new.self = grind (arith, first) in
+    (string c.in-String.text.now, reads_string 125 c.args.reader.now c.in-String.text.now c.scalar.new.self is, search rules)

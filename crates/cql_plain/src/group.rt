@@ -1,5 +1,5 @@
 // The items of a shape on the groups of a bag.
-ghost use Rattle.std.specs.Prelude.{◌≡◌, ◌≤◌, ◌∷◌, length, None, IfOk, IsTrue, OnOk};
+ghost use Rattle.std.specs.Prelude.{◌≡◌, ◌≤◌, [], ◌∷◌, length, None, IfOk, IsTrue, OnOk};
 ghost use Rattle.std.specs.Option.{option_copied, option_map};
 ghost use Rattle.cql_algebra.specs.Shape.{best_from, item_over, items_over, key_of, is_first};
 ghost use Rattle.cql_bag.specs.Bag.{Counts, IsBag, put_all};
@@ -93,6 +93,15 @@ fn put_run(run: Vec<(Row, u64)>, group: &mut Bag) -> Result<(), AllocError>
     Ok(())
 }
 
+// A run of this row alone.
+fn run_of(alloc: Global, row: &Row, times: u64) -> Result<Vec<(Row, u64)>, AllocError>
+    ensures { IfOk result (λ run. run.items ≡ (row.now, times) ∷ []) }
+{
+    let mut run = Vec::new(alloc);
+    run.push((row.try_clone(alloc)?, times))?;
+    Ok(run)
+}
+
 // The row so many times more in the group of its key, and the rows behind it that have this key.
 // Gives the first one that has another.
 fn put_in_group<'a>(
@@ -111,8 +120,7 @@ fn put_in_group<'a>(
     ensures fewer { IfOk result (λ next. length (entries_from (option_map (λ e. (e.0.now, e.1.now)) next) left.new) ≤ length left.old) }
 {
     let key = key(alloc, columns, row.values())?;
-    let mut run = Vec::new(alloc);
-    run.push((row.try_clone(alloc)?, times))?;
+    let mut run = run_of(alloc, row, times)?;
     let next = take_run(alloc, columns, key.values(), left, &mut run, meter)?;
     let group = groups.entry(key)?.or_insert(Bag::new(alloc));
     put_run(run, group)?;

@@ -1,3 +1,4 @@
+use Rattle.std.proofs.lemmas.Grind.{common_steps}
 use Rattle.std.proofs.Common.{rules, ◌≡◌, ◌++◌, ◌∷◌, [], length, sym, ap, subst, ◌∙◌, arith}
 use Rattle.std.specs.BTreeMap.{insert_entry}
 use Rattle.cql_value.specs.Order.{row_cmp}
@@ -28,3 +29,24 @@ loop-row-preserved c =
       bag = here.1;
       fewer = omega (arith, ap length cut, c.loop-row.invariant.fewer);
     }
+
+pub loop-row-smaller : goal.loop-row-smaller
+loop-row-smaller c = grind (arith, common_steps)
+
+pub returns-clause-made : goal.returns-clause-made
+returns-clause-made c = grind (arith, common_steps)
+
+pub returns-clause-some : goal.returns-clause-some
+returns-clause-some c = grind (arith, common_steps)
+
+pub returns-then-not-has_key-clause-bag : goal.returns-then-not-has_key-clause-bag
+returns-then-not-has_key-clause-bag c = grind (arith, common_steps)
+
+pub returns-then-not-has_key-clause-fewer : goal.returns-then-not-has_key-clause-fewer
+returns-then-not-has_key-clause-fewer c = grind (arith, common_steps)
+
+pub returns-then-not-has_key-clause-made : goal.returns-then-not-has_key-clause-made
+returns-then-not-has_key-clause-made c = grind (arith, common_steps)
+
+pub returns-then-not-has_key-clause-some : goal.returns-then-not-has_key-clause-some
+returns-then-not-has_key-clause-some c = grind (arith, common_steps)

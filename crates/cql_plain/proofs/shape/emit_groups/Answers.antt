@@ -15,3 +15,6 @@ returns-clause-told c = groups_told c.node_types_law.ensures c.args.shape.now c.
 
 pub returns-clause-keeps : goal.returns-clause-keeps
 returns-clause-keeps c = groups_keep c.node_types_law.ensures c.args.shape.now c.args.port.now c.args.told.now c.in_ok-value.value c.requires c.in_ok-value.ensures.ok
+
+pub returns-in_err-value-clause-kept : goal.returns-in_err-value-clause-kept
+returns-in_err-value-clause-kept c = search rules

@@ -1,4 +1,5 @@
-use Rattle.std.proofs.Common.{◌≡◌, inr, refl, sym, subst, arith}
+use Rattle.std.proofs.lemmas.Grind.{common_steps}
+use Rattle.std.proofs.Common.{rules, ◌≡◌, inr, refl, sym, subst, arith}
 use Rattle.cql_algebra.specs.Shape.{items_on}
 use Rattle.cql_plain.specs.Logs.{logged_bag, told_image}
 use Rattle.cql_plain.specs.Shaped.{TellsShape}
@@ -16,3 +17,9 @@ returns-clause-told c =
     let none : rows.lacking ≡ 0 = omega arith in
     let told = rows_told c.same_counts.ensures c.put_all_counts.ensures c.take_counts.ensures shape rows c.requires c.tells_law.ensures c.item_types_law.ensures c.args.out.now.items c.append.new.self.items none c.in_ok-append.ensures.items in
     subst (λ l. TellsShape shape (logged_bag rows.log) (told_image f rows.log) (told_image f l) c.args.out.now.items c.append.new.self.items) (sym c.tell.ensures) told
+
+pub returns-clause-keeps : goal.returns-clause-keeps
+returns-clause-keeps c = grind (arith, common_steps)
+
+pub returns-in_err-append-clause-kept : goal.returns-in_err-append-clause-kept
+returns-in_err-append-clause-kept c = search rules

@@ -1,4 +1,4 @@
-use Rattle.std.proofs.Common.{◌≡◌, ◌≤◌, length, [], sym, ◌∙◌, arith}
+use Rattle.std.proofs.Common.{◌≤◌, length, sym, ◌∙◌, arith}
 use Rattle.std.proofs.lemmas.List.{drop_all}
 use Rattle.cql_tokens.proofs.cursor.Cursor.is_at_end.Goals as goal
 

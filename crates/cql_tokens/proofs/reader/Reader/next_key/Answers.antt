@@ -1,4 +1,4 @@
-use Rattle.std.proofs.Common.{◌≡◌, ◌∷◌, Some, sym, ap, ◌∙◌, arith}
+use Rattle.std.proofs.Common.{◌≡◌, ◌∷◌, sym, ap, ◌∙◌, arith}
 use Rattle.json.specs.Token.{string}
 use Rattle.json.specs.Lex.{token, between, lex}
 use Rattle.json.specs.Json.{read_key}

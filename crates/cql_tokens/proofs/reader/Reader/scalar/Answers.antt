@@ -1,4 +1,4 @@
-use Rattle.std.proofs.Common.{◌≡◌, sym, ◌∙◌, arith}
+use Rattle.std.proofs.Common.{sym, ◌∙◌, arith}
 use Rattle.json.specs.Reads.{token_of}
 use Rattle.cql_tokens.specs.Plain.{Passes, IsScalar}
 use Rattle.cql_tokens.proofs.Steps.{scalar_read}

@@ -1,6 +1,6 @@
 // A bag whose rows mostly go in the order in which they came.
 ghost use Rattle.std.specs.Prelude.{◌≡◌, [], Some, slice_get, IsTrue, IfSome, OnOk};
-ghost use Rattle.cql_bag.specs.Bag.{IsBag, less_one, put, put_rows};
+ghost use Rattle.cql_bag.specs.Bag.{IsBag, less_one, put_rows};
 ghost use Rattle.cql_bag.specs.Changes.{changed};
 
 use cql_bag::{Bag, Change};
@@ -61,11 +61,7 @@ fn put_in_order(waiting: &mut VecDeque<Row>, ordered: &mut Bag) -> Result<(), Al
 }
 
 // One fewer of the row, if there is one.
-fn take_row(
-    waiting: &mut VecDeque<Row>,
-    ordered: &mut Bag,
-    row: &Row,
-) -> Result<(), AllocError>
+fn take_row(waiting: &mut VecDeque<Row>, ordered: &mut Bag, row: &Row) -> Result<(), AllocError>
     requires { IsBag ordered.old }
     ensures bag { IsBag ordered.new }
     ensures rows { OnOk result (put_rows waiting.new.items ordered.new ≡ less_one row.now (put_rows waiting.old.items ordered.old)) }

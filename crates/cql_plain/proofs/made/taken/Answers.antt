@@ -4,6 +4,3 @@ use Rattle.cql_plain.proofs.made.taken.Goals as goal
 
 pub returns-clause-rest : goal.returns-clause-rest
 returns-clause-rest c = grind (arith, common_steps)
-
-pub returns-then-is_same-clause-rest : goal.returns-then-is_same-clause-rest
-returns-then-is_same-clause-rest c = grind (arith, common_steps)

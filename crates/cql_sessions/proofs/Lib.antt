@@ -1,1 +1,4 @@
+pub mod Attending
 pub mod Crosses
+pub mod Serving
+pub mod Visiting

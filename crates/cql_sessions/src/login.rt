@@ -1,8 +1,11 @@
 // The login of a session.
-ghost use Rattle.std.specs.Prelude.{◌≡◌, [], IfOk, IfNone};
+ghost use Rattle.std.specs.Prelude.{◌≡◌, ◌++◌, [], IfOk, IfNone};
 ghost use Rattle.cql_sessions.specs.Asked.{logged_in};
 ghost use Rattle.cql_asked.specs.Login.{LogsIn};
 ghost use Rattle.cql_lines.specs.Next.{text_of};
+ghost use Rattle.cql_lines.specs.Watched.{inner_of};
+ghost use Rattle.cql_wire.specs.Gathered.{Leaves};
+ghost use Rattle.cql_sessions.specs.Answering.{login_line};
 
 use cql_core::{Reply, TenantId, TenantTable};
 use cql_wire::{Gathered, Line, LineFault, ScriptError, Watched, named_tenant, read_login};
@@ -39,6 +42,8 @@ pub(crate) fn answer_login<W: Write>(
 ) -> Result<Option<TenantId>, ScriptError>
     ensures whose { IfOk result (λ tenant. tenant ≡ logged_in table.now (text_of line.entry)) }
     ensures told { IfOk result (λ tenant. IfNone tenant (gathered.new ≡ [])) }
+    ensures gathers { IfOk result (λ tenant. Leaves (W.contents (inner_of writer.old)) (W.contents (inner_of writer.new))
+        (gathered.old ++ login_line tenant) gathered.new) }
 {
     match tenant_of(alloc, table, line) {
         Ok(tenant) => {

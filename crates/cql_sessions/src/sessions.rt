@@ -1,5 +1,9 @@
 // One session.
-ghost use Rattle.std.specs.Prelude.{◌≡◌, [], true, false, None, IfSome, OnOk, All};
+ghost use Rattle.std.specs.Prelude.{◌≡◌, ◌++◌, List, ℕ, [], true, false, Some, None, IfSome, OnOk, OnErr, All, is_none, is_ok, vec_len, ◌<◌};
+ghost use Rattle.std.specs.Io.KnownBytes.{Appends};
+ghost use Rattle.cql_lines.specs.Text.{lines_of};
+ghost use Rattle.cql_lines.specs.Watched.{inner_of};
+ghost use Rattle.cql_sessions.specs.Visiting.{account_of, left_of, login_among, IsNew, Attended, Stops, Comes, Reads, ReadsAtStop};
 ghost use Rattle.cql_sessions.specs.Tallies.{placed};
 
 use crate::caller::Service;
@@ -58,6 +62,8 @@ where
     ensures whose { IfSome result.seat (λ s. All (λ r. r.tenant ≡ s.tenant) result.receipts.items) }
     ensures bare { J.keeps ≡ false → result.receipts.items ≡ [] }
     ensures nobody { result.seat ≡ None → result.receipts.items ≡ [] }
+    ensures seated { IfSome result.seat (λ s. IfSome (R.remaining reader) (λ text. login_among table.now (lines_of text) ≡ Some s.tenant)) }
+    ensures attended { (told : List ℕ) × Attended table.now J.keeps (R.remaining reader) told (left_of result) (is_none result.fault) }
 {
     let mut reader = Watched::new(reader);
     let mut writer = Watched::new(writer);
@@ -88,6 +94,9 @@ fn attend<H: Wait, J: Journal, E: Evaluator, G: Gate, R: Read, W: Write>(
     requires going { visit.old.is_held ≡ false }
     ensures bench { E.is_ready bench.new }
     ensures kept { visit.new.is_kept ≡ visit.old.is_kept }
+    ensures attended { IsNew visit.old → (told : List ℕ)
+        × Attended service.now.table.now visit.old.is_kept (R.remaining (inner_of reader.old)) told (account_of visit.new.caller) (is_ok result)
+        × OnOk result (Appends (W.contents (inner_of writer.old)) (W.contents (inner_of writer.new)) told) }
 {
     visit.make_room(service.alloc)?;
     let mut desk = Desk::new(service.alloc)?;
@@ -113,9 +122,14 @@ fn read_once<H: Wait, J: Journal, E: Evaluator, G: Gate, R: Read, W: Write>(
 ) -> Result<(), ScriptError>
     requires bench { E.is_ready bench.old }
     requires going { visit.old.is_held ≡ false }
+    requires room { 0 < vec_len desk.old.chunk }
     ensures bench { E.is_ready bench.new }
     ensures kept { visit.new.is_kept ≡ visit.old.is_kept }
     ensures going { OnOk result (visit.new.is_held ≡ false) }
+    ensures reads { OnOk result (Reads service.now.table.now visit.old visit.new (R.remaining (inner_of reader.old)) (R.remaining (inner_of reader.new))
+        (W.contents (inner_of writer.old)) (W.contents (inner_of writer.new)) desk.old.gathered desk.new.gathered) }
+    ensures stops { OnErr result (ReadsAtStop service.now.table.now visit.old visit.new (R.remaining (inner_of reader.old)) (R.remaining (inner_of reader.new))) }
+    ensures room { vec_len desk.new.chunk ≡ vec_len desk.old.chunk }
 {
     let Desk {
         chunk,
@@ -154,6 +168,10 @@ fn take_lines<H: Wait, J: Journal, E: Evaluator, G: Gate, W: Write>(
     ensures bench { E.is_ready bench.new }
     ensures kept { visit.new.is_kept ≡ visit.old.is_kept }
     ensures going { OnOk result (visit.new.is_held ≡ false) }
+    ensures input { visit.new.is_ended ≡ visit.old.is_ended }
+    ensures comes { OnOk result (Comes service.now.table.now visit.old visit.new bytes.now
+        (W.contents (inner_of writer.old)) (W.contents (inner_of writer.new)) gathered.old gathered.new) }
+    ensures stops { OnErr result (Stops service.now.table.now visit.old visit.new bytes.now) }
 {
     let mut rest = bytes;
     while !rest.is_empty() && !visit.is_over() {

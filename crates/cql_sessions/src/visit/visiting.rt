@@ -1,0 +1,264 @@
+// What a session does with the pieces of its input.
+ghost use Rattle.std.specs.Prelude.{◌≡◌, ◌≢◌, ◌≤◌, ◌++◌, ◌||◌, List, ℕ, [], true, false, None, IfSome, IfOk, OnOk, OnErr, is_none, option_map, length, min, take};
+ghost use Rattle.cql_lines.specs.Text.{shown_line};
+ghost use Rattle.cql_lines.specs.Watched.{inner_of};
+ghost use Rattle.cql_sessions.specs.Tallies.{Tallies};
+ghost use Rattle.cql_sessions.specs.Visiting.{account_of, left_of, ServesLine, IsNew, HasGoneOn, Facing, Goes, GoesOn, Stops, Stopped};
+
+use crate::caller::{Caller, Outcome, Service};
+use crate::login::{answer_login, named_in};
+use crate::sessions::SessionEnd;
+use crate::visit::{Step, Visit};
+use cql_core::{Evaluator, TenantId};
+use cql_hall::{Gate, Journal, Point};
+use cql_lines::Intake;
+use cql_wire::{Gathered, Scratch, ScriptError, Watched};
+use std::alloc::{AllocError, Global};
+use std::io::Write;
+use std::sync::Wait;
+
+impl Visit {
+    /// Nothing has come yet. Takes no memory.
+    pub(crate) fn new<J: Journal>(alloc: Global) -> Visit
+        ensures kept { result.is_kept ≡ J.keeps }
+        ensures going { result.is_held ≡ false }
+        ensures begins { IsNew result }
+    {
+        Visit {
+            caller: None,
+            intake: Intake::new(alloc),
+            is_kept: J::is_kept(),
+            is_held: false,
+            is_ended: false,
+            is_over: false,
+        }
+    }
+
+    /// Takes room for the longest line, where nothing has come yet.
+    pub(crate) fn make_room(&mut self, alloc: Global) -> Result<(), AllocError>
+        ensures kept { self.new.is_kept ≡ self.old.is_kept }
+        ensures going { self.new.is_held ≡ self.old.is_held }
+        ensures begins { IsNew self.old → IsNew self.new }
+    {
+        self.intake = Intake::with_room(alloc)?;
+        Ok(())
+    }
+
+    /// Whether its calls are kept.
+    pub(crate) fn is_kept(&self) -> bool
+        ensures { result ≡ self.now.is_kept }
+    {
+        self.is_kept
+    }
+
+    /// Whether a fetch waits to be answered. No bytes are taken before it is.
+    pub(crate) fn is_held(&self) -> bool
+        ensures { result ≡ self.now.is_held }
+    {
+        self.is_held
+    }
+
+    /// Whether no more is answered.
+    pub(crate) fn is_over(&self) -> bool
+        ensures { result ≡ self.now.is_over }
+    {
+        self.is_over
+    }
+
+    /// Whether it is over since its login was refused, and not since nothing more came.
+    pub(crate) fn is_refused(&self) -> bool {
+        self.is_over && !self.is_ended && self.caller.is_none()
+    }
+
+    /// Whose calls it makes, once its caller has logged in.
+    pub(crate) fn tenant(&self) -> Option<TenantId>
+        ensures { result ≡ option_map (λ caller. caller.seat.tenant) self.now.caller }
+    {
+        match &self.caller {
+            Some(caller) => Some(caller.tenant()),
+            None => None,
+        }
+    }
+
+    /// Gives the memory of the line back, where nothing of it has come.
+    pub(crate) fn rest(&mut self)
+        ensures { self.new ≡ self.old }
+    {
+        self.intake.rest();
+    }
+
+    /// Takes bytes up to and with the first line feed, or all where there is none, and answers the
+    /// line if it is whole and isn't blank: the first by the login's answer, each later one by one
+    /// line. Where no fetch may be answered now, one is held.
+    pub(crate) fn take_line<H: Wait, J: Journal, E: Evaluator, G: Gate, W: Write>(
+        &mut self,
+        service: &Service<'_, H, J, G>,
+        bench: &mut E,
+        bytes: &[u8],
+        may_fetch: bool,
+        gathered: &mut Gathered,
+        scratch: &mut Scratch,
+        writer: &mut Watched<W>,
+    ) -> Result<Step, ScriptError>
+        requires bench { E.is_ready bench.old }
+        requires going { self.old.is_held ≡ false }
+        ensures bench { E.is_ready bench.new }
+        ensures kept { self.new.is_kept ≡ self.old.is_kept }
+        ensures going { may_fetch ≡ true → OnOk result (self.new.is_held ≡ false) }
+        ensures input { self.new.is_ended ≡ self.old.is_ended }
+        ensures visits { IfOk result (λ step. Goes service.now.table.now self.old self.new (take step.count bytes.now)
+            (W.contents (inner_of writer.old)) (W.contents (inner_of writer.new)) gathered.old gathered.new) }
+        ensures stops { OnErr result (Stops service.now.table.now self.old self.new bytes.now) }
+        ensures within { IfOk result (λ step. step.count ≤ length bytes.now) }
+        ensures some { IfOk result (λ step. min 1 (length bytes.now) ≤ step.count) }
+    {
+        let taken = self.intake.take(bytes)?;
+        if !taken.is_whole {
+            return Ok(Step {
+                count: taken.count,
+                outcome: Outcome::Short,
+            });
+        }
+        let outcome = self.answer_whole(service, bench, may_fetch, gathered, scratch, writer)?;
+        Ok(Step {
+            count: taken.count,
+            outcome,
+        })
+    }
+
+    /// Nothing more comes: answers the line that no line feed has ended, if it isn't blank. Where
+    /// no fetch may be answered now, one is held.
+    pub(crate) fn end<H: Wait, J: Journal, E: Evaluator, G: Gate, W: Write>(
+        &mut self,
+        service: &Service<'_, H, J, G>,
+        bench: &mut E,
+        may_fetch: bool,
+        gathered: &mut Gathered,
+        scratch: &mut Scratch,
+        writer: &mut Watched<W>,
+    ) -> Result<Outcome, ScriptError>
+        requires bench { E.is_ready bench.old }
+        ensures bench { E.is_ready bench.new }
+        ensures kept { self.new.is_kept ≡ self.old.is_kept }
+        ensures going { may_fetch ≡ true → OnOk result (self.new.is_held ≡ false) }
+        ensures ended { self.new.is_ended ≡ true }
+        ensures visits { OnOk result (Goes service.now.table.now self.old self.new []
+            (W.contents (inner_of writer.old)) (W.contents (inner_of writer.new)) gathered.old gathered.new) }
+        ensures stops { OnErr result (Stops service.now.table.now self.old self.new []) }
+    {
+        self.is_ended = true;
+        self.answer_whole(service, bench, may_fetch, gathered, scratch, writer)
+    }
+
+    /// Answers the line that is whole, if it isn't blank, and goes to the next one. Where no fetch
+    /// may be answered now, one is held.
+    pub(crate) fn answer_whole<H: Wait, J: Journal, E: Evaluator, G: Gate, W: Write>(
+        &mut self,
+        service: &Service<'_, H, J, G>,
+        bench: &mut E,
+        may_fetch: bool,
+        gathered: &mut Gathered,
+        scratch: &mut Scratch,
+        writer: &mut Watched<W>,
+    ) -> Result<Outcome, ScriptError>
+        requires bench { E.is_ready bench.old }
+        ensures bench { E.is_ready bench.new }
+        ensures kept { self.new.is_kept ≡ self.old.is_kept }
+        ensures going { may_fetch ≡ true → OnOk result (self.new.is_held ≡ false) }
+        ensures input { self.new.is_ended ≡ self.old.is_ended }
+        ensures answers { OnOk result (GoesOn service.now.table.now self.old self.new
+            (W.contents (inner_of writer.old)) (W.contents (inner_of writer.new)) gathered.old gathered.new) }
+        ensures stops { OnErr result ((bytes told : List ℕ) → Facing service.now.table.now bytes told self.old → Stopped service.now.table.now bytes self.new) }
+    {
+        if !self.intake.counts() {
+            self.go_on();
+            return Ok(Outcome::Short);
+        }
+        let outcome = self.answer(service, bench, may_fetch, gathered, scratch, writer)?;
+        if outcome == Outcome::Held {
+            self.is_held = true;
+            return Ok(outcome);
+        }
+        self.go_on();
+        Ok(outcome)
+    }
+
+    // Goes to the next line, where one may come.
+    fn go_on(&mut self)
+        ensures kept { self.new.is_kept ≡ self.old.is_kept }
+        ensures held { self.new.is_held ≡ false }
+        ensures gone { HasGoneOn self.old self.new }
+    {
+        self.intake.clear();
+        self.is_held = false;
+        if self.is_ended {
+            self.is_over = true;
+        }
+    }
+
+    // Answers the line, by its caller's seat or as the login.
+    fn answer<H: Wait, J: Journal, E: Evaluator, G: Gate, W: Write>(
+        &mut self,
+        service: &Service<'_, H, J, G>,
+        bench: &mut E,
+        may_fetch: bool,
+        gathered: &mut Gathered,
+        scratch: &mut Scratch,
+        writer: &mut Watched<W>,
+    ) -> Result<Outcome, ScriptError>
+        requires bench { E.is_ready bench.old }
+        ensures bench { E.is_ready bench.new }
+        ensures kept { self.new.is_kept ≡ self.old.is_kept }
+        ensures held { IfOk result (λ outcome. may_fetch ≡ true → outcome ≢ Outcome.Held) }
+        ensures line { (self.new.intake ≡ self.old.intake) × (self.new.is_held ≡ self.old.is_held) × (self.new.is_ended ≡ self.old.is_ended) }
+        ensures over { IfOk result (λ outcome. self.new.is_over ≡ (is_none self.new.caller || self.old.is_over)) }
+        ensures answers { ServesLine service.now.table.now self.old.is_kept (shown_line self.old.intake) (account_of self.old.caller) (account_of self.new.caller)
+            (W.contents (inner_of writer.old)) (W.contents (inner_of writer.new)) gathered.old gathered.new result }
+    {
+        let line = self.intake.line();
+        if let Some(caller) = &mut self.caller {
+            let outcome = caller.answer(
+                service, bench, line, may_fetch, gathered, scratch, writer,
+            )?;
+            return Ok(outcome);
+        }
+        let alloc = service.alloc;
+        match answer_login(alloc, service.table, line, gathered, writer)? {
+            Some(tenant) => {
+                service.gate.at(Point::LoggedIn(tenant));
+                self.caller = Some(Caller::new(alloc, service.hall, tenant, self.is_kept));
+            }
+            None => {
+                let named = named_in(alloc, service.table, line);
+                service.gate.at(Point::NotLoggedIn(named));
+                self.is_over = true;
+            }
+        }
+        Ok(Outcome::Short)
+    }
+
+    /// How it ends.
+    pub(crate) fn into_end(self, alloc: Global, fault: Option<ScriptError>) -> SessionEnd
+        ensures tallies { IfSome result.seat (λ s. Tallies self.is_kept s result.receipts.items) }
+        ensures nobody { result.seat ≡ None → result.receipts.items ≡ [] }
+        ensures left { left_of result ≡ account_of self.caller }
+        ensures fault { result.fault ≡ fault }
+    {
+        let Visit {
+            caller,
+            intake: _,
+            is_kept: _,
+            is_held: _,
+            is_ended: _,
+            is_over: _,
+        } = self;
+        match caller {
+            Some(caller) => caller.into_end(fault),
+            None => SessionEnd {
+                seat: None,
+                receipts: Vec::new(alloc),
+                fault,
+            },
+        }
+    }
+}

@@ -6,7 +6,8 @@ ghost use Rattle.std.specs.Prelude.{◌≤◌, IfOk};
 
 mod files;
 
-use clap::{Arg, ArgAction, Command, Error};
+use clap::builder::ValueParser;
+use clap::{Arg, ArgAction, Command, Error, value_parser};
 pub use files::callers_with_files;
 use std::alloc::Global;
 
@@ -115,80 +116,122 @@ fn command<'a>(alloc: Global) -> Result<Command<'a>, Error> {
     Ok(command.args(words)?)
 }
 
-// A word that takes a value, what the value is called, and what it is where none is given.
+// A word that takes a value: what the value is called, what it is where none is given, and how it is
+// read.
 fn valued<'a>(
     alloc: Global,
     word: &'a str,
     value: &'a str,
     default: &'a str,
     help: &'a str,
+    parser: ValueParser<'a>,
 ) -> Arg<'a> {
     Arg::new(alloc, word)
         .long(word)
         .value_name(value)
         .default_value(default)
         .help(help)
+        .value_parser(parser)
 }
 
 fn port<'a>(alloc: Global) -> Arg<'a> {
     let help = "The port of 127.0.0.1, or 0 for one that the system chooses";
-    valued(alloc, "port", "N", "0", help).value_parser(clap::value_parser!(u16))
+    valued(alloc, "port", "N", "0", help, value_parser!(u16))
 }
 
 fn workers<'a>(alloc: Global) -> Arg<'a> {
     let help = "How many threads serve callers, 1 to 64";
-    valued(alloc, "workers", "N", "4", help).value_parser(clap::value_parser!(u8).range(1..=64))
+    valued(
+        alloc,
+        "workers",
+        "N",
+        "4",
+        help,
+        value_parser!(u8).range(1..=64),
+    )
 }
 
 fn callers<'a>(alloc: Global) -> Arg<'a> {
     let help = "How many callers are connected at once, 1 to 65536; further ones wait";
-    valued(alloc, "callers", "N", "1024", help).value_parser(clap::value_parser!(u32).range(
-        1..=65_536,
-    ))
+    valued(
+        alloc,
+        "callers",
+        "N",
+        "1024",
+        help,
+        value_parser!(u32).range(1..=65_536),
+    )
 }
 
 fn sessions<'a>(alloc: Global) -> Arg<'a> {
     let help = "How many sessions are served in all, or 0 for no end";
-    valued(alloc, "sessions", "N", "0", help).value_parser(clap::value_parser!(u16))
+    valued(alloc, "sessions", "N", "0", help, value_parser!(u16))
 }
 
 fn login<'a>(alloc: Global) -> Arg<'a> {
     let help = "By when a session's login line has to be whole, or 0 for never";
-    valued(alloc, "login", "SECONDS", "10", help).value_parser(clap::value_parser!(u16).range(
-        0..=3600,
-    ))
+    valued(
+        alloc,
+        "login",
+        "SECONDS",
+        "10",
+        help,
+        value_parser!(u16).range(0..=3600),
+    )
 }
 
 fn idle<'a>(alloc: Global) -> Arg<'a> {
     let help = "How long a session waits for its caller, or 0 for no end";
-    valued(alloc, "idle", "SECONDS", "0", help).value_parser(clap::value_parser!(u32).range(
-        0..=86_400,
-    ))
+    valued(
+        alloc,
+        "idle",
+        "SECONDS",
+        "0",
+        help,
+        value_parser!(u32).range(0..=86_400),
+    )
 }
 
 fn answer<'a>(alloc: Global) -> Arg<'a> {
     let help = "How long an answer is computed before it is given up, or 0 for no end";
-    valued(alloc, "answer", "SECONDS", "60", help).value_parser(clap::value_parser!(u32).range(
-        0..=86_400,
-    ))
+    valued(
+        alloc,
+        "answer",
+        "SECONDS",
+        "60",
+        help,
+        value_parser!(u32).range(0..=86_400),
+    )
 }
 
 fn join<'a>(alloc: Global) -> Arg<'a> {
     let help = "How joins and groups are computed: plain, all rows anew, or keyed, what changes";
-    valued(alloc, "join", "FORM", "keyed", help).value_parser(JOIN_FORMS)
+    valued(alloc, "join", "FORM", "keyed", help, JOIN_FORMS.into())
 }
 
 fn log<'a>(alloc: Global) -> Arg<'a> {
     let help =
         "How often counts are told on standard error, with who comes and leaves, or 0 for nothing";
-    valued(alloc, "log", "SECONDS", "0", help).value_parser(clap::value_parser!(u32).range(
-        0..=86_400,
-    ))
+    valued(
+        alloc,
+        "log",
+        "SECONDS",
+        "0",
+        help,
+        value_parser!(u32).range(0..=86_400),
+    )
 }
 
 fn warm<'a>(alloc: Global) -> Arg<'a> {
     let help = "How many answers are kept to go on from, or 0 for none";
-    valued(alloc, "warm", "N", "64", help).value_parser(clap::value_parser!(u16).range(0..=1024))
+    valued(
+        alloc,
+        "warm",
+        "N",
+        "64",
+        help,
+        value_parser!(u16).range(0..=1024),
+    )
 }
 
 // A word that takes no value.

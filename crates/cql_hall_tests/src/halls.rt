@@ -182,7 +182,21 @@ fn pass_by<C: Clock + Sync>(
     gate.wait_for_pinned();
     let command = put(alloc, "s", 7)?;
     let _put = receipt(rt, alloc, hall, seat, gate, command)?;
-    fetch_through(rt, alloc, hall, seat, gate)
+    fetch_looking(rt, alloc, hall, seat, gate)
+}
+
+// A fetch that isn't answered: what the gate was told before is noted where it would be.
+fn fetch_looking<C: Clock + Sync>(
+    rt: &impl Wait,
+    alloc: Global,
+    hall: &Hall<Kept>,
+    seat: &mut Seat,
+    gate: &Holding<C>,
+) -> Result<(), AllocError> {
+    let prepared = prepare(alloc, fetch(alloc)?)?;
+    let pending = hall.call(rt, gate, seat, prepared);
+    let _given_up = pending.finish(alloc, &mut gate.looker(), gate);
+    Ok(())
 }
 
 fn fetch_through(
@@ -255,6 +269,8 @@ fn a_fetch_is_held(rt: HostRuntime) -> Result<(), Fail> {
     make_query(&rt, alloc, &hall, &mut one)?;
     fetch_beside(&rt, alloc, &hall, &mut one, &mut two, &gate)?;
     assert!(rt; !gate.is_expired());
+    // Both fetches, and the put.
+    assert!(rt; gate.seen() == (2, 1));
     let ended = hall.close(&[one, two])?;
     assert!(rt; have_marks(&ended.entries, MARKS));
     Ok(())

@@ -1,5 +1,7 @@
 //! A gate that holds one call while others are served.
+use cql_core::{Answer, Evaluator, Pin};
 use cql_hall::{Gate, Point};
+use std::alloc::{AllocError, Global};
 use std::sync::atomic::{AtomicU64, Ordering};
 use std::thread;
 use std::time::{Clock, Duration};
@@ -14,6 +16,8 @@ pub struct Holding<C> {
     pinned: AtomicU64,
     answered: AtomicU64,
     expired: AtomicU64,
+    seen_pinned: AtomicU64,
+    seen_answered: AtomicU64,
 }
 
 impl<C: Clock> Holding<C> {
@@ -25,6 +29,8 @@ impl<C: Clock> Holding<C> {
             pinned: AtomicU64::new(0),
             answered: AtomicU64::new(0),
             expired: AtomicU64::new(0),
+            seen_pinned: AtomicU64::new(0),
+            seen_answered: AtomicU64::new(0),
         }
     }
 
@@ -36,6 +42,25 @@ impl<C: Clock> Holding<C> {
     /// Whether no turn was left.
     pub fn is_expired(&self) -> bool {
         self.expired.load(Ordering::SeqCst) != 0
+    }
+
+    /// How many calls were pinned and how many were answered, as it was told, when its looker was
+    /// asked last.
+    pub fn seen(&self) -> (u64, u64) {
+        let pinned = self.seen_pinned.load(Ordering::SeqCst);
+        (pinned, self.seen_answered.load(Ordering::SeqCst))
+    }
+
+    /// What notes that, in the place of a bench.
+    pub fn looker(&self) -> Looker<'_, C> {
+        Looker { gate: self }
+    }
+
+    fn look(&self) {
+        let pinned = self.pinned.load(Ordering::SeqCst);
+        self.seen_pinned.store(pinned, Ordering::SeqCst);
+        let answered = self.answered.load(Ordering::SeqCst);
+        self.seen_answered.store(answered, Ordering::SeqCst);
     }
 
     // Waits until the number is as great, or the turns of a millisecond are used up.
@@ -65,5 +90,20 @@ impl<C: Clock + Sync> Gate for Holding<C> {
             }
             _ => {}
         }
+    }
+}
+
+/// Gives each pin up, and has the gate note what it was told before.
+#[derive(Drop)]
+pub struct Looker<'a, C> {
+    gate: &'a Holding<C>,
+}
+
+impl<C: Clock> Evaluator for Looker<'_, C> {
+    ghost is_ready = { λ _. Unit {0} };
+
+    fn reply(&mut self, _alloc: Global, _pin: Pin) -> Result<Answer, AllocError> {
+        self.gate.look();
+        Err(AllocError)
     }
 }

@@ -1,4 +1,5 @@
-use Rattle.std.proofs.Common.{◌≡◌, ◌++◌, [], drop, sym, ap, ◌∙◌, append-nil}
+use Rattle.std.proofs.lemmas.Grind.{common_steps}
+use Rattle.std.proofs.Common.{◌≡◌, ◌++◌, [], drop, sym, ap, ◌∙◌, append-nil, arith}
 use Rattle.std.proofs.lemmas.List.{drop_all}
 use Rattle.cql_bag.specs.Rest.{rest_rows}
 use Rattle.cql_bag.proofs.Struck.{ascending, rest_law}
@@ -13,3 +14,6 @@ returns c =
     ∙ ap (λ l. c.loop-row.rest.items ++ rest_rows l c.loop-row.left.now) (sym none)
     ∙ c.loop-row.invariant
     ∙ rest_law c.args.rows.now c.args.others.now (ascending c.args.rows.now c.requires.first) (ascending c.args.others.now c.requires.second)
+
+pub loop-row-preserved : goal.loop-row-preserved
+loop-row-preserved c = grind (arith, common_steps)

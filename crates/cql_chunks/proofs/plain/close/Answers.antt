@@ -1,4 +1,5 @@
-use Rattle.std.proofs.Common.{◌≡◌, rules, ap, ◌∙◌, [], ◌∷◌, ◌++◌, append-nil}
+use Rattle.std.proofs.lemmas.Grind.{common_steps}
+use Rattle.std.proofs.Common.{◌≡◌, rules, ap, ◌∙◌, [], ◌∷◌, ◌++◌, append-nil, arith}
 use Rattle.cql_chunks.specs.Chunks.{rows_of}
 use Rattle.cql_chunks.proofs.Rows.{rows_close}
 use Rattle.cql_chunks.proofs.plain.close.Goals as goal
@@ -10,3 +11,6 @@ returns-in-Ok-push_back-clause-rows c =
     let pushed : c.push_back.new.self.items ≡ full ++ last ∷ [] = search rules in
     let none : c.replace.new.dest.items ≡ [] = search rules in
     rw (pushed, none) (rows_close full last [] ∙ ap (rows_of full) (append-nil last))
+
+pub returns-in-Ok-push_back-clause-are_full : goal.returns-in-Ok-push_back-clause-are_full
+returns-in-Ok-push_back-clause-are_full c = grind (arith, common_steps)

@@ -1,3 +1,5 @@
+use Rattle.std.proofs.lemmas.Grind.{common_steps}
+use Rattle.std.proofs.Common.{arith}
 use Rattle.cql_groups.specs.Grouped.{told_of}
 use Rattle.cql_groups.proofs.Keyed.{told_both}
 use Rattle.cql_groups.proofs.grouped.settle_keys.Goals as goal
@@ -7,3 +9,9 @@ loop-key-preserved c = record {
   groups = c.in_ok-settle_key.ensures.groups;
   told = told_both c.args.layout.now.shape (told_of c.args.groups.now.entries) (told_of c.loop-key.groups.entries) (told_of c.settle_key.new.groups.entries) c.args.out.now.items c.loop-key.out.items c.settle_key.new.out.items c.loop-key.invariant.told c.in_ok-settle_key.ensures.told;
 }
+
+pub returns-in_err-settle_key-clause-kept : goal.returns-in_err-settle_key-clause-kept
+returns-in_err-settle_key-clause-kept c = grind (arith, common_steps)
+
+pub returns-clause-groups : goal.returns-clause-groups
+returns-clause-groups c = grind (arith, common_steps)

@@ -1,4 +1,5 @@
-use Rattle.std.proofs.Common.{◌≡◌, ◌<◌, [], ◌∷◌, ◌++◌, true, map, length, take, get_or, ap, sym, subst, ◌∙◌}
+use Rattle.std.proofs.lemmas.Grind.{common_steps}
+use Rattle.std.proofs.Common.{◌≡◌, ◌<◌, [], ◌∷◌, ◌++◌, true, map, length, take, get_or, ap, sym, subst, ◌∙◌, arith}
 use Rattle.std.specs.Prelude.{Some, option_map}
 use Rattle.std.proofs.lemmas.List.{take_more}
 use Rattle.std.proofs.lemmas.List.Elements.{All-get_or}
@@ -36,3 +37,6 @@ loop-number-preserved c =
             | else-is_before-via-else-is_before v ↦ absurd (cc (before, c.is_before.ensures, v.if-is_before.false))
           ] in reply) c.loop-number.invariant)
     ])
+
+pub returns : goal.returns
+returns c = grind (arith, common_steps)

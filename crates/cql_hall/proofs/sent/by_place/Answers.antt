@@ -1,3 +1,4 @@
+use Rattle.std.proofs.lemmas.Grind.{common_steps}
 use Rattle.std.proofs.Common.{◌≡◌, [], ◌∷◌, ◌++◌, map, length, take, ap, sym, ◌∙◌, arith}
 use Rattle.std.specs.Prelude.{if◌then◌else◌}
 use Rattle.std.proofs.lemmas.List.{length-map, length-take-le}
@@ -21,3 +22,6 @@ loop-number-preserved c =
           ∙ ap (λ ks. ks ++ (if is_at place r.now.place then i ∷ [] else [])) (c.loop-number.invariant.numbers place within)
           ∙ sym (ap (numbers_at place 0) (map_more sent_as rs i r c.loop-number-test.true c.index-sent-number.is) ∙ numbers_more so_far (sent_as r) place 0 i (omega (arith, many)));
     }
+
+pub returns-clause-ok : goal.returns-clause-ok
+returns-clause-ok c = grind (arith, common_steps)

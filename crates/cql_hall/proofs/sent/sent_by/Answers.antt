@@ -1,4 +1,5 @@
-use Rattle.std.proofs.Common.{map, take, ◌++◌, ap, sym, ◌∙◌}
+use Rattle.std.proofs.lemmas.Grind.{common_steps}
+use Rattle.std.proofs.Common.{map, take, ◌++◌, ap, sym, ◌∙◌, arith}
 use Rattle.cql_hall.specs.Audit.{heard, in_order}
 use Rattle.cql_hall.specs.Sent.{sent_by}
 use Rattle.cql_hall.proofs.Places.{lists_more}
@@ -15,3 +16,6 @@ loop-list-preserved c =
     c.in_ok-add_sent.ensures.ok i
     ∙ (λ j. c.loop-list.invariant j ++ sent_by t (map (heard i) (c.deref.ensures.value j)))
     ∙ sym (ap (sent_by t) (lists_more (λ list. list.items) vs i v c.loop-list-test.true c.list-item.is) ∙ sent_more t so_far (map (heard i) v.items))
+
+pub returns-clause-ok : goal.returns-clause-ok
+returns-clause-ok c = grind (arith, common_steps)

@@ -1,3 +1,4 @@
+use Rattle.std.proofs.lemmas.Grind.{common_steps}
 use Rattle.std.proofs.Common.{◌≡◌, ◌+◌, suc, ◌∷◌, ◌++◌, [], take, ◌∙◌, ap, subst, arith}
 use Rattle.std.specs.Prelude.{slice_get}
 use Rattle.std.specs.Arc.{arc_value}
@@ -15,3 +16,6 @@ loop-place-preserved c =
     let at = c.in-Some.ensures ∙ ap (λ xs. slice_get xs place) c.deref-in-loop-place.ensures in
     let seen = ap (λ e. take place rows ++ e ∷ []) c.in_ok-share.ensures ∙ take_more rows place c.in-Some.entry.now at ∙ ap (λ n. take n rows) more in
     (c.loop-place.invariant.0, subst (λ xs. AreParted columns xs (arc_value c.in_ok-parts-2.parts)) seen (c.in_ok-parts-2.ensures (take place rows) c.loop-place.invariant.1))
+
+pub returns : goal.returns
+returns c = grind (arith, common_steps)

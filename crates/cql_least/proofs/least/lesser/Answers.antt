@@ -1,4 +1,5 @@
-use Rattle.std.proofs.Common.{rules, ◌<◌, ◌≤◌, ◌*◌, length, get_or}
+use Rattle.std.proofs.lemmas.Grind.{common_steps}
+use Rattle.std.proofs.Common.{rules, ◌<◌, ◌≤◌, ◌*◌, length, get_or, arith}
 use Rattle.cql_least.proofs.Pairs.{lesser-left, lesser-right}
 use Rattle.cql_least.proofs.least.lesser.Goals as goal
 
@@ -27,3 +28,6 @@ pub returns-else-level-left-clause-below : goal.returns-else-level-left-clause-b
 returns-else-level-left-clause-below c =
     let over : c.args.bound ≤ get_or c.args.level.now (2 * c.args.place) 0 = c.if-level-left.false in
     (lesser-right c.args.level.now c.args.place c.args.bound c.requires.place c.requires.below over).1
+
+pub overflow_add-result : goal.overflow_add-result
+overflow_add-result c = grind (arith, common_steps)

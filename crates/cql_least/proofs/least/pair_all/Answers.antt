@@ -1,3 +1,4 @@
+use Rattle.std.proofs.lemmas.Grind.{common_steps}
 use Rattle.std.proofs.Common.{rules, arith, ◌≡◌, ◌<◌, ◌≤◌, ◌-◌, ◌∙◌, length, get_or, take, drop, sym, ap}
 use Rattle.std.proofs.lemmas.List.{length-set}
 use Rattle.cql_least.specs.Levels.{pair_least, lists_of, level_at, halved}
@@ -46,3 +47,6 @@ loop-level-preserved c =
       done = λ k under. rw (lists_of-set items j w) (done-more (lists_of items) j w.items (level_at old 0) row_within c.loop-level.invariant.done row k under);
       ahead = λ k above. rw (lists_of-set items j w) (ahead-other (lists_of items) j k w.items (level_at old k) above (c.loop-level.invariant.ahead k (let e : j ≤ k = omega (arith, above) in e)));
     })
+
+pub bounds-above-0 : goal.bounds-above-0
+bounds-above-0 c = grind (arith, common_steps)

@@ -1,5 +1,5 @@
 use Rattle.std.proofs.Common.{rules, arith, ◌≡◌, ◌≤◌, length}
-use Rattle.std.proofs.lemmas.Grind.{same_number_lists}
+use Rattle.std.proofs.lemmas.Grind.{same_number_lists, common_steps}
 use Rattle.cql_least.specs.Levels.{pair_least}
 use Rattle.cql_least.proofs.Pairs.{length-pair_least}
 use Rattle.cql_least.proofs.least.pair_into.Goals as goal

@@ -1,3 +1,4 @@
+use Rattle.std.proofs.lemmas.Grind.{common_steps}
 use Rattle.std.proofs.Common.{rules, arith, ◌≡◌, ◌<◌, ◌≤◌, ◌/◌, ◌∙◌, length, get_or, set, ap, sym}
 use Rattle.std.proofs.lemmas.List.{length-set}
 use Rattle.cql_least.specs.Levels.{pair_least, halved, lists_of, level_at, put}
@@ -32,3 +33,15 @@ loop-level-preserved c =
       here = halved-put_next j first ys p n c.put_in-number.result c.loop-level.invariant.within c.loop-level.invariant.here number;
       within = halved-upto_next j first p c.loop-level.invariant.within;
     }
+
+pub put_in-number-requires-clause-place : goal.put_in-number-requires-clause-place
+put_in-number-requires-clause-place c = grind (arith, common_steps)
+
+pub loop-level-init : goal.loop-level-init
+loop-level-init c = grind (arith, common_steps)
+
+pub returns-clause-pairs : goal.returns-clause-pairs
+returns-clause-pairs c = grind (arith, common_steps)
+
+pub put_in-number-requires-clause-room : goal.put_in-number-requires-clause-room
+put_in-number-requires-clause-room c = grind (arith, common_steps)

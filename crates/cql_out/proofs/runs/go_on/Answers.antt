@@ -1,4 +1,5 @@
-use Rattle.std.proofs.Common.{rules}
+use Rattle.std.proofs.lemmas.Grind.{common_steps}
+use Rattle.std.proofs.Common.{rules, arith}
 use Rattle.cql_out.proofs.Extend.{goes_on_set, goes_on_empty}
 use Rattle.cql_out.proofs.runs.go_on.Goals as goal
 
@@ -8,3 +9,9 @@ returns-then-adjoins c =
 
 pub returns-else-adjoins : goal.returns-else-adjoins
 returns-else-adjoins c = goes_on_empty c.args.from c.args.to c.args.blocks.now.items c.requires.forward (search rules)
+
+pub overflow_sub-last : goal.overflow_sub-last
+overflow_sub-last c = grind (arith, common_steps)
+
+pub index_mut-requires : goal.index_mut-requires
+index_mut-requires c = grind (arith, common_steps)

@@ -8,3 +8,6 @@ loop-item-preserved c = grind (arith, common_steps, stops, goes_on, ends)
 
 pub returns : goal.returns
 returns c = grind (arith, common_steps, stops, goes_on, ends)
+
+pub returns-in_err-shown_of : goal.returns-in_err-shown_of
+returns-in_err-shown_of c = grind (arith, stops, goes_on, ends)

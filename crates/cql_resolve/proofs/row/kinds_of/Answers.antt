@@ -4,3 +4,6 @@ use Rattle.cql_resolve.proofs.row.kinds_of.Goals as goal
 
 pub loop-field-preserved : goal.loop-field-preserved
 loop-field-preserved c = grind (arith, common_steps)
+
+pub returns : goal.returns
+returns c = grind (arith, common_steps)

@@ -1,3 +1,4 @@
+use Rattle.std.proofs.lemmas.Grind.{common_steps}
 use Rattle.std.proofs.Common.{◌≤◌, ◌<◌, length, rules, arith}
 use Rattle.cql_store.proofs.Lifted.{walked_none, walked_past, walked_over, walked_all}
 use Rattle.cql_store.proofs.needs.mark_slots.Goals as goal
@@ -22,3 +23,6 @@ pub returns : goal.returns
 returns c =
     let past : length c.args.limits.now ≤ c.loop-slot.slot = search rules in
     walked_all c.args.count c.args.stubs.now.slots c.loop-slot.stubs.slots c.args.limits.now c.loop-slot.slot c.loop-slot.invariant past
+
+pub mark_at-requires : goal.mark_at-requires
+mark_at-requires c = grind (arith, common_steps)

@@ -59,3 +59,7 @@ returns-then-at-most c =
 pub loop-at-preserved-then-is_blank : goal.loop-at-preserved-then-is_blank
 unfolding lexed lexed_until
 loop-at-preserved-then-is_blank c = grind (arith, common_steps, scan_steps)
+
+pub loop-at-smaller : goal.loop-at-smaller
+unfolding lexed lexed_until
+loop-at-smaller c = grind (arith, common_steps)

@@ -1,5 +1,6 @@
+use Rattle.cql_text.specs.Readers.{condition, either_of}
 use Rattle.std.proofs.Common.{arith}
-use Rattle.cql_text.specs.Reading.{chain}
+use Rattle.cql_text.specs.Reading.{chain, chain_of}
 use Rattle.cql_text.proofs.Steps.{chain_turn, head_signs}
 use Rattle.cql_text.proofs.condition.+condition.Goals as goal
 

@@ -4,3 +4,9 @@ use Rattle.cql_chunks.proofs.plain.Plain.drop_front.Goals as goal
 
 pub overflow_add-self : goal.overflow_add-self
 overflow_add-self c = grind (arith, common_steps)
+
+pub invariant_of-self : goal.invariant_of-self
+invariant_of-self c = grind (arith, common_steps)
+
+pub returns : goal.returns
+returns c = grind (arith, common_steps)

@@ -39,3 +39,6 @@ returns c =
 
 pub overflow_mul-chunk : goal.overflow_mul-chunk
 overflow_mul-chunk c = grind (arith, common_steps)
+
+pub overflow_add-at : goal.overflow_add-at
+overflow_add-at c = grind (arith, common_steps)

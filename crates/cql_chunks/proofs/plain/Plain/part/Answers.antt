@@ -89,3 +89,9 @@ overflow_mul-result-2 c = grind (arith, common_steps)
 
 pub overflow_mul-whole : goal.overflow_mul-whole
 overflow_mul-whole c = grind (arith, common_steps)
+
+pub overflow_add-stop : goal.overflow_add-stop
+overflow_add-stop c = grind (arith, common_steps)
+
+pub overflow_add-start : goal.overflow_add-start
+overflow_add-start c = grind (arith, common_steps)

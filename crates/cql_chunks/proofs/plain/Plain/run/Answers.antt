@@ -61,3 +61,9 @@ overflow_add-first c = grind (arith, common_steps)
 
 pub overflow_mul-first : goal.overflow_mul-first
 overflow_mul-first c = grind (arith, common_steps)
+
+pub returns-clause-within : goal.returns-clause-within
+returns-clause-within c = grind (arith, common_steps)
+
+pub overflow_add-start : goal.overflow_add-start
+overflow_add-start c = grind (arith, common_steps)

@@ -1,3 +1,4 @@
+use Rattle.std.proofs.lemmas.Grind.{common_steps}
 use Rattle.std.proofs.Common.{rules, arith, ◌≡◌, ◌<◌, ◌-◌, ◌∙◌, Some, length, get_or, ap, sym}
 use Rattle.cql_least.specs.Levels.{pair_least, least_of, lists_of, level_at}
 use Rattle.cql_least.proofs.Towers.{level_at-item, length-lists_of, tower-next, some-levels, top-least}
@@ -44,3 +45,15 @@ lesser-place-requires-clause-below c =
     let pairs : level_at (lists_of items) c.loop-level.level ≡ pair_least (level_at (lists_of items) k) = tower-next (lists_of items) c.loop-level.level k c.self.invariant (omega arith) (omega (arith, long)) in
     let row : pair_least c.deref.result.now ≡ level_at (lists_of items) c.loop-level.level = ap pair_least (c.deref.ensures.value ∙ at) ∙ sym pairs in
     rw row c.loop-level.invariant.below
+
+pub loop-level-preserved : goal.loop-level-preserved
+loop-level-preserved c = grind (arith, common_steps)
+
+pub overflow_sub-level : goal.overflow_sub-level
+overflow_sub-level c = grind (arith, common_steps)
+
+pub returns-clause-some : goal.returns-clause-some
+returns-clause-some c = grind (arith, common_steps)
+
+pub returns-then-bound-least-clause-none : goal.returns-then-bound-least-clause-none
+returns-then-bound-least-clause-none c = grind (arith, common_steps)

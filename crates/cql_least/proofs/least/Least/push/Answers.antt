@@ -1,3 +1,4 @@
+use Rattle.std.proofs.lemmas.Grind.{common_steps}
 use Rattle.std.proofs.Common.{rules, arith, ◌≡◌, ◌<◌, ◌≤◌, ◌+◌, ◌-◌, ◌∙◌, ◌++◌, ◌∷◌, [], length, get_or, ap, sym, subst, vec_len, vec_capacity}
 use Rattle.cql_least.specs.Levels.{pair_least, lists_of, level_at, put, IsTower}
 use Rattle.cql_least.proofs.Pairs.{put-push}
@@ -101,3 +102,36 @@ returns-else-len-gt1 c =
     let long : length (lists_of items) ≡ length items = length-lists_of items in
     let first : level_at (lists_of items) 0 ≡ put (level_at old 0) c.len-place.result c.args.number = c.put_all.ensures.pairs 0 (omega (arith, some, long)) in
     first ∙ put-push (level_at old 0) c.len-place.result c.args.number place ∙ ap (λ l. level_at l 0 ++ c.args.number ∷ []) same ∙ ap (λ l. l ++ c.args.number ∷ []) c.self.view_is
+
+pub invariant_of-self-then-count-eq0 : goal.invariant_of-self-then-count-eq0
+invariant_of-self-then-count-eq0 c = grind (arith, common_steps)
+
+pub put_all-requires-clause-place : goal.put_all-requires-clause-place
+put_all-requires-clause-place c = grind (arith, common_steps)
+
+pub returns-then-count-eq0 : goal.returns-then-count-eq0
+returns-then-count-eq0 c = grind (arith, common_steps)
+
+pub put_all-requires-clause-tower : goal.put_all-requires-clause-tower
+put_all-requires-clause-tower c = grind (arith, common_steps)
+
+pub push_reserved-requires-then-len-gt1 : goal.push_reserved-requires-then-len-gt1
+push_reserved-requires-then-len-gt1 c = grind (arith, common_steps)
+
+pub index-top-requires : goal.index-top-requires
+index-top-requires c = grind (arith, common_steps)
+
+pub push_reserved-requires-then-count-eq0 : goal.push_reserved-requires-then-count-eq0
+push_reserved-requires-then-count-eq0 c = grind (arith, common_steps)
+
+pub pair_at-requires : goal.pair_at-requires
+pair_at-requires c = grind (arith, common_steps)
+
+pub index-requires : goal.index-requires
+index-requires c = grind (arith, common_steps)
+
+pub invariant_of-self-in_err-spare : goal.invariant_of-self-in_err-spare
+invariant_of-self-in_err-spare c = grind (arith, common_steps)
+
+pub overflow_sub-count : goal.overflow_sub-count
+overflow_sub-count c = grind (arith, common_steps)

@@ -1,4 +1,5 @@
-use Rattle.std.proofs.Common.{rules, ◌≡◌, ◌<◌, ◌∙◌, length, set, sym, ap, refl}
+use Rattle.std.proofs.lemmas.Grind.{common_steps}
+use Rattle.std.proofs.Common.{rules, ◌≡◌, ◌<◌, ◌∙◌, length, set, sym, ap, refl, arith}
 use Rattle.cql_least.specs.Levels.{lists_of, level_at}
 use Rattle.cql_least.proofs.Towers.{level_at-item}
 use Rattle.cql_least.proofs.Marked.{changed_none, no_levels, length-changed_where, tower-changed, long-changed}
@@ -29,3 +30,6 @@ returns-then-is_empty c =
     let items = c.self.inside.levels.items in
     let none : length items ≡ 0 = search rules in
     changed_none c.args.others.now c.args.bound c.args.number c.args.self.now (sym c.self.view_is ∙ no_levels items none)
+
+pub returns : goal.returns
+returns c = grind (arith, common_steps)

@@ -1,4 +1,5 @@
-use Rattle.std.proofs.Common.{ap, ◌∙◌, sym}
+use Rattle.std.proofs.lemmas.Grind.{common_steps}
+use Rattle.std.proofs.Common.{ap, ◌∙◌, sym, arith}
 use Rattle.std.specs.Option.{option_copied_mut}
 use Rattle.cql_tenants.specs.Named.{named_of, change_placed}
 use Rattle.indexmap.specs.IndexMap.{set_value_at}
@@ -11,3 +12,6 @@ returns g c =
     let valued = sym c.get_index_mut.ensures.value ∙ ap option_copied_mut c.in-Some.is in
     ap (λ new. named_of (set_value_at es c.args.place new)) c.close.ensures ∙ written_at g.V.Moving.closed es c.args.place c.in-Some.thing.now valued
     ∙ ap (change_placed g.V.Moving.closed c.args.place) c.self.view_is
+
+pub returns-in_default : goal.returns-in_default
+returns-in_default g c = grind (arith, common_steps)

@@ -18,7 +18,7 @@ use crate::warm::{Kept, remember, resume};
 use cql_ops::{BenchOf, Operator};
 use cql_out::{Block, Output, Runs};
 use cql_plan::OutputKind;
-use cql_value::Items;
+use cql_value::{Items, Row};
 use cql_window::changes;
 use std::alloc::{AllocError, Global};
 use std::sync::Arc;
@@ -73,12 +73,14 @@ pub(crate) fn evaluate<O: Operator>(
     let mut runs = Runs::new(alloc, pin.from());
     let instants = later_changes(alloc, pin)?;
     let mut left = instants.as_slice();
+    let mut gone = Vec::new(alloc);
     let mut shown = begin(
         alloc,
         bench,
         pin,
         kept,
         &mut runs,
+        &mut gone,
         next_of(left, pin.next()),
     )?;
     let mut turns = 1;
@@ -91,6 +93,7 @@ pub(crate) fn evaluate<O: Operator>(
             pin,
             shown,
             &mut runs,
+            &mut gone,
             next_of(left, pin.next()),
         )?;
         turns += 1;
@@ -198,7 +201,8 @@ fn take_told(pin: &Pin, runs: &mut Runs, told: Option<Output>, until: u64) -> Re
     Ok(())
 }
 
-// Something may change at the next instant, and then nothing before a later one.
+// Something may change at the next instant, and then nothing before a later one. `gone` is room for the
+// rows that go there.
 #[inline(always)]
 fn change<'a, O: Operator>(
     alloc: Global,
@@ -206,6 +210,7 @@ fn change<'a, O: Operator>(
     pin: &'a Pin,
     shown: Shown<'a>,
     runs: &mut Runs,
+    gone: &mut Vec<Row>,
     until: u64,
 ) -> Result<Shown<'a>, AllocError>
     requires bench { IsBench O.seen_in bench.old }
@@ -221,7 +226,7 @@ fn change<'a, O: Operator>(
     ensures stand { OnOk result (StandFor (output_at pin.now) pin.now.from runs.new) }
 {
     let at = runs.next();
-    let (shown, told) = step(alloc, bench, pin, shown, at + 1)?;
+    let (shown, told) = step(alloc, bench, pin, shown, at + 1, gone)?;
     take_told(pin, runs, told, until)?;
     hold(alloc, pin, &shown.last, runs, until)?;
     Ok(shown)
@@ -236,6 +241,7 @@ fn begin<'a, O: Operator>(
     pin: &'a Pin,
     kept: Option<Kept>,
     runs: &mut Runs,
+    gone: &mut Vec<Row>,
     until: u64,
 ) -> Result<Shown<'a>, AllocError>
     requires bench { IsBench O.seen_in bench.old }
@@ -262,5 +268,5 @@ fn begin<'a, O: Operator>(
         hold(alloc, pin, &shown.last, runs, until)?;
         return Ok(shown);
     }
-    change(alloc, bench, pin, shown, runs, until)
+    change(alloc, bench, pin, shown, runs, gone, until)
 }

@@ -12,13 +12,14 @@ ghost use Rattle.cql_eval.specs.Shown.{StandsFor, Tells, IsShown, AreSame, IsQui
 ghost use Rattle.cql_eval.specs.Warm.{IsKept, StandsBehind};
 
 use crate::answered::Answer;
+use crate::bags::Room;
 use crate::pin::Pin;
 use crate::shown::{LastTold, Shown, nothing_shown, open, same_output, step};
 use crate::warm::{Kept, remember, resume};
 use cql_ops::{BenchOf, Operator};
 use cql_out::{Block, Output, Runs};
 use cql_plan::OutputKind;
-use cql_value::{Items, Row};
+use cql_value::Items;
 use cql_window::changes;
 use std::alloc::{AllocError, Global};
 use std::sync::Arc;
@@ -73,14 +74,14 @@ pub(crate) fn evaluate<O: Operator>(
     let mut runs = Runs::new(alloc, pin.from());
     let instants = later_changes(alloc, pin)?;
     let mut left = instants.as_slice();
-    let mut gone = Vec::new(alloc);
+    let mut rows = Room::new(alloc);
     let mut shown = begin(
         alloc,
         bench,
         pin,
         kept,
         &mut runs,
-        &mut gone,
+        &mut rows,
         next_of(left, pin.next()),
     )?;
     let mut turns = 1;
@@ -93,7 +94,7 @@ pub(crate) fn evaluate<O: Operator>(
             pin,
             shown,
             &mut runs,
-            &mut gone,
+            &mut rows,
             next_of(left, pin.next()),
         )?;
         turns += 1;
@@ -201,8 +202,8 @@ fn take_told(pin: &Pin, runs: &mut Runs, told: Option<Output>, until: u64) -> Re
     Ok(())
 }
 
-// Something may change at the next instant, and then nothing before a later one. `gone` is room for the
-// rows that go there.
+// Something may change at the next instant, and then nothing before a later one. `rows` is room, of which
+// nothing is said.
 #[inline(always)]
 fn change<'a, O: Operator>(
     alloc: Global,
@@ -210,7 +211,7 @@ fn change<'a, O: Operator>(
     pin: &'a Pin,
     shown: Shown<'a>,
     runs: &mut Runs,
-    gone: &mut Vec<Row>,
+    rows: &mut Room,
     until: u64,
 ) -> Result<Shown<'a>, AllocError>
     requires bench { IsBench O.seen_in bench.old }
@@ -226,7 +227,7 @@ fn change<'a, O: Operator>(
     ensures stand { OnOk result (StandFor (output_at pin.now) pin.now.from runs.new) }
 {
     let at = runs.next();
-    let (shown, told) = step(alloc, bench, pin, shown, at + 1, gone)?;
+    let (shown, told) = step(alloc, bench, pin, shown, at + 1, rows)?;
     take_told(pin, runs, told, until)?;
     hold(alloc, pin, &shown.last, runs, until)?;
     Ok(shown)
@@ -241,7 +242,7 @@ fn begin<'a, O: Operator>(
     pin: &'a Pin,
     kept: Option<Kept>,
     runs: &mut Runs,
-    gone: &mut Vec<Row>,
+    rows: &mut Room,
     until: u64,
 ) -> Result<Shown<'a>, AllocError>
     requires bench { IsBench O.seen_in bench.old }
@@ -268,5 +269,5 @@ fn begin<'a, O: Operator>(
         hold(alloc, pin, &shown.last, runs, until)?;
         return Ok(shown);
     }
-    change(alloc, bench, pin, shown, runs, gone, until)
+    change(alloc, bench, pin, shown, runs, rows, until)
 }

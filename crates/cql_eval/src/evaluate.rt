@@ -12,6 +12,7 @@ ghost use Rattle.cql_eval.specs.Shown.{StandsFor, Tells, IsShown, AreSame, IsQui
 ghost use Rattle.cql_eval.specs.Warm.{IsKept, StandsBehind};
 
 use crate::answered::Answer;
+use crate::bags::Room;
 use crate::pin::Pin;
 use crate::shown::{LastTold, Shown, nothing_shown, open, same_output, step};
 use crate::warm::{Kept, remember, resume};
@@ -73,12 +74,14 @@ pub(crate) fn evaluate<O: Operator>(
     let mut runs = Runs::new(alloc, pin.from());
     let instants = later_changes(alloc, pin)?;
     let mut left = instants.as_slice();
+    let mut rows = Room::new(alloc);
     let mut shown = begin(
         alloc,
         bench,
         pin,
         kept,
         &mut runs,
+        &mut rows,
         next_of(left, pin.next()),
     )?;
     let mut turns = 1;
@@ -91,6 +94,7 @@ pub(crate) fn evaluate<O: Operator>(
             pin,
             shown,
             &mut runs,
+            &mut rows,
             next_of(left, pin.next()),
         )?;
         turns += 1;
@@ -198,7 +202,8 @@ fn take_told(pin: &Pin, runs: &mut Runs, told: Option<Output>, until: u64) -> Re
     Ok(())
 }
 
-// Something may change at the next instant, and then nothing before a later one.
+// Something may change at the next instant, and then nothing before a later one. `rows` is room, of which
+// nothing is said.
 #[inline(always)]
 fn change<'a, O: Operator>(
     alloc: Global,
@@ -206,6 +211,7 @@ fn change<'a, O: Operator>(
     pin: &'a Pin,
     shown: Shown<'a>,
     runs: &mut Runs,
+    rows: &mut Room,
     until: u64,
 ) -> Result<Shown<'a>, AllocError>
     requires bench { IsBench O.seen_in bench.old }
@@ -221,7 +227,7 @@ fn change<'a, O: Operator>(
     ensures stand { OnOk result (StandFor (output_at pin.now) pin.now.from runs.new) }
 {
     let at = runs.next();
-    let (shown, told) = step(alloc, bench, pin, shown, at + 1)?;
+    let (shown, told) = step(alloc, bench, pin, shown, at + 1, rows)?;
     take_told(pin, runs, told, until)?;
     hold(alloc, pin, &shown.last, runs, until)?;
     Ok(shown)
@@ -236,6 +242,7 @@ fn begin<'a, O: Operator>(
     pin: &'a Pin,
     kept: Option<Kept>,
     runs: &mut Runs,
+    rows: &mut Room,
     until: u64,
 ) -> Result<Shown<'a>, AllocError>
     requires bench { IsBench O.seen_in bench.old }
@@ -262,5 +269,5 @@ fn begin<'a, O: Operator>(
         hold(alloc, pin, &shown.last, runs, until)?;
         return Ok(shown);
     }
-    change(alloc, bench, pin, shown, runs, until)
+    change(alloc, bench, pin, shown, runs, rows, until)
 }

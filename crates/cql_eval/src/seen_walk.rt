@@ -1,88 +1,35 @@
 // Walks over windows of whole rows, seen through places.
-ghost use Rattle.std.specs.Prelude.{◌≡◌, ◌≤◌, true, length, IfOk, IsTrue};
+ghost use Rattle.std.specs.Prelude.{◌≡◌, ◌≤◌, ◌++◌, IfOk, IsTrue};
 ghost use Rattle.std.specs.List.Sorted.{IsPermutation};
-ghost use Rattle.cql_places.specs.Places.{all_places};
-ghost use Rattle.cql_places.specs.Windows.{narrowed_all};
-ghost use Rattle.cql_window.specs.Walk.{IsExchange, IsSegment};
-ghost use Rattle.cql_eval.specs.Seen.{fresh, reached, rows_seen, content_seen};
+ghost use Rattle.cql_places.specs.Places.{at_places};
+ghost use Rattle.cql_window.specs.Span.{rows_of, rows_in, IsWithin};
+ghost use Rattle.cql_eval.specs.Seen.{fresh, reached, content_seen, seen_by, IsMove};
 
-use cql_places::{are_all, timed_at};
-use cql_value::{Timed, are_same};
-use cql_window::{Moved, Walk, WindowPin};
+use cql_places::row_at;
+use cql_value::{Row, Timed, are_same};
+use cql_window::{Moved, Part, Span, Walk, WindowPin};
 use std::alloc::{AllocError, Global};
 use std::marker::Model;
 
-/// A walk over a window of whole rows, whose rows are seen through places. Whether these are the
-/// places from the first one on, in order, is asked once.
+/// A walk over a window of whole rows, whose rows are seen through places.
 pub(crate) struct SeenWalk<'a> {
     walk: Walk<'a>,
     places: &'a [usize],
-    are_first: bool,
 }
 
 impl<'a> Drop for SeenWalk<'a> {
     fn drop(self) {
-        let SeenWalk {
-            walk: _,
-            places: _,
-            are_first: _,
-        } = self;
+        let SeenWalk { walk: _, places: _ } = self;
     }
 }
 
 impl<'a> Model for SeenWalk<'a> {
-    ghost use Rattle.std.specs.Prelude.{◌≡◌, true, length};
-    ghost use Rattle.cql_places.specs.Places.{all_places};
     ghost use Rattle.cql_places.specs.Windows.{narrowed_all};
     ghost use Rattle.cql_eval.specs.Seen.{SeenWalked};
 
     ghost Value = { SeenWalked };
 
     ghost view = { λ w. record { pin = record { window = w.walk.pin; places = w.places.now }; cursor = w.walk.cursor; held = narrowed_all w.places.now w.walk.held } };
-
-    ghost invariant = { λ w. w.are_first ≡ true → w.places.now ≡ all_places (length w.places.now) };
-}
-
-// Whether places from the first one on are all of each row.
-fn are_whole(places: &[usize], rows: &[Timed]) -> bool
-    requires { places.now ≡ all_places (length places.now) }
-    ensures { IsTrue result → narrowed_all places.now rows.now ≡ rows.now }
-{
-    for row in rows {
-        if row.row().len() != places.len() {
-            return false;
-        }
-    }
-    true
-}
-
-// The rows with the values at the places.
-fn narrowed(alloc: Global, places: &[usize], rows: &[Timed]) -> Result<Vec<Timed>, AllocError>
-    ensures { IfOk result (λ r. r.items ≡ narrowed_all places.now rows.now) }
-{
-    let mut seen = Vec::with_capacity(alloc, rows.len())?;
-    for row in rows {
-        seen.push(timed_at(alloc, row, places)?)?;
-    }
-    Ok(seen)
-}
-
-// The rows with the values at the places. Where these are all of each row, they are the rows
-// themselves, and nothing is copied.
-#[inline(always)]
-fn through(
-    alloc: Global,
-    places: &[usize],
-    are_first: bool,
-    rows: Vec<Timed>,
-) -> Result<Vec<Timed>, AllocError>
-    requires { are_first ≡ true → places.now ≡ all_places (length places.now) }
-    ensures { IfOk result (λ r. r.items ≡ narrowed_all places.now rows.items) }
-{
-    if are_first && are_whole(places, &rows) {
-        return Ok(rows);
-    }
-    narrowed(alloc, places, &rows)
 }
 
 impl<'a> SeenWalk<'a> {
@@ -93,12 +40,11 @@ impl<'a> SeenWalk<'a> {
         SeenWalk {
             walk: Walk::new(alloc, window),
             places,
-            are_first: are_all(places, places.len()),
         }
     }
 
-    /// The walk up to a cursor that isn't below the one that it reached, and the rows that came and
-    /// left on the way, as they are seen. Without memory the walk is gone.
+    /// The walk up to a cursor that isn't below the one that it reached, and the whole rows that came
+    /// and left on the way. Without memory the walk is gone.
     pub(crate) fn advance(
         self,
         alloc: Global,
@@ -108,25 +54,27 @@ impl<'a> SeenWalk<'a> {
         ensures pin { IfOk result (λ r. r.0.pin ≡ self.entry.pin) }
         ensures cursor { IfOk result (λ r. r.0.cursor ≡ cursor) }
         ensures held { IfOk result (λ r. r.0.held ≡ content_seen cursor self.entry.pin) }
-        ensures moved { IfOk result (λ r. IsExchange self.entry.held r.1.came.items r.1.left.items r.0.held) }
-        ensures came { IfOk result (λ r. IsSegment (rows_seen self.entry.pin) r.1.came.items) }
+        ensures moved { IfOk result (λ r. IsMove self.entry.held r.1 r.0) }
     {
-        let SeenWalk {
-            walk,
-            places,
-            are_first,
-        } = self;
-        let (walk, Moved { came, left }) = walk.advance(alloc, cursor)?;
-        let came = through(alloc, places, are_first, came)?;
-        let left = through(alloc, places, are_first, left)?;
-        Ok((
-            SeenWalk {
-                walk,
-                places,
-                are_first,
-            },
-            Moved { came, left },
-        ))
+        let SeenWalk { walk, places } = self;
+        let (walk, moved) = walk.advance(alloc, cursor)?;
+        Ok((SeenWalk { walk, places }, moved))
+    }
+
+    /// A list's rows, and then the whole ones between two places of the window's pin.
+    pub(crate) fn rows<'b>(&'b self, near: &'b [Timed], span: Span) -> Part<'b>
+        requires { IsWithin span (rows_of self.now.pin.window) }
+        ensures { result ≡ near.now ++ rows_in span (rows_of self.now.pin.window) }
+    {
+        self.walk.rows(near, span)
+    }
+
+    /// A row as it is seen: where the places are all of it, it is the row itself with one more holder.
+    #[inline(always)]
+    pub(crate) fn seen(&self, alloc: Global, row: &Row) -> Result<Row, AllocError>
+        ensures { IfOk result (λ r. r ≡ at_places row.now self.now.pin.places) }
+    {
+        row_at(alloc, row, self.places)
     }
 
     /// At a cursor. Without parts no row is copied.
@@ -139,11 +87,7 @@ impl<'a> SeenWalk<'a> {
         ensures { IfOk result (λ r. r ≡ reached cursor (record { window = window.now; places = places.now })) }
     {
         let walk = Walk::new(alloc, window).reach(alloc, cursor)?;
-        Ok(SeenWalk {
-            walk,
-            places,
-            are_first: are_all(places, places.len()),
-        })
+        Ok(SeenWalk { walk, places })
     }
 
     /// Whether both hold the same rows, in order. It may say no of windows with parts. Takes no
@@ -159,11 +103,10 @@ impl<'a> SeenWalk<'a> {
         are_same(self.places, other.places) && self.walk.seems_same(&other.walk)
     }
 
-    /// What the window holds at the cursor, as it is seen, in some order.
+    /// The whole rows that the window holds at the cursor, in some order.
     pub(crate) fn held(&self, alloc: Global) -> Result<Vec<Timed>, AllocError>
-        ensures { IfOk result (λ r. IsPermutation r.items self.now.held) }
+        ensures { IfOk result (λ r. IsPermutation (seen_by self.now r.items) self.now.held) }
     {
-        let held = self.walk.held(alloc)?;
-        through(alloc, self.places, self.are_first, held)
+        self.walk.held(alloc)
     }
 }

@@ -13,7 +13,7 @@ ghost use Rattle.cql_plan.specs.declared.plan.OutputKind.TheVariants.{Rstream};
 ghost use Rattle.cql_eval.specs.Relation.{relation_at};
 ghost use Rattle.cql_eval.specs.Shown.{StandsFor, LeadsTo, Tells, IsReady, IsShown};
 
-use crate::bags::{add_rows, parted, take_rows};
+use crate::bags::{Room, add_rows, parted, take_rows};
 use crate::pin::Pin;
 use crate::seen_walk::SeenWalk;
 use crate::walks::{advance, restart, start};
@@ -22,8 +22,8 @@ use cql_bag::{Bag, Change, rest_from, rest_of};
 use cql_ops::{BenchOf, Operator, Outcome};
 use cql_out::Output;
 use cql_plan::{Fault, OutputKind};
-use cql_value::Row;
 use std::alloc::{AllocError, Global};
+use std::mem;
 
 /// What is kept of a relation: its fault, where it is one; and for Rstream, which tells the whole
 /// relation, the bag that the bench has told, which is the relation where that is no fault. The
@@ -84,11 +84,13 @@ pub(crate) fn nothing_shown<'a, O: Operator>(
     Ok(Shown { walks, last })
 }
 
-// What Rstream keeps and tells after changes.
+// What Rstream keeps and tells after changes. Here and in what calls it `rows` is room, of which nothing
+// is said.
 fn list_changes(
     alloc: Global,
     last: LastTold,
     changes: Vec<Change>,
+    rows: &mut Room,
 ) -> Result<(LastTold, Output), AllocError>
     ensures { IfOk result (λ r. (told : Counts) (before : relation) → StandsFor Rstream last told before → CanChangeBy changes.items told → StandsFor Rstream r.0 (changed_by changes.items told) (bag (changed_by changes.items told)) × (r.1 ≡ output_of Rstream before (bag (changed_by changes.items told)))) }
 {
@@ -96,45 +98,54 @@ fn list_changes(
     put_all_counts();
     take_counts();
     let LastTold { mut bag, fault: _ } = last;
-    let (came, left) = parted(alloc, changes)?;
+    parted(changes, rows)?;
+    let came = mem::replace(&mut rows.came, Vec::new(alloc));
     add_rows(&mut bag, came)?;
-    take_rows(&mut bag, &left);
+    take_rows(&mut bag, &rows.left);
     let told = Output::Rows(bag.listing(alloc)?);
     Ok((LastTold { bag, fault: None }, told))
 }
 
-// What the other kinds tell of rows that came and rows that left, each ascending.
-fn told_of_rows(
-    alloc: Global,
-    kind: OutputKind,
-    came: Vec<Row>,
-    left: Vec<Row>,
-) -> Result<Output, AllocError>
-    requires came { IsSorted row_cmp came.items }
-    requires left { IsSorted row_cmp left.items }
-    ensures { IfOk result (λ o. kind ≢ Rstream → o ≡ output_of_bags kind (bag_of left.items) (bag_of came.items)) }
+// What the other kinds tell of rows that came and rows that left, each ascending. A list that is told
+// is handed over, and the other one keeps its room.
+fn told_of_rows(alloc: Global, kind: OutputKind, rows: &mut Room) -> Result<Output, AllocError>
+    requires came { IsSorted row_cmp rows.old.came.items }
+    requires left { IsSorted row_cmp rows.old.left.items }
+    ensures { IfOk result (λ o. kind ≢ Rstream → o ≡ output_of_bags kind (bag_of rows.old.left.items) (bag_of rows.old.came.items)) }
 {
     match kind {
-        OutputKind::Istream => Ok(Output::Rows(rest_from(alloc, came, &left)?)),
-        OutputKind::Dstream => Ok(Output::Rows(rest_from(alloc, left, &came)?)),
+        OutputKind::Istream => {
+            let came = mem::replace(&mut rows.came, Vec::new(alloc));
+            Ok(Output::Rows(rest_from(alloc, came, &rows.left)?))
+        }
+        OutputKind::Dstream => {
+            let left = mem::replace(&mut rows.left, Vec::new(alloc));
+            Ok(Output::Rows(rest_from(alloc, left, &rows.came)?))
+        }
         _ => {
-            let minus = rest_of(alloc, &left, &came)?;
-            let plus = rest_from(alloc, came, &left)?;
+            let minus = rest_of(alloc, &rows.left, &rows.came)?;
+            let came = mem::replace(&mut rows.came, Vec::new(alloc));
+            let plus = rest_from(alloc, came, &rows.left)?;
             Ok(Output::Signed { plus, minus })
         }
     }
 }
 
 // What the other kinds tell of changes of a bag.
-fn difference(alloc: Global, kind: OutputKind, changes: Vec<Change>) -> Result<Output, AllocError>
+fn difference(
+    alloc: Global,
+    kind: OutputKind,
+    changes: Vec<Change>,
+    rows: &mut Room,
+) -> Result<Output, AllocError>
     ensures { IfOk result (λ o. kind ≢ Rstream → (before : Counts) → IsBag before → CanChangeBy changes.items before → o ≡ output_of kind (bag before) (bag (changed_by changes.items before))) }
 {
     same_counts();
     put_all_counts();
     take_counts();
     minus_counts();
-    let (came, left) = parted(alloc, changes)?;
-    told_of_rows(alloc, kind, came, left)
+    parted(changes, rows)?;
+    told_of_rows(alloc, kind, rows)
 }
 
 // What the other kinds keep and tell after changes: a fault of the instant before comes first.
@@ -143,13 +154,14 @@ fn tell_changes(
     kind: OutputKind,
     last: LastTold,
     changes: Vec<Change>,
+    rows: &mut Room,
 ) -> Result<(LastTold, Output), AllocError>
     ensures { IfOk result (λ r. kind ≢ Rstream → (told : Counts) (before : relation) → StandsFor kind last told before → CanChangeBy changes.items told → StandsFor kind r.0 (changed_by changes.items told) (bag (changed_by changes.items told)) × (r.1 ≡ output_of kind before (bag (changed_by changes.items told)))) }
 {
     put_all_counts();
     take_counts();
     let told = match last.fault {
-        None => difference(alloc, kind, changes)?,
+        None => difference(alloc, kind, changes, rows)?,
         Some(fault) => Output::Fault(fault),
     };
     Ok((last.with_fault(None), told))
@@ -161,6 +173,7 @@ fn tell_all(
     kind: OutputKind,
     last: LastTold,
     changes: Vec<Change>,
+    rows: &mut Room,
 ) -> Result<(LastTold, Option<Output>), AllocError>
     ensures { IfOk result (λ r. (told : Counts) (before : relation) → StandsFor kind last told before → CanChangeBy changes.items told → StandsFor kind r.0 (changed_by changes.items told) (bag (changed_by changes.items told)) × Tells kind r.1 before (bag (changed_by changes.items told))) }
 {
@@ -168,8 +181,8 @@ fn tell_all(
         return Ok((last, None));
     }
     let (last, told) = match kind {
-        OutputKind::Rstream => list_changes(alloc, last, changes)?,
-        _ => tell_changes(alloc, kind, last, changes)?,
+        OutputKind::Rstream => list_changes(alloc, last, changes, rows)?,
+        _ => tell_changes(alloc, kind, last, changes, rows)?,
     };
     Ok((last, Some(told)))
 }
@@ -187,7 +200,8 @@ fn keep_changes(
     take_counts();
     match kind {
         OutputKind::Rstream => {
-            let (last, _) = list_changes(alloc, last, changes)?;
+            let mut rows = Room::new(alloc);
+            let (last, _) = list_changes(alloc, last, changes, &mut rows)?;
             Ok(last)
         }
         _ => Ok(last.with_fault(None)),
@@ -200,11 +214,12 @@ fn tell(
     kind: OutputKind,
     last: LastTold,
     outcome: Outcome,
+    rows: &mut Room,
 ) -> Result<(LastTold, Option<Output>), AllocError>
     ensures { IfOk result (λ r. (told after : Counts) (before now : relation) → StandsFor kind last told before → LeadsTo outcome told after now → StandsFor kind r.0 after now × Tells kind r.1 before now) }
 {
     match outcome {
-        Outcome::Changed(changes) => tell_all(alloc, kind, last, changes),
+        Outcome::Changed(changes) => tell_all(alloc, kind, last, changes, rows),
         Outcome::Held(fault) => Ok((last.with_fault(Some(fault)), Some(Output::Fault(fault)))),
         Outcome::Faulty(fault) => Ok((
             LastTold {
@@ -284,13 +299,14 @@ pub(crate) fn open<'a, O: Operator>(
 }
 
 /// What is shown at a later cursor, and the output from the one to the other, or none where the
-/// relation is the same.
+/// relation is the same. `rows` is room, of which nothing is said.
 pub(crate) fn step<'a, O: Operator>(
     alloc: Global,
     bench: &mut BenchOf<O>,
     pin: &'a Pin,
     shown: Shown<'a>,
     cursor: u64,
+    rows: &mut Room,
 ) -> Result<(Shown<'a>, Option<Output>), AllocError>
     requires bench { IsBench O.seen_in bench.old }
     requires based { pin.now.base < cursor }
@@ -301,7 +317,7 @@ pub(crate) fn step<'a, O: Operator>(
 {
     let (walks, last) = shown.into_parts();
     let (walks, outcome) = reach(alloc, bench, pin, walks, cursor)?;
-    let (last, told) = tell(alloc, pin.plan().output(), last, outcome)?;
+    let (last, told) = tell(alloc, pin.plan().output(), last, outcome, rows)?;
     Ok((Shown { walks, last }, told))
 }
 
@@ -316,6 +332,9 @@ pub(crate) fn same_output(
     match (last.fault, kind) {
         (Some(fault), _) => Ok(Output::Fault(fault)),
         (None, OutputKind::Rstream) => Ok(Output::Rows(last.bag.listing(alloc)?)),
-        (None, _) => difference(alloc, kind, Vec::new(alloc)),
+        (None, _) => {
+            let mut rows = Room::new(alloc);
+            difference(alloc, kind, Vec::new(alloc), &mut rows)
+        }
     }
 }

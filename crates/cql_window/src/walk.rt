@@ -8,27 +8,20 @@ ghost use Rattle.cql_window.specs.Laws.{between};
 ghost use Rattle.cql_window.specs.Pin.{HasColumns, IsPinned};
 ghost use Rattle.cql_window.specs.Places.{AreUpTo};
 ghost use Rattle.cql_window.specs.Queues.{AreQueued};
+ghost use Rattle.cql_window.specs.Span.{rows_of, rows_in, rows_left, IsWithin};
 ghost use Rattle.cql_window.specs.Window.{content, last_of_parts};
-ghost use Rattle.cql_window.specs.Walk.{IsExchange, IsSegment};
+ghost use Rattle.cql_window.specs.Walk.{IsExchange};
 
 use crate::amount::Count;
 use crate::pin::WindowPin;
 use crate::place::{Places, segment};
 use crate::queues::Queues;
+use crate::span::{Moved, Part, Span};
 use crate::window::Window;
 use cql_chunks::{Stretch, are_joined_same};
 use cql_value::{Same, Timed};
 use std::alloc::{AllocError, Global};
 use std::marker::Model;
-
-/// The rows that came into a window and those that left it, from one cursor to another.
-#[derive(Drop)]
-pub struct Moved {
-    /// The rows that came.
-    pub came: Vec<Timed>,
-    /// The rows that left.
-    pub left: Vec<Timed>,
-}
 
 /// Goes from cursor to cursor over the rows of a pin: each row comes once and leaves once.
 pub struct Walk<'a> {
@@ -76,14 +69,16 @@ impl<'a> Walk<'a> {
 
     /// The walk up to a cursor that isn't below the one that it reached, and the rows that came
     /// and left on the way: the window then holds its content at the cursor. A row that came and
-    /// left on the way may be among both. Without memory the walk is gone.
+    /// left on the way may be among both. Without parts no row is copied, and no memory is taken.
+    /// Without memory the walk is gone.
     pub fn advance(self, alloc: Global, cursor: u64) -> Result<(Walk<'a>, Moved), AllocError>
         requires { self.cursor ≤ cursor }
         ensures pin { IfOk result (λ r. r.0.pin ≡ self.entry.pin) }
         ensures cursor { IfOk result (λ r. r.0.cursor ≡ cursor) }
         ensures held { IfOk result (λ r. r.0.held ≡ content self.entry.pin.window cursor self.entry.pin.content self.entry.pin.unseen) }
-        ensures moved { IfOk result (λ r. IsExchange self.entry.held r.1.came.items r.1.left.items r.0.held) }
-        ensures came { IfOk result (λ r. IsSegment (self.entry.pin.content ++ self.entry.pin.unseen) r.1.came.items) }
+        ensures moved { IfOk result (λ r. IsExchange self.entry.held (rows_in r.1.came (rows_of self.entry.pin)) (rows_left r.1 (rows_of self.entry.pin)) r.0.held) }
+        ensures came { IfOk result (λ r. IsWithin r.1.came (rows_of self.entry.pin)) }
+        ensures left { IfOk result (λ r. IsWithin r.1.left (rows_of self.entry.pin)) }
     {
         let Walk {
             pin,
@@ -97,7 +92,7 @@ impl<'a> Walk<'a> {
                 let columns = columns.as_slice();
                 come(alloc, pin, columns, *count, &mut queues, from.high, to.high)?
             }
-            _ => slide(alloc, pin, from, to)?,
+            _ => slide(alloc, pin, from, to),
         };
         let walk = Walk {
             pin,
@@ -173,6 +168,14 @@ impl<'a> Walk<'a> {
         }
     }
 
+    /// A list's rows, and then those between two places of the pin. None is copied.
+    pub fn rows<'b>(&'b self, near: &'b [Timed], span: Span) -> Part<'b>
+        requires { IsWithin span (rows_of self.now.pin) }
+        ensures { result ≡ near.now ++ rows_in span (rows_of self.now.pin) }
+    {
+        Part::new(near, self.pin, span)
+    }
+
     /// What the window holds at the cursor, in some order. The rows are shared. Takes as many steps
     /// as there are.
     pub fn held(&self, alloc: Global) -> Result<Vec<Timed>, AllocError>
@@ -235,17 +238,28 @@ fn rows_between(
 }
 
 // What comes and leaves where a window without parts goes from some places to later ones.
-fn slide(alloc: Global, pin: &WindowPin, from: Places, to: Places) -> Result<Moved, AllocError>
+fn slide(alloc: Global, _pin: &WindowPin, from: Places, to: Places) -> Moved
     requires rising { AreUpTo from to }
     requires order { from.low ≤ from.high }
     requires order_then { to.low ≤ to.high }
-    requires within { to.high ≤ length pin.now.content + length pin.now.unseen }
-    ensures came { IfOk result (λ m. IsSegment (pin.now.content ++ pin.now.unseen) m.came.items) }
-    ensures moved { IfOk result (λ m. IsExchange (between from.low from.high (pin.now.content ++ pin.now.unseen)) m.came.items m.left.items (between to.low to.high (pin.now.content ++ pin.now.unseen))) }
+    requires within { to.high ≤ length _pin.now.content + length _pin.now.unseen }
+    ensures came { IsWithin result.came (rows_of _pin.now) }
+    ensures left { IsWithin result.left (rows_of _pin.now) }
+    ensures moved { IsExchange (between from.low from.high (rows_of _pin.now)) (rows_in result.came (rows_of _pin.now)) (rows_left result (rows_of _pin.now)) (between to.low to.high (rows_of _pin.now)) }
 {
-    let came = rows_between(alloc, pin, to.low.max(from.high), to.high)?;
-    let left = rows_between(alloc, pin, from.low, to.low.min(from.high))?;
-    Ok(Moved { came, left })
+    let came = Span {
+        from: to.low.max(from.high),
+        to: to.high,
+    };
+    let left = Span {
+        from: from.low,
+        to: to.low.min(from.high),
+    };
+    Moved {
+        came,
+        left,
+        gone: Vec::new(alloc),
+    }
 }
 
 // The rows that leave a window of parts where these rows come, one after another.
@@ -285,10 +299,15 @@ fn come(
     requires order { from ≤ to }
     requires within { to ≤ length pin.now.content + length pin.now.unseen }
     ensures queued { OnOk result (AreQueued columns.now count (take to (pin.now.content ++ pin.now.unseen)) queues.new) }
-    ensures came { IfOk result (λ m. IsSegment (pin.now.content ++ pin.now.unseen) m.came.items) }
-    ensures moved { IfOk result (λ m. IsExchange (last_of_parts columns.now count (take from (pin.now.content ++ pin.now.unseen))) m.came.items m.left.items (last_of_parts columns.now count (take to (pin.now.content ++ pin.now.unseen)))) }
+    ensures came { IfOk result (λ m. IsWithin m.came (rows_of pin.now)) }
+    ensures left { IfOk result (λ m. IsWithin m.left (rows_of pin.now)) }
+    ensures moved { IfOk result (λ m. IsExchange (last_of_parts columns.now count (take from (rows_of pin.now))) (rows_in m.came (rows_of pin.now)) (rows_left m (rows_of pin.now)) (last_of_parts columns.now count (take to (rows_of pin.now)))) }
 {
     let came = rows_between(alloc, pin, from, to)?;
-    let left = pushed_out(alloc, columns, count, queues, &came)?;
-    Ok(Moved { came, left })
+    let gone = pushed_out(alloc, columns, count, queues, &came)?;
+    Ok(Moved {
+        came: Span { from, to },
+        left: Span::none(),
+        gone,
+    })
 }

@@ -193,8 +193,8 @@ def logins(program, library):
 # With this no thread keeps pieces for itself of what it lets go, and free pieces are joined at once: what is
 # free at the end of an area of memory can go back to the system.
 SETTING = "GLIBC_TUNABLES", "glibc.malloc.tcache_count=0:glibc.malloc.mxfast=0"
-# Of one worker, and of each of several.
-MOST_LEFT, MOST_OF_EACH = 4 << 20, 1 << 20
+# Of each worker.
+MOST_LEFT = 4 << 20
 # So much has to have been taken for a check to say anything.
 LEAST_TAKEN = 5 << 20
 ROWS = 7_000
@@ -258,7 +258,7 @@ def given_back(program):
     with Answered(program, workers=WORKERS, warm=0) as answered:
         for number in range(SESSIONS):
             answered.session((JOIN, GROUPS, SET)[number % 3])
-        yield from answered.left(f"{SESSIONS} sessions on {WORKERS} workers", MOST_OF_EACH * WORKERS)
+        yield from answered.left(f"{SESSIONS} sessions on {WORKERS} workers", MOST_LEFT * WORKERS)
     with Answered(program, workers=1) as answered:
         answered.session(JOIN)
         time.sleep(SWEPT)

@@ -105,6 +105,7 @@ impl Caller {
         requires bench { E.is_ready bench.old }
         ensures bench { E.is_ready bench.new }
         ensures kept { self.new.is_kept ≡ self.old.is_kept }
+        ensures whose { self.new.seat.tenant ≡ self.old.seat.tenant }
     {
         if self.is_kept && self.receipts.reserve(1).is_err() {
             service
@@ -143,6 +144,7 @@ impl Caller {
         requires bench { E.is_ready bench.old }
         ensures bench { E.is_ready bench.new }
         ensures kept { self.new.is_kept ≡ self.old.is_kept }
+        ensures whose { self.new.seat.tenant ≡ self.old.seat.tenant }
         ensures held { may_fetch ≡ true → IfOk result (λ outcome. outcome ≢ Outcome.Held) }
     {
         let asked = match prepared_of(service.alloc, line, scratch) {

@@ -1,0 +1,12 @@
+use Rattle.std.proofs.Common.{◌++◌, take}
+use Rattle.cql_sessions.proofs.Seating.{not_is_true, not_is_false, part_visits, whole_faces}
+use Rattle.cql_sessions.proofs.visit.Visit.take_line.Goals as goal
+
+pub returns-then-not-taken-clause-seats : goal.returns-then-not-taken-clause-seats
+returns-then-not-taken-clause-seats g c = λ going came visits.
+    part_visits c.args.service.now.table.now came c.args.bytes.now c.args.self.now _ c.in_ok-taken.taken c.requires.going c.in_ok-taken.ensures.ok (not_is_true _ c.if-not-taken.true) going visits
+
+pub returns-clause-seats : goal.returns-clause-seats
+returns-clause-seats g c = λ going came visits.
+    c.in_ok-outcome.ensures.seats going (came ++ take c.in_ok-taken.taken.count c.args.bytes.now)
+    (whole_faces c.args.service.now.table.now came c.args.bytes.now c.args.self.now _ c.in_ok-taken.taken c.requires.going c.in_ok-taken.ensures.ok (not_is_false _ c.if-not-taken.false) going visits)

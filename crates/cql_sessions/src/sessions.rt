@@ -2,7 +2,7 @@
 ghost use Rattle.std.specs.Prelude.{◌≡◌, ◌++◌, ◌<◌, List, ℕ, [], true, false, Some, None, IfSome, OnOk, All, is_ok, vec_len};
 ghost use Rattle.cql_lines.specs.Text.{lines_of};
 ghost use Rattle.cql_lines.specs.Watched.{inner_of};
-ghost use Rattle.cql_sessions.specs.Seating.{login_among, IsLogin, IsLoginOf, IsNew, Visits, Reads, tenant_of};
+ghost use Rattle.cql_sessions.specs.Seating.{login_among, behind_login, Asks, Served, ServedOf, IsNew, Visits, Reads, account_of};
 ghost use Rattle.cql_sessions.specs.Tallies.{placed};
 
 use crate::caller::Service;
@@ -62,6 +62,7 @@ where
     ensures bare { J.keeps ≡ false → result.receipts.items ≡ [] }
     ensures nobody { result.seat ≡ None → result.receipts.items ≡ [] }
     ensures login { IfSome result.seat (λ s. IfSome (R.remaining reader) (λ input. login_among table.now (lines_of input) ≡ Some s.tenant)) }
+    ensures asked { IfSome result.seat (λ s. IfSome (R.remaining reader) (λ input. Asks (behind_login (lines_of input)) result.receipts.items)) }
 {
     let mut reader = Watched::new(reader);
     let mut writer = Watched::new(writer);
@@ -92,7 +93,7 @@ fn attend<H: Wait, J: Journal, E: Evaluator, G: Gate, R: Read, W: Write>(
     requires going { visit.old.is_held ≡ false }
     ensures bench { E.is_ready bench.new }
     ensures kept { visit.new.is_kept ≡ visit.old.is_kept }
-    ensures login { IsNew visit.old → IsLoginOf service.now.table.now (R.remaining (inner_of reader.old)) (tenant_of visit.new.caller) }
+    ensures served { IsNew visit.old → ServedOf service.now.table.now (R.remaining (inner_of reader.old)) (account_of visit.new.caller) }
 {
     visit.make_room(service.alloc)?;
     let mut desk = Desk::new(service.alloc)?;
@@ -164,8 +165,8 @@ fn take_lines<H: Wait, J: Journal, E: Evaluator, G: Gate, W: Write>(
     ensures kept { visit.new.is_kept ≡ visit.old.is_kept }
     ensures going { OnOk result (visit.new.is_held ≡ false) }
     ensures input { visit.new.is_ended ≡ visit.old.is_ended }
-    ensures login { visit.old.is_ended ≡ false → (came : List ℕ) → Visits service.now.table.now came visit.old
-        → IsLogin service.now.table.now false (came ++ bytes.now) (tenant_of visit.new.caller) }
+    ensures served { visit.old.is_ended ≡ false → (came : List ℕ) → Visits service.now.table.now came visit.old
+        → Served service.now.table.now false (came ++ bytes.now) (account_of visit.new.caller) }
     ensures seats { OnOk result (visit.new.is_over ≡ false → (came : List ℕ)
         → Visits service.now.table.now came visit.old → Visits service.now.table.now (came ++ bytes.now) visit.new) }
 {

@@ -1,5 +1,5 @@
 // A session between two pieces of its input.
-ghost use Rattle.std.specs.Prelude.{◌≡◌, ◌≢◌, ◌≤◌, ◌++◌, ◌||◌, List, ℕ, [], true, false, None, IfSome, IfOk, OnOk, OnErr, is_none, length, min, take, option_map};
+ghost use Rattle.std.specs.Prelude.{◌≡◌, ◌≢◌, ◌≤◌, ◌++◌, ◌||◌, List, ℕ, [], true, false, None, IfSome, IfOk, OnOk, OnErr, ◌⊎◌, Some, is_none, length, min, take, option_map};
 ghost use Rattle.std.specs.Option.{ForSome};
 ghost use Rattle.cql_sessions.specs.Tallies.{Tallies};
 
@@ -52,7 +52,7 @@ pub(crate) struct Step {
 
 impl Visit {
     ghost use Rattle.cql_lines.specs.Text.{shown_line};
-    ghost use Rattle.cql_sessions.specs.Seating.{IsNew, HasGoneOn, Visits, Faces, tenant_of, seat_behind};
+    ghost use Rattle.cql_sessions.specs.Seating.{IsNew, HasGoneOn, Visits, Faces, Served, Answers, account_of};
 
     /// Nothing has come yet. Takes no memory.
     pub(crate) fn new<J: Journal>(alloc: Global) -> Visit
@@ -108,7 +108,7 @@ impl Visit {
 
     /// Whose calls it makes, once its caller has logged in.
     pub(crate) fn tenant(&self) -> Option<TenantId>
-        ensures { result ≡ tenant_of self.now.caller }
+        ensures { result ≡ option_map (λ caller. caller.seat.tenant) self.now.caller }
     {
         match &self.caller {
             Some(caller) => Some(caller.tenant()),
@@ -144,7 +144,8 @@ impl Visit {
         ensures input { self.new.is_ended ≡ self.old.is_ended }
         ensures seats { IfOk result (λ step. self.old.is_over ≡ false → (came : List ℕ)
             → Visits service.now.table.now came self.old → Visits service.now.table.now (came ++ take step.count bytes.now) self.new) }
-        ensures stops { OnErr result (tenant_of self.new.caller ≡ tenant_of self.old.caller) }
+        ensures stops { OnErr result (self.old.is_over ≡ false → (came : List ℕ)
+            → Visits service.now.table.now came self.old → Served service.now.table.now false (came ++ bytes.now) (account_of self.new.caller)) }
         ensures within { IfOk result (λ step. step.count ≤ length bytes.now) }
         ensures some { IfOk result (λ step. min 1 (length bytes.now) ≤ step.count) }
     {
@@ -180,7 +181,8 @@ impl Visit {
         ensures ended { self.new.is_ended ≡ true }
         ensures seats { OnOk result (self.old.is_held ≡ false → self.old.is_over ≡ false → (came : List ℕ)
             → Visits service.now.table.now came self.old → Visits service.now.table.now came self.new) }
-        ensures stops { OnErr result (tenant_of self.new.caller ≡ tenant_of self.old.caller) }
+        ensures stops { OnErr result (self.old.is_held ≡ false → self.old.is_over ≡ false → (came : List ℕ)
+            → Visits service.now.table.now came self.old → Served service.now.table.now true came (account_of self.new.caller)) }
     {
         self.is_ended = true;
         self.answer_whole(service, bench, may_fetch, gathered, scratch, writer)
@@ -204,7 +206,8 @@ impl Visit {
         ensures input { self.new.is_ended ≡ self.old.is_ended }
         ensures seats { OnOk result (self.old.is_over ≡ false → (came : List ℕ)
             → Faces service.now.table.now came self.old → Visits service.now.table.now came self.new) }
-        ensures stops { OnErr result (tenant_of self.new.caller ≡ tenant_of self.old.caller) }
+        ensures stops { OnErr result (self.old.is_over ≡ false → (came : List ℕ)
+            → Faces service.now.table.now came self.old → Served service.now.table.now self.new.is_ended came (account_of self.new.caller)) }
     {
         if !self.intake.counts() {
             self.go_on();
@@ -247,9 +250,12 @@ impl Visit {
         ensures kept { self.new.is_kept ≡ self.old.is_kept }
         ensures held { IfOk result (λ outcome. may_fetch ≡ true → outcome ≢ Outcome.Held) }
         ensures line { (self.new.intake ≡ self.old.intake) × (self.new.is_held ≡ self.old.is_held) × (self.new.is_ended ≡ self.old.is_ended) }
-        ensures seat { OnOk result (tenant_of self.new.caller ≡ seat_behind service.now.table.now (shown_line self.old.intake) (tenant_of self.old.caller)) }
+        ensures answers { IfOk result (λ outcome. outcome ≢ Outcome.Held
+            → Answers service.now.table.now (shown_line self.old.intake) (account_of self.old.caller) (account_of self.new.caller)) }
+        ensures waits { IfOk result (λ outcome. outcome ≡ Outcome.Held → account_of self.new.caller ≡ account_of self.old.caller) }
         ensures over { OnOk result (self.new.is_over ≡ (is_none self.new.caller || self.old.is_over)) }
-        ensures stops { OnErr result (tenant_of self.new.caller ≡ tenant_of self.old.caller) }
+        ensures stops { OnErr result ((account_of self.new.caller ≡ account_of self.old.caller)
+            ⊎ Answers service.now.table.now (shown_line self.old.intake) (account_of self.old.caller) (account_of self.new.caller)) }
     {
         let line = self.intake.line();
         if let Some(caller) = &mut self.caller {
@@ -278,6 +284,7 @@ impl Visit {
         ensures tallies { IfSome result.seat (λ s. Tallies self.is_kept s result.receipts.items) }
         ensures nobody { result.seat ≡ None → result.receipts.items ≡ [] }
         ensures seat { result.seat ≡ option_map (λ caller. caller.seat) self.caller }
+        ensures receipts { IfSome self.caller (λ caller. result.receipts ≡ caller.receipts) }
     {
         let Visit {
             caller,

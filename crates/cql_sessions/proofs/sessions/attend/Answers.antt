@@ -1,5 +1,5 @@
 use Rattle.std.proofs.Common.{arith, sym, ◌∙◌, refl}
-use Rattle.cql_sessions.proofs.Seating.{begins, reads_on, reads_login}
+use Rattle.cql_sessions.proofs.Seating.{begins, nobody_yet, reads_on, reads_served, going_served}
 use Rattle.cql_sessions.proofs.sessions.attend.Goals as goal
 
 pub loop-init : goal.loop-init
@@ -11,17 +11,17 @@ loop-init g c = record {
   so_far = λ new. begins c.args.service.now.table.now c.make_room.new.self _ (c.in_ok-make_room.ensures.begins new);
 }
 
-pub returns-in_err-read_once-clause-login : goal.returns-in_err-read_once-clause-login
-returns-in_err-read_once-clause-login g c = λ new.
-    reads_login c.args.service.now.table.now c.loop.visit c.read_once.new.visit _ _ _ _ c.in_err-read_once.ensures.reads (c.loop.invariant.so_far new)
+pub returns-in_err-read_once-clause-served : goal.returns-in_err-read_once-clause-served
+returns-in_err-read_once-clause-served g c = λ new.
+    reads_served c.args.service.now.table.now c.loop.visit c.read_once.new.visit _ _ _ _ c.in_err-read_once.ensures.reads (c.loop.invariant.so_far new)
 
-pub returns-in_err-flush-clause-login : goal.returns-in_err-flush-clause-login
-returns-in_err-flush-clause-login g c = λ new.
-    reads_login c.args.service.now.table.now c.loop.visit c.read_once.new.visit _ _ _ _ c.in_ok-read_once.ensures.reads (c.loop.invariant.so_far new)
+pub returns-in_err-flush-clause-served : goal.returns-in_err-flush-clause-served
+returns-in_err-flush-clause-served g c = λ new.
+    reads_served c.args.service.now.table.now c.loop.visit c.read_once.new.visit _ _ _ _ c.in_ok-read_once.ensures.reads (c.loop.invariant.so_far new)
 
-pub returns-then-is_over-clause-login : goal.returns-then-is_over-clause-login
-returns-then-is_over-clause-login g c = λ new.
-    reads_login c.args.service.now.table.now c.loop.visit c.read_once.new.visit _ _ _ _ c.in_ok-read_once.ensures.reads (c.loop.invariant.so_far new)
+pub returns-then-is_over-clause-served : goal.returns-then-is_over-clause-served
+returns-then-is_over-clause-served g c = λ new.
+    reads_served c.args.service.now.table.now c.loop.visit c.read_once.new.visit _ _ _ _ c.in_ok-read_once.ensures.reads (c.loop.invariant.so_far new)
 
 pub loop-preserved : goal.loop-preserved
 loop-preserved g c = record {
@@ -33,3 +33,12 @@ loop-preserved g c = record {
       reads_on c.args.service.now.table.now c.loop.visit c.read_once.new.visit _ _ _ c.in_ok-read_once.ensures.going (sym c.is_over.ensures ∙ c.if-is_over.false) c.in_ok-read_once.ensures.reads
       (c.loop.invariant.so_far new);
 }
+
+pub returns-in_err-make_room-clause-served : goal.returns-in_err-make_room-clause-served
+returns-in_err-make_room-clause-served g c = λ new. nobody_yet c.args.service.now.table.now c.make_room.new.self _ (c.in_err-make_room.ensures.begins new)
+
+pub returns-in_err-desk-clause-served : goal.returns-in_err-desk-clause-served
+returns-in_err-desk-clause-served g c = λ new. nobody_yet c.args.service.now.table.now c.make_room.new.self _ (c.in_ok-make_room.ensures.begins new)
+
+pub returns-clause-served : goal.returns-clause-served
+returns-clause-served g c = λ new. going_served c.args.service.now.table.now c.loop.visit _ _ (c.loop.invariant.so_far new)

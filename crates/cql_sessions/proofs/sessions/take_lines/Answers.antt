@@ -1,5 +1,5 @@
 use Rattle.std.proofs.Common.{◌++◌, [], take, refl, sym, ◌∙◌}
-use Rattle.cql_sessions.proofs.Seating.{clash, nowhere, further, rest_taken, none_left, used_login, all_used}
+use Rattle.cql_sessions.proofs.Seating.{clash, nowhere, further, rest_taken, none_left, used_served, used_stops, all_used}
 use Rattle.cql_sessions.proofs.sessions.take_lines.Goals as goal
 
 pub loop-visit-init : goal.loop-visit-init
@@ -28,23 +28,23 @@ loop-visit-preserved g c =
       );
     }
 
-pub returns-in_err-step-clause-login : goal.returns-in_err-step-clause-login
-returns-in_err-step-clause-login g c =
+pub returns-in_err-step-clause-served : goal.returns-in_err-step-clause-served
+returns-in_err-step-clause-served g c =
     let (used, is, seats) = c.loop-visit.invariant.seats in
-    used_login c.args.service.now.table.now c.args.visit.now c.loop-visit.visit c.take_line.new.self c.args.bytes.now used c.loop-visit.rest.now is c.loop-visit.invariant.input c.in_err-step.ensures.stops seats
+    used_stops c.args.service.now.table.now c.args.visit.now c.loop-visit.visit c.take_line.new.self c.args.bytes.now used c.loop-visit.rest.now is seats (c.in_err-step.ensures.stops (sym c.is_over.ensures ∙ c.if-not-is_over.true))
 
-pub returns-else-not-is_over-clause-login : goal.returns-else-not-is_over-clause-login
-returns-else-not-is_over-clause-login g c =
+pub returns-else-not-is_over-clause-served : goal.returns-else-not-is_over-clause-served
+returns-else-not-is_over-clause-served g c =
     let (used, is, seats) = c.loop-visit.invariant.seats in
-    used_login c.args.service.now.table.now c.args.visit.now c.loop-visit.visit c.loop-visit.visit c.args.bytes.now used c.loop-visit.rest.now is c.loop-visit.invariant.input refl seats
+    used_served c.args.service.now.table.now c.args.visit.now c.loop-visit.visit c.args.bytes.now used c.loop-visit.rest.now is c.loop-visit.invariant.input seats
 
 pub returns-else-not-is_over-clause-seats : goal.returns-else-not-is_over-clause-seats
 returns-else-not-is_over-clause-seats g c = λ going. clash c.loop-visit.visit.is_over (sym c.is_over.ensures ∙ c.if-not-is_over.false) going
 
-pub returns-after-loop-visit-clause-login : goal.returns-after-loop-visit-clause-login
-returns-after-loop-visit-clause-login g c =
+pub returns-after-loop-visit-clause-served : goal.returns-after-loop-visit-clause-served
+returns-after-loop-visit-clause-served g c =
     let (used, is, seats) = c.loop-visit.invariant.seats in
-    used_login c.args.service.now.table.now c.args.visit.now c.loop-visit.visit c.loop-visit.visit c.args.bytes.now used c.loop-visit.rest.now is c.loop-visit.invariant.input refl seats
+    used_served c.args.service.now.table.now c.args.visit.now c.loop-visit.visit c.args.bytes.now used c.loop-visit.rest.now is c.loop-visit.invariant.input seats
 
 pub returns-after-loop-visit-clause-seats : goal.returns-after-loop-visit-clause-seats
 returns-after-loop-visit-clause-seats g c =

@@ -1,9 +1,8 @@
 -- The law of an input in pieces at one worked by hand: a premise that it doesn't meet is refused here.
-use Rattle.std.proofs.Common.{◌≡◌, ℕ, false, List, [], ◌∷◌, ◌++◌, refl}
+use Rattle.std.proofs.Common.{◌≡◌, ℕ, false, List, [], ◌∷◌, refl}
 use Rattle.std.proofs.lemmas.List.Elements.{All-cons, All-nil}
 use Rattle.std.specs.List.{cons_option}
-use Rattle.cql_lines.specs.Text.{LineText, whole, is_feed, HasNoFeed, line_found, lines_of}
-use Rattle.cql_lines.specs.Taking.{GoesOn}
+use Rattle.cql_lines.specs.Text.{whole, is_feed, HasNoFeed, line_found, lines_of}
 use Rattle.cql_lines.specs.Pieces.{Piece, part, fed, bytes_of, Taking, PiecesLaw}
 use Rattle.cql_lines.proofs.Pieces.{kept_grown}
 

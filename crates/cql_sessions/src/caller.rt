@@ -1,5 +1,5 @@
 // A caller who has logged in.
-ghost use Rattle.std.specs.Prelude.{◌≡◌, ◌≢◌, true, Some, IfOk};
+ghost use Rattle.std.specs.Prelude.{◌≡◌, ◌≢◌, [], true, Some, Ok, IfOk};
 ghost use Rattle.cql_sessions.specs.Tallies.{Tallies};
 
 use crate::asked::{Asked, prepared_of};
@@ -51,6 +51,12 @@ impl Drop for Caller {
 }
 
 impl Caller {
+    ghost use Rattle.std.specs.Arc.{arc_value};
+    ghost use Rattle.cql_lines.specs.Next.{text_of};
+    ghost use Rattle.cql_sessions.specs.Answering.{Calls};
+    ghost use Rattle.cql_sessions.specs.Asked.{asked_of};
+    ghost use Rattle.cql_sessions.specs.Seating.{of_caller};
+
     /// A caller of the tenant, who has made no call.
     pub(crate) fn new<J: Journal>(
         alloc: Global,
@@ -60,6 +66,7 @@ impl Caller {
     ) -> Caller
         ensures kept { result.is_kept ≡ is_kept }
         ensures whose { result.seat.tenant ≡ tenant }
+        ensures none { result.receipts.items ≡ [] }
     {
         Caller {
             seat: hall.seat(tenant),
@@ -105,6 +112,7 @@ impl Caller {
         requires bench { E.is_ready bench.old }
         ensures bench { E.is_ready bench.new }
         ensures kept { self.new.is_kept ≡ self.old.is_kept }
+        ensures calls { Calls (Ok (arc_value asked.prepared)) (of_caller self.old) (of_caller self.new) }
     {
         if self.is_kept && self.receipts.reserve(1).is_err() {
             service
@@ -143,6 +151,8 @@ impl Caller {
         requires bench { E.is_ready bench.old }
         ensures bench { E.is_ready bench.new }
         ensures kept { self.new.is_kept ≡ self.old.is_kept }
+        ensures calls { Calls (asked_of (text_of line.entry)) (of_caller self.old) (of_caller self.new) }
+        ensures waits { IfOk result (λ outcome. outcome ≡ Outcome.Held → of_caller self.new ≡ of_caller self.old) }
         ensures held { may_fetch ≡ true → IfOk result (λ outcome. outcome ≢ Outcome.Held) }
     {
         let asked = match prepared_of(service.alloc, line, scratch) {

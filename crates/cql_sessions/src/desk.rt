@@ -1,5 +1,5 @@
 // What a thread needs for the sessions that it serves.
-ghost use Rattle.std.specs.Prelude.{◌≡◌, [], IfOk};
+ghost use Rattle.std.specs.Prelude.{◌≡◌, [], IfOk, vec_len};
 
 use cql_wire::{Gathered, Scratch};
 use std::alloc::{AllocError, Global};
@@ -27,7 +27,8 @@ impl Drop for Desk {
 impl Desk {
     /// Nothing is gathered.
     pub fn new(alloc: Global) -> Result<Desk, AllocError>
-        ensures { IfOk result (λ desk. desk.gathered ≡ []) }
+        ensures gathered { IfOk result (λ desk. desk.gathered ≡ []) }
+        ensures room { IfOk result (λ desk. vec_len desk.chunk ≡ 8192) }
     {
         let chunk = vec![in alloc; 0; CHUNK]?;
         let gathered = Gathered::new(alloc)?;

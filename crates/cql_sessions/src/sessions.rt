@@ -1,5 +1,8 @@
 // One session.
-ghost use Rattle.std.specs.Prelude.{◌≡◌, [], true, false, None, IfSome, OnOk, All};
+ghost use Rattle.std.specs.Prelude.{◌≡◌, ◌++◌, ◌<◌, List, ℕ, [], true, false, Some, None, IfSome, OnOk, All, is_ok, vec_len};
+ghost use Rattle.cql_lines.specs.Text.{lines_of};
+ghost use Rattle.cql_lines.specs.Watched.{inner_of};
+ghost use Rattle.cql_sessions.specs.Seating.{login_among, behind_login, Asks, Served, ServedOf, IsNew, Visits, Reads, account_of};
 ghost use Rattle.cql_sessions.specs.Tallies.{placed};
 
 use crate::caller::Service;
@@ -58,6 +61,8 @@ where
     ensures whose { IfSome result.seat (λ s. All (λ r. r.tenant ≡ s.tenant) result.receipts.items) }
     ensures bare { J.keeps ≡ false → result.receipts.items ≡ [] }
     ensures nobody { result.seat ≡ None → result.receipts.items ≡ [] }
+    ensures login { IfSome result.seat (λ s. IfSome (R.remaining reader) (λ input. login_among table.now (lines_of input) ≡ Some s.tenant)) }
+    ensures asked { IfSome result.seat (λ s. IfSome (R.remaining reader) (λ input. Asks (behind_login (lines_of input)) result.receipts.items)) }
 {
     let mut reader = Watched::new(reader);
     let mut writer = Watched::new(writer);
@@ -88,6 +93,7 @@ fn attend<H: Wait, J: Journal, E: Evaluator, G: Gate, R: Read, W: Write>(
     requires going { visit.old.is_held ≡ false }
     ensures bench { E.is_ready bench.new }
     ensures kept { visit.new.is_kept ≡ visit.old.is_kept }
+    ensures served { IsNew visit.old → ServedOf service.now.table.now (R.remaining (inner_of reader.old)) (account_of visit.new.caller) }
 {
     visit.make_room(service.alloc)?;
     let mut desk = Desk::new(service.alloc)?;
@@ -113,9 +119,13 @@ fn read_once<H: Wait, J: Journal, E: Evaluator, G: Gate, R: Read, W: Write>(
 ) -> Result<(), ScriptError>
     requires bench { E.is_ready bench.old }
     requires going { visit.old.is_held ≡ false }
+    requires room { 0 < vec_len desk.old.chunk }
     ensures bench { E.is_ready bench.new }
     ensures kept { visit.new.is_kept ≡ visit.old.is_kept }
     ensures going { OnOk result (visit.new.is_held ≡ false) }
+    ensures room { vec_len desk.new.chunk ≡ vec_len desk.old.chunk }
+    ensures reads { visit.old.is_over ≡ false → Reads service.now.table.now visit.old visit.new
+        (R.remaining (inner_of reader.old)) (R.remaining (inner_of reader.new)) (is_ok result) }
 {
     let Desk {
         chunk,
@@ -154,6 +164,11 @@ fn take_lines<H: Wait, J: Journal, E: Evaluator, G: Gate, W: Write>(
     ensures bench { E.is_ready bench.new }
     ensures kept { visit.new.is_kept ≡ visit.old.is_kept }
     ensures going { OnOk result (visit.new.is_held ≡ false) }
+    ensures input { visit.new.is_ended ≡ visit.old.is_ended }
+    ensures served { visit.old.is_ended ≡ false → (came : List ℕ) → Visits service.now.table.now came visit.old
+        → Served service.now.table.now false (came ++ bytes.now) (account_of visit.new.caller) }
+    ensures seats { OnOk result (visit.new.is_over ≡ false → (came : List ℕ)
+        → Visits service.now.table.now came visit.old → Visits service.now.table.now (came ++ bytes.now) visit.new) }
 {
     let mut rest = bytes;
     while !rest.is_empty() && !visit.is_over() {

@@ -1,5 +1,5 @@
 // A session between two pieces of its input.
-ghost use Rattle.std.specs.Prelude.{◌≡◌, ◌≢◌, ◌≤◌, [], true, false, None, IfSome, IfOk, OnOk, length, min};
+ghost use Rattle.std.specs.Prelude.{◌≡◌, ◌≢◌, ◌≤◌, ◌++◌, ◌||◌, List, ℕ, [], true, false, None, IfSome, IfOk, OnOk, OnErr, ◌⊎◌, Some, is_none, length, min, take, option_map};
 ghost use Rattle.std.specs.Option.{ForSome};
 ghost use Rattle.cql_sessions.specs.Tallies.{Tallies};
 
@@ -51,10 +51,14 @@ pub(crate) struct Step {
 }
 
 impl Visit {
+    ghost use Rattle.cql_lines.specs.Text.{shown_line};
+    ghost use Rattle.cql_sessions.specs.Seating.{IsNew, HasGoneOn, Visits, Faces, Served, Answers, account_of};
+
     /// Nothing has come yet. Takes no memory.
     pub(crate) fn new<J: Journal>(alloc: Global) -> Visit
         ensures kept { result.is_kept ≡ J.keeps }
         ensures going { result.is_held ≡ false }
+        ensures begins { IsNew result }
     {
         Visit {
             caller: None,
@@ -70,6 +74,7 @@ impl Visit {
     pub(crate) fn make_room(&mut self, alloc: Global) -> Result<(), AllocError>
         ensures kept { self.new.is_kept ≡ self.old.is_kept }
         ensures going { self.new.is_held ≡ self.old.is_held }
+        ensures begins { IsNew self.old → IsNew self.new }
     {
         self.intake = Intake::with_room(alloc)?;
         Ok(())
@@ -90,7 +95,9 @@ impl Visit {
     }
 
     /// Whether no more is answered.
-    pub(crate) fn is_over(&self) -> bool {
+    pub(crate) fn is_over(&self) -> bool
+        ensures { result ≡ self.now.is_over }
+    {
         self.is_over
     }
 
@@ -100,7 +107,9 @@ impl Visit {
     }
 
     /// Whose calls it makes, once its caller has logged in.
-    pub(crate) fn tenant(&self) -> Option<TenantId> {
+    pub(crate) fn tenant(&self) -> Option<TenantId>
+        ensures { result ≡ option_map (λ caller. caller.seat.tenant) self.now.caller }
+    {
         match &self.caller {
             Some(caller) => Some(caller.tenant()),
             None => None,
@@ -108,7 +117,9 @@ impl Visit {
     }
 
     /// Gives the memory of the line back, where nothing of it has come.
-    pub(crate) fn rest(&mut self) {
+    pub(crate) fn rest(&mut self)
+        ensures { self.new ≡ self.old }
+    {
         self.intake.rest();
     }
 
@@ -130,6 +141,11 @@ impl Visit {
         ensures bench { E.is_ready bench.new }
         ensures kept { self.new.is_kept ≡ self.old.is_kept }
         ensures going { may_fetch ≡ true → OnOk result (self.new.is_held ≡ false) }
+        ensures input { self.new.is_ended ≡ self.old.is_ended }
+        ensures seats { IfOk result (λ step. self.old.is_over ≡ false → (came : List ℕ)
+            → Visits service.now.table.now came self.old → Visits service.now.table.now (came ++ take step.count bytes.now) self.new) }
+        ensures stops { OnErr result (self.old.is_over ≡ false → (came : List ℕ)
+            → Visits service.now.table.now came self.old → Served service.now.table.now false (came ++ bytes.now) (account_of self.new.caller)) }
         ensures within { IfOk result (λ step. step.count ≤ length bytes.now) }
         ensures some { IfOk result (λ step. min 1 (length bytes.now) ≤ step.count) }
     {
@@ -162,6 +178,11 @@ impl Visit {
         ensures bench { E.is_ready bench.new }
         ensures kept { self.new.is_kept ≡ self.old.is_kept }
         ensures going { may_fetch ≡ true → OnOk result (self.new.is_held ≡ false) }
+        ensures ended { self.new.is_ended ≡ true }
+        ensures seats { OnOk result (self.old.is_held ≡ false → self.old.is_over ≡ false → (came : List ℕ)
+            → Visits service.now.table.now came self.old → Visits service.now.table.now came self.new) }
+        ensures stops { OnErr result (self.old.is_held ≡ false → self.old.is_over ≡ false → (came : List ℕ)
+            → Visits service.now.table.now came self.old → Served service.now.table.now true came (account_of self.new.caller)) }
     {
         self.is_ended = true;
         self.answer_whole(service, bench, may_fetch, gathered, scratch, writer)
@@ -182,6 +203,11 @@ impl Visit {
         ensures bench { E.is_ready bench.new }
         ensures kept { self.new.is_kept ≡ self.old.is_kept }
         ensures going { may_fetch ≡ true → OnOk result (self.new.is_held ≡ false) }
+        ensures input { self.new.is_ended ≡ self.old.is_ended }
+        ensures seats { OnOk result (self.old.is_over ≡ false → (came : List ℕ)
+            → Faces service.now.table.now came self.old → Visits service.now.table.now came self.new) }
+        ensures stops { OnErr result (self.old.is_over ≡ false → (came : List ℕ)
+            → Faces service.now.table.now came self.old → Served service.now.table.now self.new.is_ended came (account_of self.new.caller)) }
     {
         if !self.intake.counts() {
             self.go_on();
@@ -200,6 +226,7 @@ impl Visit {
     fn go_on(&mut self)
         ensures kept { self.new.is_kept ≡ self.old.is_kept }
         ensures held { self.new.is_held ≡ false }
+        ensures gone { HasGoneOn self.old self.new }
     {
         self.intake.clear();
         self.is_held = false;
@@ -222,6 +249,13 @@ impl Visit {
         ensures bench { E.is_ready bench.new }
         ensures kept { self.new.is_kept ≡ self.old.is_kept }
         ensures held { IfOk result (λ outcome. may_fetch ≡ true → outcome ≢ Outcome.Held) }
+        ensures line { (self.new.intake ≡ self.old.intake) × (self.new.is_held ≡ self.old.is_held) × (self.new.is_ended ≡ self.old.is_ended) }
+        ensures answers { IfOk result (λ outcome. outcome ≢ Outcome.Held
+            → Answers service.now.table.now (shown_line self.old.intake) (account_of self.old.caller) (account_of self.new.caller)) }
+        ensures waits { IfOk result (λ outcome. outcome ≡ Outcome.Held → account_of self.new.caller ≡ account_of self.old.caller) }
+        ensures over { OnOk result (self.new.is_over ≡ (is_none self.new.caller || self.old.is_over)) }
+        ensures stops { OnErr result ((account_of self.new.caller ≡ account_of self.old.caller)
+            ⊎ Answers service.now.table.now (shown_line self.old.intake) (account_of self.old.caller) (account_of self.new.caller)) }
     {
         let line = self.intake.line();
         if let Some(caller) = &mut self.caller {
@@ -249,6 +283,8 @@ impl Visit {
     pub(crate) fn into_end(self, alloc: Global, fault: Option<ScriptError>) -> SessionEnd
         ensures tallies { IfSome result.seat (λ s. Tallies self.is_kept s result.receipts.items) }
         ensures nobody { result.seat ≡ None → result.receipts.items ≡ [] }
+        ensures seat { result.seat ≡ option_map (λ caller. caller.seat) self.caller }
+        ensures receipts { IfSome self.caller (λ caller. result.receipts ≡ caller.receipts) }
     {
         let Visit {
             caller,

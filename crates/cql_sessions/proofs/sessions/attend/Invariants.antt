@@ -1,4 +1,7 @@
-use Rattle.std.proofs.Common.{◌≡◌, false}
+use Rattle.std.proofs.Common.{◌≡◌, ◌<◌, false, vec_len}
+use Rattle.cql_lines.specs.Watched.{inner_of}
+use Rattle.cql_sessions.specs.Seating.{IsNew}
+use Rattle.cql_sessions.proofs.Seating.{SoFar}
 use Rattle.cql_sessions.proofs.sessions.attend.Given as goal
 
 abbrev pub invariant-loop : goal.invariant-loop
@@ -6,4 +9,6 @@ invariant-loop g l = record {
   bench : g.E.Evaluator.is_ready l.bench;
   kept : l.visit.is_kept ≡ l.initial.visit.is_kept;
   going : l.visit.is_held ≡ false;
+  room : 0 < vec_len l.desk.chunk;
+  so_far : IsNew l.fn.visit → SoFar l.fn.service.table.now l.visit (g.R.Read.remaining (inner_of l.fn.reader)) (g.R.Read.remaining (inner_of l.reader));
 }

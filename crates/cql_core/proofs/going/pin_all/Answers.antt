@@ -7,6 +7,3 @@ pin-requires-clause-there c = grind (arith, common_steps)
 
 pub returns : goal.returns
 returns c = grind (arith, common_steps)
-
-pub pin-requires-clause-held : goal.pin-requires-clause-held
-pin-requires-clause-held c = grind (arith, common_steps)

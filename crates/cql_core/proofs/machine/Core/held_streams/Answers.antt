@@ -1,6 +1,0 @@
-use Rattle.std.proofs.lemmas.Grind.{common_steps}
-use Rattle.std.proofs.Common.{arith}
-use Rattle.cql_core.proofs.machine.Core.held_streams.Goals as goal
-
-pub loop-stream-preserved : goal.loop-stream-preserved
-loop-stream-preserved c = grind (arith, common_steps)

@@ -7,7 +7,7 @@ RUN_TIME := one to three minutes
 BUILD_TIME := a quarter of an hour or more
 TEST_TIME := half an hour to 70 minutes on four cores, 5,200 to 15,400 s of processor time
 
-.PHONY: help run build test look drive bench clauses lemmas goals answers
+.PHONY: help run build test look drive bench check clauses lemmas goals steps edits answers
 
 # tells what the targets do
 help:
@@ -17,7 +17,9 @@ help:
 	@echo 'make look    the part of the gate that needs nothing built: pages, laws and worked replies (ten seconds)'
 	@echo 'make drive   the part of the gate that drives the built programs'
 	@echo 'make clauses all public clauses, one a line; make lemmas: those that stand twice or that nothing cites (a second each)'
-	@echo 'make goals CRATE=NAME    the goals that took most of a check; make answers CRATE=NAME: answers for those whose search is in vain (a check or two)'
+	@echo 'make check   checks every crate, as many at once as there are processors (as make build, and more); proves, and runs nothing'
+	@echo 'make goals CRATE=NAME    the goals that took most of a check; make steps: its functions and their parts; make edits: its must-fail edits, each tried (up to a minute each)'
+	@echo 'make answers CRATE=NAME  writes answers for goals whose search is in vain (a check or two)'
 	@echo 'make bench   builds the programs, and times puts, query texts, fetches, rounds of them, shared streams, a store, the server, ten thousand callers and texts that ask for much, and counts instructions (an hour and a quarter)'
 
 # runs the first script with no proof
@@ -54,12 +56,13 @@ drive:
 	tests/warm
 	tests/page
 
-# what a person looks at, and no check: all public clauses, and lemmas that stand twice or that nothing cites
-clauses lemmas:
+# what a person looks at: all public clauses, and lemmas that stand twice or that nothing cites; and a
+# check of every crate
+clauses lemmas check:
 	@tools/$@
 
 # of one crate, over the kept work of its check
-goals answers:
+goals steps edits answers:
 	@tools/$@ $(CRATE)
 
 # times puts, texts of two lengths, fetches over many rows, and many readers of one stream, through

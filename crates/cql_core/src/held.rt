@@ -1,5 +1,5 @@
 // How many rows the streams of a tenant hold.
-ghost use Rattle.std.specs.Prelude.{◌≡◌, All, Some, IfOk, IfSome};
+ghost use Rattle.std.specs.Prelude.{◌≡◌, All, Some, IfOk, OnOk};
 ghost use Rattle.cql_meaning.specs.Source.{source_of};
 ghost use Rattle.cql_meaning.specs.Rows.{rows_held};
 
@@ -21,23 +21,26 @@ impl Drop for HeldStream {
 }
 
 impl Core {
-    // What is held of a stream, if rows are.
-    fn held_of(
+    // Adds what is held of a stream, if rows are.
+    fn add_held(
         &self,
         alloc: Global,
         owner: TenantId,
         stream: &Text,
-    ) -> Result<Option<HeldStream>, AllocError>
-        ensures { IfOk result (λ held. IfSome held (λ h. rows_held self.now (source_of owner h.name) ≡ Some h.rows)) }
+        held: &mut Vec<HeldStream>,
+    ) -> Result<(), AllocError>
+        requires { All (λ h. rows_held self.now (source_of owner h.name) ≡ Some h.rows) held.old.items }
+        ensures { OnOk result (All (λ h. rows_held self.now (source_of owner h.name) ≡ Some h.rows) held.new.items) }
     {
         let Some(rows) = self.rows_held(owner, stream.as_str()) else {
-            return Ok(None);
+            return Ok(());
         };
         if rows == 0 {
-            return Ok(None);
+            return Ok(());
         }
         let name = stream.try_clone(alloc)?;
-        Ok(Some(HeldStream { name, rows }))
+        held.push(HeldStream { name, rows })?;
+        Ok(())
     }
 
     /// The tenant's own streams of which rows are held, in order of making.
@@ -54,9 +57,7 @@ impl Core {
         }
         let streams = self.directory.own_streams(alloc, owner)?;
         for stream in streams.as_slice() {
-            if let Some(found) = self.held_of(alloc, owner, &stream.name)? {
-                held.push(found)?;
-            }
+            self.add_held(alloc, owner, &stream.name, &mut held)?;
         }
         Ok(held)
     }

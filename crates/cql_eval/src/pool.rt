@@ -67,10 +67,8 @@ impl<O: Operator> Pool<O> {
         ensures { IfSome result (IsWarm O.seen_in) }
     {
         let place = self.benches.iter().position(|bench| bench.is_empty());
-        match take_at(&mut self.benches, place.unwrap_or(0)) {
-            Some(bench) => Some(bench.forgotten()),
-            None => None,
-        }
+        let bench = take_at(&mut self.benches, place.unwrap_or(0))?;
+        Some(bench.forgotten())
     }
 
     /// Takes out a bench that seems to go on with the pin; else one that seems to stand for its query,

@@ -7,6 +7,9 @@ use Rattle.cql_eval.specs.Shown.{LeadsTo}
 use Rattle.cql_eval.proofs.Steps.{leads_on, leads_anew}
 use Rattle.cql_eval.proofs.shown.reach.Goals as goal
 
+pub restart-requires-clause-walks : goal.restart-requires-clause-walks
+restart-requires-clause-walks g c = (c.args.cursor, rw c.deref.ensures.value c.in_ok-walks.ensures.ready.walks)
+
 pub returns-in-Changed-clause-leads : goal.returns-in-Changed-clause-leads
 returns-in-Changed-clause-leads g c =
     let p = c.args.pin.now in

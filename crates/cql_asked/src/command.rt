@@ -76,7 +76,9 @@ impl Word {
 fn text_of(alloc: Global, tree: &Tree<'_>, key: &str) -> Result<Text, LineFault>
     ensures { Means (ok_or (text_at key.now (view tree.now)) LineFault.BadKey) result }
 {
-    let text = text_at(tree, key).ok_or(LineFault::BadKey)?;
+    let Some(text) = text_at(tree, key) else {
+        return Err(LineFault::BadKey);
+    };
     let text = Text::new(alloc, text)?;
     Ok(text)
 }
@@ -88,7 +90,9 @@ fn value_of(alloc: Global, tree: &Tree<'_>) -> Result<Value, LineFault>
     if let Some(number) = tree.as_i64() {
         return Ok(Value::Number(number));
     }
-    let text = tree.as_str().ok_or(LineFault::BadKey)?;
+    let Some(text) = tree.as_str() else {
+        return Err(LineFault::BadKey);
+    };
     let text = Text::new(alloc, text)?;
     Ok(Value::Text(text))
 }
@@ -132,7 +136,9 @@ fn stream_of(alloc: Global, tree: &Tree<'_>) -> Result<Command, LineFault>
     ensures { Means (ok_or (stream_of (view tree.now)) LineFault.BadKey) result }
 {
     let name = text_of(alloc, tree, "name")?;
-    let columns = array_at(tree, "columns").ok_or(LineFault::BadKey)?;
+    let Some(columns) = array_at(tree, "columns") else {
+        return Err(LineFault::BadKey);
+    };
     let columns = columns_of(alloc, columns)?;
     Ok(Command::Stream { name, columns })
 }
@@ -153,12 +159,13 @@ fn names_of(alloc: Global, items: &[Tree<'_>]) -> Result<Items<Text>, LineFault>
 fn named_columns_of(alloc: Global, tree: &Tree<'_>) -> Result<Option<Items<Text>>, LineFault>
     ensures { Means (ok_or (named_columns_of (view tree.now)) LineFault.BadKey) result }
 {
-    match optional_array(tree, "columns").ok_or(LineFault::BadKey)? {
-        Some(items) => {
+    match optional_array(tree, "columns") {
+        None => Err(LineFault::BadKey),
+        Some(None) => Ok(None),
+        Some(Some(items)) => {
             let names = names_of(alloc, items)?;
             Ok(Some(names))
         }
-        None => Ok(None),
     }
 }
 
@@ -187,8 +194,12 @@ fn put_of(alloc: Global, tree: &Tree<'_>) -> Result<Command, LineFault>
     ensures { Means (ok_or (put_of (view tree.now)) LineFault.BadKey) result }
 {
     let stream = text_of(alloc, tree, "stream")?;
-    let at = whole_at(tree, "at").ok_or(LineFault::BadKey)?;
-    let row = array_at(tree, "row").ok_or(LineFault::BadKey)?;
+    let Some(at) = whole_at(tree, "at") else {
+        return Err(LineFault::BadKey);
+    };
+    let Some(row) = array_at(tree, "row") else {
+        return Err(LineFault::BadKey);
+    };
     let row = row_of(alloc, row)?;
     Ok(Command::Put { stream, at, row })
 }
@@ -197,7 +208,9 @@ fn beat_of(alloc: Global, tree: &Tree<'_>) -> Result<Command, LineFault>
     ensures { Means (ok_or (beat_of (view tree.now)) LineFault.BadKey) result }
 {
     let stream = text_of(alloc, tree, "stream")?;
-    let at = whole_at(tree, "at").ok_or(LineFault::BadKey)?;
+    let Some(at) = whole_at(tree, "at") else {
+        return Err(LineFault::BadKey);
+    };
     Ok(Command::Beat { stream, at })
 }
 
@@ -213,7 +226,9 @@ fn fetch_of(alloc: Global, tree: &Tree<'_>) -> Result<Command, LineFault>
     ensures { Means (ok_or (fetch_of (view tree.now)) LineFault.BadKey) result }
 {
     let name = text_of(alloc, tree, "name")?;
-    let until = optional_whole(tree, "until").ok_or(LineFault::BadKey)?;
+    let Some(until) = optional_whole(tree, "until") else {
+        return Err(LineFault::BadKey);
+    };
     Ok(Command::Fetch { name, until })
 }
 
@@ -221,7 +236,9 @@ fn ack_of(alloc: Global, tree: &Tree<'_>) -> Result<Command, LineFault>
     ensures { Means (ok_or (ack_of (view tree.now)) LineFault.BadKey) result }
 {
     let name = text_of(alloc, tree, "name")?;
-    let to = whole_at(tree, "to").ok_or(LineFault::BadKey)?;
+    let Some(to) = whole_at(tree, "to") else {
+        return Err(LineFault::BadKey);
+    };
     Ok(Command::Ack { name, to })
 }
 
@@ -254,12 +271,13 @@ fn of_word(alloc: Global, word: Word, tree: &Tree<'_>) -> Result<Command, LineFa
 fn tenant_of(alloc: Global, tree: &Tree<'_>) -> Result<Option<Text>, LineFault>
     ensures { Means (ok_or (optional_text (codes "tenant") (view tree.now)) LineFault.BadKey) result }
 {
-    match optional_text(tree, "tenant").ok_or(LineFault::BadKey)? {
-        Some(text) => {
+    match optional_text(tree, "tenant") {
+        None => Err(LineFault::BadKey),
+        Some(None) => Ok(None),
+        Some(Some(text)) => {
             let name = Text::new(alloc, text)?;
             Ok(Some(name))
         }
-        None => Ok(None),
     }
 }
 
@@ -293,7 +311,9 @@ fn by_tree(
 ) -> Result<(Option<Text>, Command), LineFault>
     ensures { Means (of_data (read text.now)) result }
 {
-    let tree = read_tree(alloc, text, scratch)?.ok_or(LineFault::BadLine)?;
+    let Some(tree) = read_tree(alloc, text, scratch)? else {
+        return Err(LineFault::BadLine);
+    };
     of_tree(alloc, &tree)
 }
 

@@ -80,7 +80,9 @@ fn login_in(table: &TenantTable, tree: &Json) -> Option<TenantId>
 pub fn read_login(alloc: Global, line: &[u8], table: &TenantTable) -> Result<TenantId, LineFault>
     ensures { LogsIn (login_of table.now line.now) result }
 {
-    let tree = read_value(alloc, line)?.ok_or(LineFault::WrongKey)?;
+    let Some(tree) = read_value(alloc, line)? else {
+        return Err(LineFault::WrongKey);
+    };
     login_in(table, &tree).ok_or(LineFault::WrongKey)
 }
 

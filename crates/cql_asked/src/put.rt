@@ -196,9 +196,15 @@ impl<'a> Put<'a> {
         if !is_put {
             return Err(NoPut::Other);
         }
-        let at = at.ok_or(NoPut::Other)?;
-        let stream = stream.ok_or(NoPut::Other)?;
-        let row = row.ok_or(NoPut::Other)?;
+        let Some(at) = at else {
+            return Err(NoPut::Other);
+        };
+        let Some(stream) = stream else {
+            return Err(NoPut::Other);
+        };
+        let Some(row) = row else {
+            return Err(NoPut::Other);
+        };
         let row = Row::new(alloc, row)?;
         let stream = Text::new(alloc, stream)?;
         Ok((named(tenant), Command::Put { stream, at, row }))

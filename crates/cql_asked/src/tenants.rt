@@ -67,10 +67,18 @@ pub enum TenantsFault {
 fn quotas_of(tree: &Json) -> Result<Quotas, NoTable>
     ensures { Gives (quotas_of (view tree.now)) result }
 {
-    let streams = whole_at(tree, "streams").ok_or(NoTable::Refused)?;
-    let queries = whole_at(tree, "queries").ok_or(NoTable::Refused)?;
-    let hold = whole_at(tree, "hold").ok_or(NoTable::Refused)?;
-    let result = whole_at(tree, "result").ok_or(NoTable::Refused)?;
+    let Some(streams) = whole_at(tree, "streams") else {
+        return Err(NoTable::Refused);
+    };
+    let Some(queries) = whole_at(tree, "queries") else {
+        return Err(NoTable::Refused);
+    };
+    let Some(hold) = whole_at(tree, "hold") else {
+        return Err(NoTable::Refused);
+    };
+    let Some(result) = whole_at(tree, "result") else {
+        return Err(NoTable::Refused);
+    };
     Ok(Quotas {
         streams,
         queries,
@@ -82,7 +90,9 @@ fn quotas_of(tree: &Json) -> Result<Quotas, NoTable>
 fn name_of(alloc: Global, tree: &Json) -> Result<Name, NoTable>
     ensures { Gives (name_of (view tree.now)) result }
 {
-    let text = text_at(tree, "name").ok_or(NoTable::Refused)?;
+    let Some(text) = text_at(tree, "name") else {
+        return Err(NoTable::Refused);
+    };
     match Name::read(alloc, text) {
         Ok(name) => Ok(name),
         Err(NameError::BadName) => Err(NoTable::Refused),
@@ -97,7 +107,9 @@ fn tenant_of(alloc: Global, tree: &Json) -> Result<Tenant, NoTable>
         return Err(NoTable::Refused);
     }
     let name = name_of(alloc, tree)?;
-    let key = text_at(tree, "key").ok_or(NoTable::Refused)?;
+    let Some(key) = text_at(tree, "key") else {
+        return Err(NoTable::Refused);
+    };
     let key = Text::new(alloc, key)?;
     let quotas = quotas_of(tree)?;
     Ok(Tenant { name, key, quotas })
@@ -121,7 +133,9 @@ fn table_in(alloc: Global, tree: &Json) -> Result<TenantTable, NoTable>
     if !has_only(tree, &["tenants"]) {
         return Err(NoTable::Refused);
     }
-    let items = array_at(tree, "tenants").ok_or(NoTable::Refused)?;
+    let Some(items) = array_at(tree, "tenants") else {
+        return Err(NoTable::Refused);
+    };
     let tenants = all_tenants(alloc, items)?;
     Ok(TenantTable::new(tenants)?)
 }

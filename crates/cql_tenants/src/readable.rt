@@ -136,38 +136,53 @@ impl ReadStream {
     }
 }
 
+// A copy of a stream's name and of the columns that a tenant sees, for a reader.
+fn copied(
+    alloc: Global,
+    owner: Option<Text>,
+    name: &str,
+    schema: &Schema,
+    places: &[usize],
+    opened: u64,
+) -> Result<Readable, AllocError>
+    ensures { IfOk result (λ r. r ≡ record { owner = owner; name = name.now; schema = schema.now; places = places.now; opened = opened }) }
+{
+    let name = Text::new(alloc, name)?;
+    let schema = schema.try_clone(alloc)?;
+    let places = Items::from_slice(alloc, places)?;
+    Ok(Readable {
+        owner,
+        name,
+        schema,
+        places,
+        opened,
+    })
+}
+
 // A stream of the tenant's own.
 fn own_readable(alloc: Global, name: &str, stream: &Stream) -> Result<Readable, AllocError>
     ensures { IfOk result (λ r. r ≡ own_readable (record { name = name.now; item = stream.now })) }
 {
-    let name = Text::new(alloc, name)?;
-    let schema = stream.schema.try_clone(alloc)?;
-    let places = Items::from_slice(alloc, all_places(&stream.schema))?;
-    Ok(Readable {
-        owner: None,
-        name,
-        schema,
-        places,
-        opened: stream.clock.opened(),
-    })
+    let schema = &stream.schema;
+    let opened = stream.clock.opened();
+    copied(alloc, None, name, schema, all_places(schema), opened)
 }
 
 // A stream of another's.
 fn granted_readable(alloc: Global, homes: &[Home], grant: &Grant) -> Result<Readable, AllocError>
     ensures { IfOk result (λ r. r ≡ granted_readable homes.now grant.now) }
 {
-    let owner = grant.owner().place();
-    let owner_text = Text::new(alloc, owner_name(homes, owner))?;
-    let name = Text::new(alloc, grant.stream())?;
-    let schema = grant.schema().try_clone(alloc)?;
-    let places = Items::from_slice(alloc, grant.places())?;
-    Ok(Readable {
-        owner: Some(owner_text),
-        name,
-        schema,
-        places,
-        opened: opened_at(homes, owner, grant.stream()),
-    })
+    let place = grant.owner().place();
+    let owner = Text::new(alloc, owner_name(homes, place))?;
+    let opened = opened_at(homes, place, grant.stream());
+    copied(
+        alloc,
+        Some(owner),
+        grant.stream(),
+        grant.schema(),
+        grant.places(),
+        opened,
+    )
 }
 
 /// A tenant's own streams, in order of making.

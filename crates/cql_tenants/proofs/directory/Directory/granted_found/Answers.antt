@@ -12,7 +12,7 @@ returns-in_err-place-clause-seen c =
     let homes = c.args.self.now in
     let name = c.args.stream.now in
     let g = c.in_ok-grant.grant.now in
-    let there : Given homes c.args.owner name g = given_at _ homes c.self.invariant.grants c.self.view_is c.args.tenant c.args.owner name c.home_at-home.result.now g (cc) c.in_ok-grant.ensures in
+    let there : Given homes c.args.owner name g = given_at _ homes c.self.invariant.grants c.self.view_is c.args.tenant c.args.owner name c.home_at-home.result.now g ((λ i. home_at (sym (c.deref.ensures.value ∙ c.self.view_is) i) (sym c.place.ensures i)) ∙ sym c.home_at-home.ensures) c.in_ok-grant.ensures in
     let lost : place_of (home_at homes g.owner).streams name ≡ None = ap (λ o. place_of (home_at homes o).streams name) (sym c.owner-owner.ensures) ∙ (sym c.place-2.ensures.value ∙ c.in_err-place.was) in
     let none : Some there.stream ≡ None = sym there.found ∙ no_place (home_at homes g.owner).streams name lost in
     absurd (cc none)
@@ -22,7 +22,7 @@ returns-clause-seen c =
     let homes = c.args.self.now in
     let name = c.args.stream.now in
     let g = c.in_ok-grant.grant.now in
-    let home : home_at homes c.args.tenant ≡ c.home_at-home.result.now = cc in
+    let home : home_at homes c.args.tenant ≡ c.home_at-home.result.now = (λ i. home_at (sym (c.deref.ensures.value ∙ c.self.view_is) i) (sym c.place.ensures i)) ∙ sym c.home_at-home.ensures in
     let there : Given homes c.args.owner name g = given_at _ homes c.self.invariant.grants c.self.view_is c.args.tenant c.args.owner name c.home_at-home.result.now g home c.in_ok-grant.ensures in
     let own = c.owner-owner.ensures in
     let at : place_of (home_at homes g.owner).streams name ≡ Some c.in_ok-place.place = ap (λ o. place_of (home_at homes o).streams name) (sym own) ∙ (sym c.place-2.ensures.value ∙ c.in_ok-place.was) in
@@ -36,7 +36,7 @@ returns-clause-schema c =
     let homes = c.args.self.now in
     let name = c.args.stream.now in
     let g = c.in_ok-grant.grant.now in
-    let there : Given homes c.args.owner name g = given_at _ homes c.self.invariant.grants c.self.view_is c.args.tenant c.args.owner name c.home_at-home.result.now g (cc) c.in_ok-grant.ensures in
+    let there : Given homes c.args.owner name g = given_at _ homes c.self.invariant.grants c.self.view_is c.args.tenant c.args.owner name c.home_at-home.result.now g ((λ i. home_at (sym (c.deref.ensures.value ∙ c.self.view_is) i) (sym c.place.ensures i)) ∙ sym c.home_at-home.ensures) c.in_ok-grant.ensures in
     (λ i. option_map (λ s. at_places s.schema (c.places.ensures i)) (stream_at homes (c.owner-owner.ensures i) name))
     ∙ ap (option_map (λ s. at_places s.schema g.places)) there.found ∙ ap (λ x. Some x) (sym there.shows.schema ∙ sym c.schema.ensures)
 
@@ -45,7 +45,7 @@ returns-clause-owner c =
     let homes = c.args.self.now in
     let name = c.args.stream.now in
     let g = c.in_ok-grant.grant.now in
-    let home : home_at homes c.args.tenant ≡ c.home_at-home.result.now = cc in
+    let home : home_at homes c.args.tenant ≡ c.home_at-home.result.now = (λ i. home_at (sym (c.deref.ensures.value ∙ c.self.view_is) i) (sym c.place.ensures i)) ∙ sym c.home_at-home.ensures in
     let there : Given homes c.args.owner name g = given_at _ homes c.self.invariant.grants c.self.view_is c.args.tenant c.args.owner name c.home_at-home.result.now g home c.in_ok-grant.ensures in
     c.owner-owner.ensures ∙ there.owner_is
 
@@ -54,6 +54,6 @@ returns-clause-within c =
     let homes = c.args.self.now in
     let name = c.args.stream.now in
     let g = c.in_ok-grant.grant.now in
-    let there : Given homes c.args.owner name g = given_at _ homes c.self.invariant.grants c.self.view_is c.args.tenant c.args.owner name c.home_at-home.result.now g (cc) c.in_ok-grant.ensures in
+    let there : Given homes c.args.owner name g = given_at _ homes c.self.invariant.grants c.self.view_is c.args.tenant c.args.owner name c.home_at-home.result.now g ((λ i. home_at (sym (c.deref.ensures.value ∙ c.self.view_is) i) (sym c.place.ensures i)) ∙ sym c.home_at-home.ensures) c.in_ok-grant.ensures in
     subst (λ o. IfSome o (λ s. AreWithin c.places.result.now (length s.schema))) (sym (ap (λ o. stream_at homes o name) c.owner-owner.ensures ∙ there.found))
     (subst (λ l. AreWithin l (length there.stream.schema)) (sym c.places.ensures) there.shows.within)

@@ -2,7 +2,7 @@
 use crate::holding::Holding;
 use crate::made::{Unmade, table, table_at_last};
 use cql_core::{ColumnText, Command, Core, Mark, Refusal, Reply, TenantId, TenantTable, prepare};
-use cql_hall::{Bare, Entry, Gate, Hall, Journal, Kept, OpenGate, Pending, Receipt, Seat};
+use cql_hall::{Bare, Ended, Entry, Gate, Hall, Journal, Kept, OpenGate, Pending, Receipt, Seat};
 use cql_plain::plain_bench;
 use cql_value::{Items, Row, Text, Value};
 use std::alloc::{AllocError, Global};
@@ -61,31 +61,64 @@ pub(crate) fn receipt<J: Journal>(
     Ok(finish(alloc, pending, gate))
 }
 
-// Puts rows on a stream, one at each instant.
-fn put_all(
-    rt: &impl Wait,
-    alloc: Global,
-    hall: &Hall<Kept>,
-    seat: &mut Seat,
-    stream: &str,
-) -> Result<(), AllocError> {
-    for at in 0..PUTS {
-        let command = put(alloc, stream, at)?;
-        let _receipt = receipt(rt, alloc, hall, seat, &OpenGate, command)?;
-    }
-    Ok(())
+// What a caller says.
+#[derive(Clone, Copy)]
+enum Said {
+    // Two streams are made.
+    Streams,
+    // And a query.
+    Query,
+    // Rows come to a stream, one at each instant.
+    Puts(&'static str),
+    // One row comes.
+    Put,
+    Fetch,
 }
 
-// Two streams.
-fn make_streams(
+fn streams(alloc: Global) -> Result<Vec<Command>, AllocError> {
+    let mut commands = Vec::new(alloc);
+    for name in &["s", "u"] {
+        commands.push(stream(alloc, name)?)?;
+    }
+    Ok(commands)
+}
+
+fn puts(alloc: Global, stream: &str) -> Result<Vec<Command>, AllocError> {
+    let mut commands = Vec::new(alloc);
+    for at in 0..PUTS {
+        commands.push(put(alloc, stream, at)?)?;
+    }
+    Ok(commands)
+}
+
+fn one(alloc: Global, command: Command) -> Result<Vec<Command>, AllocError> {
+    Ok(Vec::from_array(alloc, [command])?)
+}
+
+fn commands(alloc: Global, said: Said) -> Result<Vec<Command>, AllocError> {
+    match said {
+        Said::Streams => streams(alloc),
+        Said::Query => {
+            let mut commands = streams(alloc)?;
+            commands.push(query(alloc)?)?;
+            Ok(commands)
+        }
+        Said::Puts(stream) => puts(alloc, stream),
+        Said::Put => one(alloc, put(alloc, "s", 7)?),
+        Said::Fetch => one(alloc, fetch(alloc)?),
+    }
+}
+
+fn say(
     rt: &impl Wait,
     alloc: Global,
     hall: &Hall<Kept>,
     seat: &mut Seat,
+    gate: &impl Gate,
+    said: Said,
 ) -> Result<(), AllocError> {
-    for name in &["s", "u"] {
-        let command = stream(alloc, name)?;
-        let _receipt = receipt(rt, alloc, hall, seat, &OpenGate, command)?;
+    for command in commands(alloc, said)? {
+        let _receipt = receipt(rt, alloc, hall, seat, gate, command)?;
     }
     Ok(())
 }
@@ -127,51 +160,63 @@ fn put_by_two<R: Threads + Wait + Sync>(
 ) -> Result<(), AllocError> {
     let (first, second) = thread::join(
         rt,
-        || put_all(rt, alloc, hall, one, "s"),
-        || put_all(rt, alloc, hall, two, "u"),
+        || say(rt, alloc, hall, one, &OpenGate, Said::Puts("s")),
+        || say(rt, alloc, hall, two, &OpenGate, Said::Puts("u")),
     );
     first?;
     second
+}
+
+// How many calls the first of two seats made, and how many were kept; whether all were done, and a
+// core tells the same.
+fn two_at_once<R: Threads + Wait + Sync>(
+    rt: &R,
+    alloc: Global,
+) -> Result<(u64, usize, bool, bool), Unmade> {
+    let (hall, tenant) = hall(alloc)?;
+    let (mut one, mut two) = (hall.seat(tenant), hall.seat(tenant));
+    say(rt, alloc, &hall, &mut one, &OpenGate, Said::Streams)?;
+    put_by_two(rt, alloc, &hall, &mut one, &mut two)?;
+    let count = one.count();
+    let Ended { table, entries } = hall.close(&[one, two]).map_err(|_| Unmade::Wrong)?;
+    let is_replayed = is_replayed(alloc, table, &entries)?;
+    Ok((count, entries.len(), are_all_done(&entries), is_replayed))
 }
 
 // The puts of each seat have rising times on a stream of their own, and all are accepted: so they
 // stand in the entries in the order in which they were made.
 #[test]
 fn two_seats(rt: HostRuntime) -> Result<(), Fail> {
-    let alloc = rt.alloc();
+    assert!(rt; two_at_once(&rt, rt.alloc())? == (52, 102, true, true));
+    Ok(())
+}
+
+// What is told where a hall is closed without one of its seats, and how many calls it kept.
+fn left_out(rt: &impl Wait, alloc: Global) -> Result<(String, usize), Unmade> {
     let (hall, tenant) = hall(alloc)?;
     let (mut one, mut two) = (hall.seat(tenant), hall.seat(tenant));
-    make_streams(&rt, alloc, &hall, &mut one)?;
-    put_by_two(&rt, alloc, &hall, &mut one, &mut two)?;
-    assert_eq!(rt; one.count(), 52);
-    let ended = hall.close(&[one, two])?;
-    assert_eq!(rt; ended.entries.len(), 102);
-    assert!(rt; are_all_done(&ended.entries));
-    assert!(rt; is_replayed(alloc, ended.table, &ended.entries)?);
-    Ok(())
+    say(rt, alloc, &hall, &mut one, &OpenGate, Said::Streams)?;
+    say(rt, alloc, &hall, &mut one, &OpenGate, Said::Puts("s"))?;
+    say(rt, alloc, &hall, &mut two, &OpenGate, Said::Puts("u"))?;
+    match hall.close(&[one]) {
+        Ok(_ended) => Err(Unmade::Wrong),
+        Err(missing) => Ok((format!(in alloc; "{missing}")?, missing.entries.len())),
+    }
 }
 
 #[test]
 fn a_seat_is_left_out(rt: HostRuntime) -> Result<(), Fail> {
-    let alloc = rt.alloc();
-    let (hall, tenant) = hall(alloc)?;
-    let (mut one, mut two) = (hall.seat(tenant), hall.seat(tenant));
-    make_streams(&rt, alloc, &hall, &mut one)?;
-    put_all(&rt, alloc, &hall, &mut one, "s")?;
-    put_all(&rt, alloc, &hall, &mut two, "u")?;
-    let Err(missing) = hall.close(&[one]) else {
-        return Err(Fail::from("closed"));
-    };
-    let told = format!(in alloc; "{missing}")?;
+    let (told, kept) = left_out(&rt, rt.alloc())?;
     assert_eq!(rt;
         told.as_str(),
         "the seats counted 52 calls, and 102 were kept"
     );
-    assert_eq!(rt; missing.entries.len(), 102);
+    assert_eq!(rt; kept, 102);
     Ok(())
 }
 
-// A put and a fetch, once the other seat's fetch is pinned.
+// A put and a fetch, once the other seat's fetch is pinned. The fetch isn't answered: what the gate
+// was told before is noted where it would be.
 fn pass_by<C: Clock + Sync>(
     rt: &impl Wait,
     alloc: Global,
@@ -180,47 +225,10 @@ fn pass_by<C: Clock + Sync>(
     gate: &Holding<C>,
 ) -> Result<(), AllocError> {
     gate.wait_for_pinned();
-    let command = put(alloc, "s", 7)?;
-    let _put = receipt(rt, alloc, hall, seat, gate, command)?;
-    fetch_looking(rt, alloc, hall, seat, gate)
-}
-
-// A fetch that isn't answered: what the gate was told before is noted where it would be.
-fn fetch_looking<C: Clock + Sync>(
-    rt: &impl Wait,
-    alloc: Global,
-    hall: &Hall<Kept>,
-    seat: &mut Seat,
-    gate: &Holding<C>,
-) -> Result<(), AllocError> {
+    say(rt, alloc, hall, seat, gate, Said::Put)?;
     let prepared = prepare(alloc, fetch(alloc)?)?;
     let pending = hall.call(rt, gate, seat, prepared);
     let _given_up = pending.finish(alloc, &mut gate.looker(), gate);
-    Ok(())
-}
-
-fn fetch_through(
-    rt: &impl Wait,
-    alloc: Global,
-    hall: &Hall<Kept>,
-    seat: &mut Seat,
-    gate: &impl Gate,
-) -> Result<(), AllocError> {
-    let command = fetch(alloc)?;
-    let _fetched = receipt(rt, alloc, hall, seat, gate, command)?;
-    Ok(())
-}
-
-// Two streams and a query.
-fn make_query(
-    rt: &impl Wait,
-    alloc: Global,
-    hall: &Hall<Kept>,
-    seat: &mut Seat,
-) -> Result<(), AllocError> {
-    make_streams(rt, alloc, hall, seat)?;
-    let command = query(alloc)?;
-    let _made = receipt(rt, alloc, hall, seat, &OpenGate, command)?;
     Ok(())
 }
 
@@ -253,26 +261,32 @@ fn fetch_beside<R: Threads + Wait + Sync, C: Clock + Sync>(
 ) -> Result<(), AllocError> {
     let (first, second) = thread::join(
         rt,
-        || fetch_through(rt, alloc, hall, one, gate),
+        || say(rt, alloc, hall, one, gate, Said::Fetch),
         || pass_by(rt, alloc, hall, two, gate),
     );
     first?;
     second
 }
 
-#[test]
-fn a_fetch_is_held(rt: HostRuntime) -> Result<(), Fail> {
-    let alloc = rt.alloc();
+// Whether the gate wasn't held too long, what it was told, and whether the right calls were kept.
+fn held<R: Threads + Wait + Clock + Copy + Sync>(
+    rt: R,
+    alloc: Global,
+) -> Result<(bool, (u64, u64), bool), Unmade> {
     let (hall, tenant) = hall(alloc)?;
     let gate = Holding::new(rt, 2);
     let (mut one, mut two) = (hall.seat(tenant), hall.seat(tenant));
-    make_query(&rt, alloc, &hall, &mut one)?;
+    say(&rt, alloc, &hall, &mut one, &OpenGate, Said::Query)?;
     fetch_beside(&rt, alloc, &hall, &mut one, &mut two, &gate)?;
-    assert!(rt; !gate.is_expired());
+    let ended = hall.close(&[one, two]).map_err(|_| Unmade::Wrong)?;
+    let are_kept = have_marks(&ended.entries, MARKS);
+    Ok((!gate.is_expired(), gate.seen(), are_kept))
+}
+
+#[test]
+fn a_fetch_is_held(rt: HostRuntime) -> Result<(), Fail> {
     // Both fetches, and the put.
-    assert!(rt; gate.seen() == (2, 1));
-    let ended = hall.close(&[one, two])?;
-    assert!(rt; have_marks(&ended.entries, MARKS));
+    assert!(rt; held(rt, rt.alloc())? == (true, (2, 1), true));
     Ok(())
 }
 
@@ -290,22 +304,6 @@ fn stream_at_last(alloc: Global, name: &str) -> Result<Command, AllocError> {
     }
 }
 
-// A stream is made; or there was no memory for the command, for its entry, or for its step.
-fn make_stream(
-    rt: &impl Wait,
-    alloc: Global,
-    hall: &Hall<Kept>,
-    seat: &mut Seat,
-    name: &str,
-) -> Result<Option<Receipt>, AllocError> {
-    let command = stream_at_last(alloc, name)?;
-    let Ok(prepared) = prepare(alloc, command) else {
-        return Ok(None);
-    };
-    let pending = hall.call(rt, &OpenGate, seat, prepared);
-    Ok(Some(finish(alloc, pending, &OpenGate)))
-}
-
 // Whether the call was done and has a place, or was told that there was no memory.
 fn is_done_or_refused(receipt: &Receipt) -> bool {
     match &receipt.reply {
@@ -317,46 +315,57 @@ fn is_done_or_refused(receipt: &Receipt) -> bool {
 
 const NAMES: &[&str] = &["s", "t", "u", "v", "w"];
 
-// Makes five streams; or a call was told otherwise.
-fn make_all(
+// Whether five streams are made; or there was no memory for a command, for its entry, or for its
+// step.
+fn makes_all(
     rt: &impl Wait,
     alloc: Global,
     hall: &Hall<Kept>,
     seat: &mut Seat,
-) -> Result<(), Unmade> {
+) -> Result<bool, AllocError> {
+    let mut are_made = true;
     for name in NAMES {
-        if let Some(receipt) = make_stream(rt, alloc, hall, seat, name)? {
-            if !is_done_or_refused(&receipt) {
-                return Err(Unmade::Wrong);
-            }
+        let command = stream_at_last(alloc, name)?;
+        if let Ok(prepared) = prepare(alloc, command) {
+            let pending = hall.call(rt, &OpenGate, seat, prepared);
+            let told = finish(alloc, pending, &OpenGate);
+            are_made = are_made && is_done_or_refused(&told);
         }
     }
-    Ok(())
+    Ok(are_made)
+}
+
+// Whether the calls are done or refused, how many were made, and whether the hall then closes.
+fn without_memory(rt: &impl Wait, alloc: Global) -> Result<(bool, u64, bool), Unmade> {
+    let (hall, tenant) = hall_at_last(alloc)?;
+    let mut seat = hall.seat(tenant);
+    let are_made = makes_all(rt, alloc, &hall, &mut seat)?;
+    let count = seat.count();
+    Ok((are_made, count, hall.close(&[seat]).is_ok()))
 }
 
 // Where one request for memory is refused, at most one call is told so. Without room for its entry
 // it has no place, and the hall still closes: `tests/memory` refuses each request in turn.
 #[test]
 fn a_call_without_memory(rt: HostRuntime) -> Result<(), Fail> {
-    let alloc = rt.alloc();
-    let (hall, tenant) = hall_at_last(alloc)?;
-    let mut seat = hall.seat(tenant);
-    make_all(&rt, alloc, &hall, &mut seat)?;
-    assert!(rt; seat.count() >= 4);
-    assert!(rt; hall.close(&[seat]).is_ok());
+    let (are_made, count, closes) = without_memory(&rt, rt.alloc())?;
+    assert!(rt; are_made && count >= 4 && closes);
     Ok(())
+}
+
+// Whether a call is done and has no place, and how many are kept.
+fn bare(rt: &impl Wait, alloc: Global) -> Result<(bool, usize), Unmade> {
+    let (hall, tenant): (Hall<Bare>, TenantId) = open(alloc, table(alloc)?)?;
+    let mut seat = hall.seat(tenant);
+    let command = stream(alloc, "s")?;
+    let made = receipt(rt, alloc, &hall, &mut seat, &OpenGate, command)?;
+    let is_bare = matches!(&made.reply, Reply::Ok) && made.place.is_none();
+    let ended = hall.close(&[seat]).map_err(|_| Unmade::Wrong)?;
+    Ok((is_bare, ended.entries.len()))
 }
 
 #[test]
 fn nothing_is_kept(rt: HostRuntime) -> Result<(), Fail> {
-    let alloc = rt.alloc();
-    let (hall, tenant): (Hall<Bare>, TenantId) = open(alloc, table(alloc)?)?;
-    let mut seat = hall.seat(tenant);
-    let command = stream(alloc, "s")?;
-    let made = receipt(&rt, alloc, &hall, &mut seat, &OpenGate, command)?;
-    assert!(rt; matches!(&made.reply, Reply::Ok));
-    assert!(rt; made.place.is_none());
-    let ended = hall.close(&[seat])?;
-    assert!(rt; ended.entries.is_empty());
+    assert!(rt; bare(&rt, rt.alloc())? == (true, 0));
     Ok(())
 }

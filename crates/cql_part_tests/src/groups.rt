@@ -223,39 +223,63 @@ fn are_told(out: &[Change]) -> bool {
     }
 }
 
-#[test]
-fn one_group_is_computed_anew(rt: HostRuntime) -> Result<(), Fail> {
-    let alloc = rt.alloc();
+// Whether each of a hundred groups is told, and then the one that has a row more. A shape that had no
+// memory has to be started, and then tells.
+fn tells_one_anew<O: Operator>(alloc: Global, op: &mut O) -> Result<bool, OpError>
+    requires { (O.seen_in op.old).kind ≡ shape_kind }
+{
     let node = node_at_last(alloc)?;
     let hundred = numbers_at_last(alloc, 1, 101)?;
     let one = number_at_last(alloc, 1)?;
     let mut out = Vec::new(alloc);
-    let mut shape = GroupShape::new(alloc);
-    assert!(rt; shape.remade() == 0);
-    if let Err(why) = tell_twice(&mut shape, &node, &hundred, &one, &mut out) {
-        assert!(rt; why == OpError::NoMemory);
-        assert!(rt; is_spent(&mut shape, &one, &mut out));
+    if let Err(why) = tell_twice(op, &node, &hundred, &one, &mut out) {
+        if why != OpError::NoMemory || !is_spent(op, &one, &mut out) {
+            return Ok(false);
+        }
         out.clear();
-        tell_twice(&mut shape, &node, &hundred, &one, &mut out)?;
+        tell_twice(op, &node, &hundred, &one, &mut out)?;
     }
-    assert!(rt; shape.remade() == 101);
-    assert!(rt; are_told(&out));
+    Ok(are_told(&out))
+}
+
+// How many groups a new shape has computed, then whether it tells, and how many it has computed.
+fn one_anew(alloc: Global) -> Result<(u64, bool, u64), OpError> {
+    let mut shape = GroupShape::new(alloc);
+    let before = shape.remade();
+    let tells = tells_one_anew(alloc, &mut shape)?;
+    Ok((before, tells, shape.remade()))
+}
+
+#[test]
+fn one_group_is_computed_anew(rt: HostRuntime) -> Result<(), Fail> {
+    assert!(rt; one_anew(rt.alloc())? == (0, true, 101));
     Ok(())
 }
 
-// 4,000 groups, and 6,001 rows of one of them.
-#[test]
-fn many_groups_and_many_rows_of_one(rt: HostRuntime) -> Result<(), Fail> {
-    let alloc = rt.alloc();
+// How many rows are told of 4,000 groups, of which one has 6,001 rows, and whether that is told.
+fn tells_many<O: Operator>(alloc: Global, op: &mut O) -> Result<(usize, bool), OpError>
+    requires { (O.seen_in op.old).kind ≡ shape_kind }
+{
     let node = counts_by_number(alloc)?;
     let many = numbers(alloc, 0, 4000)?;
     let one = number(alloc, 1)?;
     let mut out = Vec::new(alloc);
+    tell_often(op, &node, many.as_slice(), &one, 6000, &mut out)?;
+    Ok((
+        out.len(),
+        out.get(1).is_some_and(|told| is_of(told, true, 1, 6001)),
+    ))
+}
+
+fn many(alloc: Global) -> Result<(usize, bool, u64), OpError> {
     let mut shape = GroupShape::new(alloc);
-    tell_often(&mut shape, &node, many.as_slice(), &one, 6000, &mut out)?;
-    assert!(rt; shape.remade() == 4000);
-    assert!(rt; out.len() == 4000);
-    assert!(rt; is_of(&out[1], true, 1, 6001));
+    let (rows, is_told) = tells_many(alloc, &mut shape)?;
+    Ok((rows, is_told, shape.remade()))
+}
+
+#[test]
+fn many_groups_and_many_rows_of_one(rt: HostRuntime) -> Result<(), Fail> {
+    assert!(rt; many(rt.alloc())? == (4000, true, 4000));
     Ok(())
 }
 
@@ -280,18 +304,31 @@ fn is_of_all(change: &Change, plus: bool, to: i64, sum: i64) -> bool {
     }
 }
 
-#[test]
-fn a_shape_without_columns_is_one_group(rt: HostRuntime) -> Result<(), Fail> {
-    let alloc = rt.alloc();
+// How many rows are told of one group that goes on a hundred times, and whether its last rows are
+// right.
+fn tells_one<O: Operator>(alloc: Global, op: &mut O) -> Result<(usize, bool), OpError>
+    requires { (O.seen_in op.old).kind ≡ shape_kind }
+{
     let node = sum_and_ends(alloc)?;
     let hundred = numbers(alloc, 1, 101)?;
     let mut out = Vec::new(alloc);
+    tell_each(op, &node, hundred.as_slice(), &mut out)?;
+    let are_last = match out.as_slice() {
+        [.., old, new] => is_of_all(old, false, 99, 4950) && is_of_all(new, true, 100, 5050),
+        _ => false,
+    };
+    Ok((out.len(), are_last))
+}
+
+fn one(alloc: Global) -> Result<(usize, bool, u64), OpError> {
     let mut shape = GroupShape::new(alloc);
-    tell_each(&mut shape, &node, hundred.as_slice(), &mut out)?;
-    assert!(rt; shape.remade() == 100);
-    assert!(rt; out.len() == 199);
-    assert!(rt; is_of_all(&out[197], false, 99, 4950));
-    assert!(rt; is_of_all(&out[198], true, 100, 5050));
+    let (rows, are_last) = tells_one(alloc, &mut shape)?;
+    Ok((rows, are_last, shape.remade()))
+}
+
+#[test]
+fn a_shape_without_columns_is_one_group(rt: HostRuntime) -> Result<(), Fail> {
+    assert!(rt; one(rt.alloc())? == (199, true, 100));
     Ok(())
 }
 
@@ -316,48 +353,41 @@ fn tell_under<O: Operator>(
     op.emit(out)
 }
 
-// Whether the operator has no memory where the flag is set behind the rows, and before them; and
-// else tells as many rows as there are.
-fn gives_up<O: Operator>(
-    alloc: Global,
-    op: &mut O,
-    node: &Node,
-    changes: &[Change],
-) -> Result<bool, OpError>
-    requires kind { (O.seen_in op.old).kind ≡ shape_kind }
-    requires node { IsOfNumbers node.now }
-    requires rows { All IsNumber changes.now }
+// Whether the operator has no memory where the flag is set behind 1,100 rows, and before them; and
+// else tells as many rows.
+fn gives_up<O: Operator>(alloc: Global, op: &mut O) -> Result<bool, OpError>
+    requires { (O.seen_in op.old).kind ≡ shape_kind }
 {
+    let node = counts_by_number(alloc)?;
+    let many = numbers(alloc, 0, 1100)?;
     let one = number(alloc, 0)?;
     let flag = Cancellation::new(alloc)?;
     op.heed(flag.share()?);
     let mut out = Vec::new(alloc);
-    let behind = tell_under(op, node, changes, &flag, &mut out);
-    let before = tell_often(op, node, changes, &one, 0, &mut out);
+    let behind = tell_under(op, &node, &many, &flag, &mut out);
+    let before = tell_often(op, &node, &many, &one, 0, &mut out);
     flag.clear();
     out.clear();
-    tell_often(op, node, changes, &one, 0, &mut out)?;
+    tell_often(op, &node, &many, &one, 0, &mut out)?;
     let given_up = Err(OpError::NoMemory);
-    Ok(behind == given_up && before == given_up && out.len() == changes.len())
+    Ok(behind == given_up && before == given_up && out.len() == 1100)
+}
+
+fn keyed_gives_up(alloc: Global) -> Result<(bool, u64), OpError> {
+    let mut shape = GroupShape::new(alloc);
+    let gives_up = gives_up(alloc, &mut shape)?;
+    Ok((gives_up, shape.remade()))
 }
 
 #[test]
 fn a_keyed_shape_is_given_up(rt: HostRuntime) -> Result<(), Fail> {
-    let alloc = rt.alloc();
-    let node = counts_by_number(alloc)?;
-    let many = numbers(alloc, 0, 1100)?;
-    let mut shape = GroupShape::new(alloc);
-    assert!(rt; gives_up(alloc, &mut shape, &node, many.as_slice())?);
-    assert!(rt; shape.remade() == 1100);
+    assert!(rt; keyed_gives_up(rt.alloc())? == (true, 1100));
     Ok(())
 }
 
 #[test]
 fn a_plain_shape_is_given_up(rt: HostRuntime) -> Result<(), Fail> {
     let alloc = rt.alloc();
-    let node = counts_by_number(alloc)?;
-    let many = numbers(alloc, 0, 1100)?;
-    let mut shape = PlainShape::new(alloc);
-    assert!(rt; gives_up(alloc, &mut shape, &node, many.as_slice())?);
+    assert!(rt; gives_up(alloc, &mut PlainShape::new(alloc))?);
     Ok(())
 }

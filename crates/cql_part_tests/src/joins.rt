@@ -147,29 +147,41 @@ fn are_told(out: &[Change]) -> bool {
     true
 }
 
-#[test]
-fn equal_rows_are_looked_up(rt: HostRuntime) -> Result<(), Fail> {
-    let alloc = rt.alloc();
+// What the operator answers to a hundred rows in both ports, and whether they are told.
+fn answered<O: Operator>(
+    alloc: Global,
+    op: &mut O,
+    limit: u64,
+) -> Result<(Result<(), OpError>, bool), AllocError>
+    requires { (O.seen_in op.old).kind ≡ join_kind }
+{
     let node = node_at_last(alloc)?;
     let hundred = numbers_at_last(alloc, 100)?;
     let mut out = Vec::new(alloc);
+    let answer = tell_at_last(op, &node, limit, &hundred, &mut out);
+    Ok((answer, are_told(&out)))
+}
+
+// How often a new join has asked its condition; then its answer, whether the rows are told, and how
+// often it has asked.
+fn asked(alloc: Global, limit: u64) -> Result<(u64, (Result<(), OpError>, bool), u64), AllocError> {
     let mut join = KeyedJoin::new(alloc);
-    assert!(rt; join.tried() == 0);
-    tell_at_last(&mut join, &node, 1000, &hundred, &mut out)?;
-    assert!(rt; join.tried() == 100);
-    assert!(rt; are_told(&out));
+    let before = join.tried();
+    let answered = answered(alloc, &mut join, limit)?;
+    Ok((before, answered, join.tried()))
+}
+
+#[test]
+fn equal_rows_are_looked_up(rt: HostRuntime) -> Result<(), Fail> {
+    assert!(rt; asked(rt.alloc(), 1000)? == (0, (Ok(()), true), 100));
     Ok(())
 }
 
 #[test]
 fn few_are_found_past_the_limit(rt: HostRuntime) -> Result<(), Fail> {
-    let alloc = rt.alloc();
-    let node = node_at_last(alloc)?;
-    let hundred = numbers_at_last(alloc, 100)?;
-    let mut out = Vec::new(alloc);
-    let mut join = KeyedJoin::new(alloc);
-    assert!(rt; tell_at_last(&mut join, &node, 9, &hundred, &mut out) == Err(OpError::Oversize));
+    let (_, (answer, _), asked) = asked(rt.alloc(), 9)?;
+    assert!(rt; answer == Err(OpError::Oversize));
     // The rows are counted on past the limit, and nothing is looked up anew.
-    assert!(rt; join.tried() == 100);
+    assert!(rt; asked == 100);
     Ok(())
 }

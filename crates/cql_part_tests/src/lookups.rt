@@ -34,22 +34,63 @@ struct Put {
     b: i64,
 }
 
-fn column_to_column(left: usize, comparison: Comparison, right: usize) -> Condition {
-    Condition::Compare(Operand::Column(left), comparison, Operand::Column(right))
+// What has to hold of the joined row.
+#[derive(Clone, Copy)]
+enum Has {
+    Equal(usize, usize),
+    Less(usize, usize),
+    Number(usize, i64),
 }
 
-fn equal(left: usize, right: usize) -> Condition {
-    column_to_column(left, Comparison::Equal, right)
+// Rows that come into a port.
+#[derive(Clone, Copy)]
+enum Rows {
+    // Ten: each column has the numbers from 1 to 10, or 1 alone.
+    Ten(usize, bool, bool),
+    // They have one number in both columns, from 1 to below this one.
+    Below(usize, i64),
 }
 
-fn equals(left: usize, number: i64) -> Condition {
-    let constant = Operand::Constant(Value::Number(number));
-    Condition::Compare(Operand::Column(left), Comparison::Equal, constant)
+// A join of so many ports, and the rows that come. The operator tells behind each of them, or behind
+// the last.
+#[derive(Clone, Copy)]
+struct Case {
+    ports: usize,
+    all: &'static [Has],
+    rows: &'static [Rows],
+    limit: u64,
+    tells: bool,
+}
+
+fn compare(left: usize, comparison: Comparison, right: Operand) -> Condition {
+    Condition::Compare(Operand::Column(left), comparison, right)
+}
+
+fn condition(has: Has) -> Condition {
+    match has {
+        Has::Equal(left, right) => compare(left, Comparison::Equal, Operand::Column(right)),
+        Has::Less(left, right) => compare(left, Comparison::Less, Operand::Column(right)),
+        Has::Number(left, number) => {
+            let constant = Operand::Constant(Value::Number(number));
+            compare(left, Comparison::Equal, constant)
+        }
+    }
 }
 
 fn both(alloc: Global, left: Condition, right: Condition) -> Result<Condition, AllocError> {
     let right = Boxed::new(alloc, right)?;
     Ok(Condition::And(Boxed::new(alloc, left)?, right))
+}
+
+fn condition_of(alloc: Global, all: &[Has]) -> Result<Condition, AllocError> {
+    let Some((last, others)) = all.split_last() else {
+        return Ok(Condition::Always);
+    };
+    let mut later = condition(*last);
+    for one in others.iter().rev() {
+        later = both(alloc, condition(*one), later)?;
+    }
+    Ok(later)
 }
 
 fn columns(alloc: Global, count: usize) -> Result<Items<Items<ColumnType>>, AllocError>
@@ -77,7 +118,6 @@ fn row_of(alloc: Global, put: &Put) -> Result<Change, AllocError>
     Ok(Change { plus: true, row })
 }
 
-// Ten rows into a port: each column has the numbers from 1 to 10, or 1 alone.
 fn add_ten(port: usize, each_a: bool, each_b: bool, puts: &mut Vec<Put>) -> Result<(), AllocError> {
     for n in 1..11i64 {
         let a = if each_a { n } else { 1 };
@@ -87,12 +127,22 @@ fn add_ten(port: usize, each_a: bool, each_b: bool, puts: &mut Vec<Put>) -> Resu
     Ok(())
 }
 
-// Rows into a port that have one number in both columns, from 1 to below this one.
-fn add_numbers(port: usize, end: i64, puts: &mut Vec<Put>) -> Result<(), AllocError> {
+fn add_below(port: usize, end: i64, puts: &mut Vec<Put>) -> Result<(), AllocError> {
     for n in 1..end {
         puts.push(Put { port, a: n, b: n })?;
     }
     Ok(())
+}
+
+fn puts_of(alloc: Global, rows: &[Rows]) -> Result<Vec<Put>, AllocError> {
+    let mut puts = Vec::new(alloc);
+    for rows in rows {
+        match rows {
+            Rows::Ten(port, each_a, each_b) => add_ten(*port, *each_a, *each_b, &mut puts)?,
+            Rows::Below(port, end) => add_below(*port, *end, &mut puts)?,
+        }
+    }
+    Ok(puts)
 }
 
 // A row comes, and the operator tells what that changes, if it is to.
@@ -143,207 +193,214 @@ fn run<O: Operator>(
     op.emit(out)
 }
 
+// How many rows the operator tells.
+fn told<O: Operator>(alloc: Global, op: &mut O, case: &Case) -> Result<usize, OpError>
+    requires { (O.seen_in op.old).kind ≡ join_kind }
+    ensures { (O.seen_in op.new).kind ≡ join_kind }
+{
+    let puts = puts_of(alloc, case.rows)?;
+    let condition = condition_of(alloc, case.all)?;
+    let node = join_of(alloc, case.ports, condition)?;
+    let mut out = Vec::new(alloc);
+    run(
+        alloc, op, case.ports, &node, case.limit, &puts, case.tells, &mut out,
+    )?;
+    Ok(out.len())
+}
+
+// How many rows a keyed join tells, and how often it asks its condition.
+fn keyed(alloc: Global, case: &Case) -> Result<(usize, u64), OpError> {
+    let mut join = KeyedJoin::new(alloc);
+    let told = told(alloc, &mut join, case)?;
+    Ok((told, join.tried()))
+}
+
+// The same of a plain join.
+fn plain(alloc: Global, case: &Case) -> Result<(usize, u64), OpError> {
+    let mut join = PlainJoin::new(alloc);
+    let told = told(alloc, &mut join, case)?;
+    Ok((told, join.tried()))
+}
+
+// Ten rows into two ports, which tell behind the last of them.
+const TENS: Case = Case {
+    ports: 2,
+    all: &[Has::Equal(X_A, Y_A)],
+    rows: &[Rows::Ten(0, true, true), Rows::Ten(1, true, true)],
+    limit: 100,
+    tells: false,
+};
+
+// The same, with the one number in each first column.
+const ONES: Case = Case {
+    rows: &[Rows::Ten(0, false, true), Rows::Ten(1, false, true)],
+    ..TENS
+};
+
 #[test]
 fn each_change_is_looked_up_once(rt: HostRuntime) -> Result<(), Fail> {
-    let alloc = rt.alloc();
-    let node = join_of(alloc, 2, equal(X_A, Y_A))?;
-    let mut puts = Vec::new(alloc);
-    add_ten(0, true, true, &mut puts)?;
-    add_ten(1, true, true, &mut puts)?;
-    let mut join = KeyedJoin::new(alloc);
-    let mut out = Vec::new(alloc);
-    run(alloc, &mut join, 2, &node, 100, &puts, true, &mut out)?;
+    let case = Case {
+        tells: true,
+        ..TENS
+    };
     // Each row of the second port is joined to one of the first, and nothing is looked up again.
-    assert!(rt; out.len() == 10);
-    assert!(rt; join.tried() == 10);
+    assert!(rt; keyed(rt.alloc(), &case)? == (10, 10));
     Ok(())
 }
 
 #[test]
 fn as_many_changes_are_kept_as_the_limit_allows(rt: HostRuntime) -> Result<(), Fail> {
-    let alloc = rt.alloc();
-    let node = join_of(alloc, 2, equal(X_A, Y_A))?;
-    let mut puts = Vec::new(alloc);
-    add_numbers(0, 6_001, &mut puts)?;
-    add_numbers(1, 6_001, &mut puts)?;
-    let mut join = KeyedJoin::new(alloc);
-    let mut out = Vec::new(alloc);
-    run(alloc, &mut join, 2, &node, 6_000, &puts, false, &mut out)?;
-    assert!(rt; out.len() == 6_000);
-    assert!(rt; join.tried() == 6_000);
+    let case = Case {
+        rows: &[Rows::Below(0, 6_001), Rows::Below(1, 6_001)],
+        limit: 6_000,
+        ..TENS
+    };
+    assert!(rt; keyed(rt.alloc(), &case)? == (6_000, 6_000));
     Ok(())
 }
 
 #[test]
 fn the_rarer_value_is_looked_up(rt: HostRuntime) -> Result<(), Fail> {
-    let alloc = rt.alloc();
-    let condition = both(alloc, equal(X_A, Y_A), equal(Y_B, X_B))?;
-    let node = join_of(alloc, 2, condition)?;
-    let mut puts = Vec::new(alloc);
-    add_ten(0, false, true, &mut puts)?;
-    add_ten(1, false, true, &mut puts)?;
-    let mut join = KeyedJoin::new(alloc);
-    let mut out = Vec::new(alloc);
-    run(alloc, &mut join, 2, &node, 100, &puts, false, &mut out)?;
+    let case = Case {
+        all: &[Has::Equal(X_A, Y_A), Has::Equal(Y_B, X_B)],
+        ..ONES
+    };
     // Of the ten rows with the one value of the first columns, one has the second column's too.
-    assert!(rt; out.len() == 10);
-    assert!(rt; join.tried() == 10);
+    assert!(rt; keyed(rt.alloc(), &case)? == (10, 10));
     Ok(())
 }
 
 #[test]
 fn columns_behind_the_first_are_looked_up(rt: HostRuntime) -> Result<(), Fail> {
-    let alloc = rt.alloc();
-    let node = join_of(alloc, 2, equal(X_B, Y_B))?;
-    let mut puts = Vec::new(alloc);
-    add_ten(0, false, true, &mut puts)?;
-    add_ten(1, false, true, &mut puts)?;
-    let mut join = KeyedJoin::new(alloc);
-    let mut out = Vec::new(alloc);
-    run(alloc, &mut join, 2, &node, 100, &puts, false, &mut out)?;
-    assert!(rt; out.len() == 10);
-    assert!(rt; join.tried() == 10);
+    let case = Case {
+        all: &[Has::Equal(X_B, Y_B)],
+        ..ONES
+    };
+    assert!(rt; keyed(rt.alloc(), &case)? == (10, 10));
     Ok(())
 }
 
 #[test]
 fn ports_behind_the_second_are_looked_up(rt: HostRuntime) -> Result<(), Fail> {
-    let alloc = rt.alloc();
-    let condition = both(alloc, equal(X_A, Y_A), equal(Y_B, Z_B))?;
-    let node = join_of(alloc, 3, condition)?;
-    let mut puts = Vec::new(alloc);
-    add_ten(0, true, false, &mut puts)?;
-    add_ten(1, true, true, &mut puts)?;
-    add_ten(2, false, true, &mut puts)?;
-    let mut join = KeyedJoin::new(alloc);
-    let mut out = Vec::new(alloc);
-    run(alloc, &mut join, 3, &node, 100, &puts, false, &mut out)?;
+    let case = Case {
+        ports: 3,
+        all: &[Has::Equal(X_A, Y_A), Has::Equal(Y_B, Z_B)],
+        rows: &[
+            Rows::Ten(0, true, false),
+            Rows::Ten(1, true, true),
+            Rows::Ten(2, false, true),
+        ],
+        ..TENS
+    };
     // A row of the second port finds none of the third. One of the third is put to one of the second,
     // and both to one of the first.
-    assert!(rt; out.len() == 10);
-    assert!(rt; join.tried() == 20);
+    assert!(rt; keyed(rt.alloc(), &case)? == (10, 20));
     Ok(())
 }
 
 #[test]
 fn what_meets_nothing_is_counted(rt: HostRuntime) -> Result<(), Fail> {
-    let alloc = rt.alloc();
-    let less = column_to_column(X_B, Comparison::Less, Y_B);
-    let condition = both(alloc, equal(X_A, Y_A), less)?;
-    let node = join_of(alloc, 2, condition)?;
-    let mut puts = Vec::new(alloc);
-    add_ten(0, true, true, &mut puts)?;
-    add_ten(1, true, true, &mut puts)?;
-    let mut join = KeyedJoin::new(alloc);
-    let mut out = Vec::new(alloc);
-    run(alloc, &mut join, 2, &node, 100, &puts, false, &mut out)?;
-    assert!(rt; out.is_empty());
-    assert!(rt; join.tried() == 10);
+    let case = Case {
+        all: &[Has::Equal(X_A, Y_A), Has::Less(X_B, Y_B)],
+        ..TENS
+    };
+    assert!(rt; keyed(rt.alloc(), &case)? == (0, 10));
     Ok(())
 }
 
 #[test]
 fn rows_that_fail_alone_are_joined_to_none(rt: HostRuntime) -> Result<(), Fail> {
-    let alloc = rt.alloc();
-    let constants = both(alloc, equals(X_B, 3), equals(Y_B, 3))?;
-    let condition = both(alloc, equal(X_A, Y_A), constants)?;
-    let node = join_of(alloc, 2, condition)?;
-    let mut puts = Vec::new(alloc);
-    add_ten(0, false, true, &mut puts)?;
-    add_ten(1, false, true, &mut puts)?;
-    let mut join = KeyedJoin::new(alloc);
-    let mut out = Vec::new(alloc);
-    run(alloc, &mut join, 2, &node, 100, &puts, false, &mut out)?;
+    let case = Case {
+        all: &[
+            Has::Equal(X_A, Y_A),
+            Has::Number(X_B, 3),
+            Has::Number(Y_B, 3),
+        ],
+        ..ONES
+    };
     // Of ten rows of one value in each port one has the constant.
-    assert!(rt; out.len() == 1);
-    assert!(rt; join.tried() == 1);
+    assert!(rt; keyed(rt.alloc(), &case)? == (1, 1));
     Ok(())
 }
 
 // Ten rows with the one number in each first column, into three ports.
-fn add_three_tens(puts: &mut Vec<Put>) -> Result<(), AllocError> {
-    add_ten(0, false, true, puts)?;
-    add_ten(1, false, true, puts)?;
-    add_ten(2, false, true, puts)
-}
+const THREE_TENS: Case = Case {
+    ports: 3,
+    all: &[],
+    rows: &[
+        Rows::Ten(0, false, true),
+        Rows::Ten(1, false, true),
+        Rows::Ten(2, false, true),
+    ],
+    limit: 1000,
+    tells: false,
+};
 
 // Whether the operator has no memory while the flag is set, and else tells a thousand rows.
-fn gives_up<O: Operator>(
-    alloc: Global,
-    op: &mut O,
-    node: &Node,
-    puts: &[Put],
-) -> Result<bool, OpError>
-    requires kind { (O.seen_in op.old).kind ≡ join_kind }
-    requires node { IsOfTwos 3 node.now }
-    ensures { (O.seen_in op.new).kind ≡ join_kind }
+fn gives_up<O: Operator>(alloc: Global, op: &mut O, case: &Case) -> Result<bool, OpError>
+    requires { (O.seen_in op.old).kind ≡ join_kind }
 {
     let flag = Cancellation::new(alloc)?;
     op.heed(flag.share()?);
     flag.set();
-    let mut out = Vec::new(alloc);
-    let given_up = run(alloc, op, 3, node, 1000, puts, false, &mut out);
+    let given_up = told(alloc, op, case);
     flag.clear();
-    out.clear();
-    run(alloc, op, 3, node, 1000, puts, false, &mut out)?;
-    Ok(given_up == Err(OpError::NoMemory) && out.len() == 1000)
+    Ok(given_up == Err(OpError::NoMemory) && told(alloc, op, case)? == 1000)
+}
+
+// Whether a keyed join does, and how often it then asks its condition.
+fn keyed_gives_up(alloc: Global, case: &Case) -> Result<(bool, u64), OpError> {
+    let mut join = KeyedJoin::new(alloc);
+    let gives_up = gives_up(alloc, &mut join, case)?;
+    Ok((gives_up, join.tried()))
+}
+
+// The same of a plain join.
+fn plain_gives_up(alloc: Global, case: &Case) -> Result<(bool, u64), OpError> {
+    let mut join = PlainJoin::new(alloc);
+    let gives_up = gives_up(alloc, &mut join, case)?;
+    Ok((gives_up, join.tried()))
 }
 
 #[test]
 fn a_keyed_join_is_given_up(rt: HostRuntime) -> Result<(), Fail> {
-    let alloc = rt.alloc();
-    let condition = both(alloc, equal(X_A, Y_A), equal(Y_A, Z_A))?;
-    let node = join_of(alloc, 3, condition)?;
-    let mut puts = Vec::new(alloc);
-    add_three_tens(&mut puts)?;
-    let mut join = KeyedJoin::new(alloc);
-    assert!(rt; gives_up(alloc, &mut join, &node, &puts)?);
+    let case = Case {
+        all: &[Has::Equal(X_A, Y_A), Has::Equal(Y_A, Z_A)],
+        ..THREE_TENS
+    };
     // Each row of the third port is put to ten of the second, and each of these pairs to ten of the
     // first. A row of the second finds none of the third.
-    assert!(rt; join.tried() == 1100);
+    assert!(rt; keyed_gives_up(rt.alloc(), &case)? == (true, 1100));
     Ok(())
 }
 
 #[test]
 fn a_plain_join_is_given_up(rt: HostRuntime) -> Result<(), Fail> {
-    let alloc = rt.alloc();
-    let node = join_of(alloc, 3, Condition::Always)?;
-    let mut puts = Vec::new(alloc);
-    add_three_tens(&mut puts)?;
-    let mut join = PlainJoin::new(alloc);
-    assert!(rt; gives_up(alloc, &mut join, &node, &puts)?);
     // A hundred pairs of the first two ports' rows, each put to ten of the third.
-    assert!(rt; join.tried() == 1100);
+    assert!(rt; plain_gives_up(rt.alloc(), &THREE_TENS)? == (true, 1100));
     Ok(())
 }
 
 #[test]
 fn a_join_without_equal_columns_is_given_up(rt: HostRuntime) -> Result<(), Fail> {
-    let alloc = rt.alloc();
-    let node = join_of(alloc, 3, Condition::Always)?;
-    let mut puts = Vec::new(alloc);
-    add_three_tens(&mut puts)?;
-    let mut join = KeyedJoin::new(alloc);
-    assert!(rt; gives_up(alloc, &mut join, &node, &puts)?);
-    assert!(rt; join.tried() == 1100);
+    assert!(rt; keyed_gives_up(rt.alloc(), &THREE_TENS)? == (true, 1100));
     Ok(())
 }
 
 #[test]
 fn what_meets_nothing_is_counted_in_a_plain_join(rt: HostRuntime) -> Result<(), Fail> {
-    let alloc = rt.alloc();
-    let two = both(alloc, equal(Y_A, Z_A), equal(Y_B, Z_B))?;
-    let node = join_of(alloc, 3, both(alloc, equal(X_A, Y_A), two)?)?;
-    let mut puts = Vec::new(alloc);
-    for port in 0..3 {
-        add_numbers(port, 11, &mut puts)?;
-    }
-    let mut join = PlainJoin::new(alloc);
-    let mut out = Vec::new(alloc);
-    run(alloc, &mut join, 3, &node, 100, &puts, false, &mut out)?;
+    let case = Case {
+        ports: 3,
+        all: &[
+            Has::Equal(X_A, Y_A),
+            Has::Equal(Y_A, Z_A),
+            Has::Equal(Y_B, Z_B),
+        ],
+        rows: &[Rows::Below(0, 11), Rows::Below(1, 11), Rows::Below(2, 11)],
+        ..TENS
+    };
     // A hundred pairs of the first two ports' rows, of which ninety fail alone and are put to none of
     // the third; behind each other one the third's row with both numbers is looked up.
-    assert!(rt; out.len() == 10);
-    assert!(rt; join.tried() == 110);
+    assert!(rt; plain(rt.alloc(), &case)? == (10, 110));
     Ok(())
 }

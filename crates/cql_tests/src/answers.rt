@@ -6,7 +6,7 @@ use crate::outputs::{Told, are_blocks};
 use crate::pins::{Asked, GREATEST, pin};
 use cql_eval::{Answer, Pin, answer};
 use cql_plain::plain_bench;
-use std::alloc::{AllocError, Global};
+use std::alloc::Global;
 use std::test::Fail;
 
 // The rows 1 at 1 and 2 at 4, which are in the content, and 3 at 6, which isn't.
@@ -285,12 +285,9 @@ fn others() -> &'static [Other] {
     OTHERS
 }
 
-fn answer_alone(alloc: Global, pin: Pin) -> Result<Answer, AllocError> {
-    answer(alloc, &mut plain_bench(alloc), pin)
-}
-
 fn answered(alloc: Global, asked: &Asked) -> Result<Answer, Fail> {
-    Ok(answer_alone(alloc, pin(alloc, asked)?)?)
+    let pin = pin(alloc, asked)?;
+    Ok(answer(alloc, &mut plain_bench(alloc), pin)?)
 }
 
 fn is_told(alloc: Global, case: &Case) -> Result<bool, Fail> {

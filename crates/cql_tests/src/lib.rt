@@ -18,5 +18,3 @@ mod pools;
 mod scripts;
 #[cfg(test)]
 mod tenants;
-#[cfg(test)]
-mod trimming;

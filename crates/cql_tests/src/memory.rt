@@ -1,16 +1,13 @@
-// Commands where memory may run out: `rt try --test --fail-alloc` passes here with every number.
-ghost use Rattle.cql_ops.specs.Bench.{IsBench};
-
+// Commands, also where memory may run out: `rt try --test --fail-alloc` passes here with every number;
+// and how many rows a stream holds as its queries go on, and are dropped.
 use crate::scripts::{Call, Say, Script, Want, command, is_same_reply, is_told, scripts};
 use crate::tenants::{Unmade, table_with};
-use cql_core::{
-    BenchOf, Command, Core, Operator, Refusal, Reply, TenantId, TenantTable, run, serve,
-};
+use cql_core::{Command, Core, Evaluator, Refusal, Reply, TenantId, TenantTable, run, serve};
 use cql_groups::GroupShape;
 use cql_joins::KeyedJoin;
 use cql_ops::mixed_bench;
 use cql_plain::plain_bench;
-use std::alloc::{AllocError, Global};
+use std::alloc::Global;
 use std::test::Fail;
 
 // By which operators joins and groups are computed.
@@ -37,13 +34,6 @@ fn core_of(alloc: Global, script: &Script) -> Result<Core, Unmade> {
     Ok(Core::new(alloc, table)?)
 }
 
-fn core_at_last(alloc: Global, script: &Script) -> Result<Core, Unmade> {
-    match core_of(alloc, script) {
-        Ok(core) => Ok(core),
-        Err(_why) => core_of(alloc, script),
-    }
-}
-
 // What is shown of a core: the lists of both tenants, and how many rows are held of `s` of `a` and
 // of `t` of `b`.
 #[derive(Drop)]
@@ -61,14 +51,14 @@ impl Shown {
     }
 }
 
-fn list_of<O: Operator>(
+fn list_of<E: Evaluator>(
     alloc: Global,
     core: &mut Core,
-    bench: &mut BenchOf<O>,
+    bench: &mut E,
     by: TenantId,
 ) -> Result<Reply, Unmade>
-    requires { IsBench O.seen_in bench.old }
-    ensures { IsBench O.seen_in bench.new }
+    requires { E.is_ready bench.old }
+    ensures { E.is_ready bench.new }
 {
     let list = serve(alloc, core, bench, by, Command::List);
     if matches!(&list, Reply::Listing(_)) {
@@ -78,14 +68,14 @@ fn list_of<O: Operator>(
     }
 }
 
-fn shown_of<O: Operator>(
+fn shown_of<E: Evaluator>(
     alloc: Global,
     core: &mut Core,
-    bench: &mut BenchOf<O>,
+    bench: &mut E,
     table: &TenantTable,
 ) -> Result<Shown, Unmade>
-    requires { IsBench O.seen_in bench.old }
-    ensures { IsBench O.seen_in bench.new }
+    requires { E.is_ready bench.old }
+    ensures { E.is_ready bench.new }
 {
     let a = table.find("a").ok_or(Unmade::Wrong)?;
     let b = table.find("b").ok_or(Unmade::Wrong)?;
@@ -97,22 +87,6 @@ fn shown_of<O: Operator>(
         second,
         held,
     })
-}
-
-// The same, asked once more where there was no memory.
-fn shown_at_last<O: Operator>(
-    alloc: Global,
-    core: &mut Core,
-    bench: &mut BenchOf<O>,
-    table: &TenantTable,
-) -> Result<Shown, Unmade>
-    requires { IsBench O.seen_in bench.old }
-    ensures { IsBench O.seen_in bench.new }
-{
-    match shown_of(alloc, core, bench, table) {
-        Ok(shown) => Ok(shown),
-        Err(_why) => shown_of(alloc, core, bench, table),
-    }
 }
 
 fn command_at_last(alloc: Global, say: Say) -> Result<Command, Unmade> {
@@ -132,19 +106,22 @@ fn is_told_at_last(alloc: Global, reply: &Reply, want: Want) -> Result<bool, Unm
 
 // Whether a command is told what it is to be told. One that was told of no memory must have changed
 // nothing, and is sent once more.
-fn is_served<O: Operator>(
+fn is_served<E: Evaluator>(
     alloc: Global,
     core: &mut Core,
-    bench: &mut BenchOf<O>,
+    bench: &mut E,
     table: &TenantTable,
     call: &Call,
 ) -> Result<bool, Unmade>
-    requires { IsBench O.seen_in bench.old }
-    ensures { IsBench O.seen_in bench.new }
+    requires { E.is_ready bench.old }
+    ensures { E.is_ready bench.new }
 {
     let (by, say, told, _) = *call;
     let by = table.find(by).ok_or(Unmade::Wrong)?;
-    let before = shown_at_last(alloc, core, bench, table)?;
+    let before = match shown_of(alloc, core, bench, table) {
+        Ok(shown) => shown,
+        Err(_why) => shown_of(alloc, core, bench, table)?,
+    };
     let reply = serve(alloc, core, bench, by, command_at_last(alloc, say)?);
     let Reply::Refused(Refusal::NoMemory) = &reply else {
         return is_told_at_last(alloc, &reply, told);
@@ -154,56 +131,27 @@ fn is_served<O: Operator>(
     Ok(before.is_same(&after) && is_told(alloc, &again, told)?)
 }
 
-// The same with a bench of its own.
-fn is_served_alone(
+// Whether each command is served so, and as many rows are held of `s` of `a` behind it as are to be.
+// A stream that isn't there holds none.
+fn are_all_served<E: Evaluator>(
     alloc: Global,
-    makes: Makes,
-    core: &mut Core,
-    table: &TenantTable,
-    call: &Call,
-) -> Result<bool, Unmade> {
-    match makes {
-        Makes::Plain => is_served(alloc, core, &mut plain_bench(alloc), table, call),
-        Makes::Keyed => {
-            let joins = (KeyedJoin::new(alloc), KeyedJoin::new(alloc));
-            let shapes = (GroupShape::new(alloc), GroupShape::new(alloc));
-            let bench = &mut mixed_bench(alloc, joins, shapes);
-            is_served(alloc, core, bench, table, call)
-        }
-    }
-}
-
-fn are_all_served(alloc: Global, makes: Makes, script: &Script) -> Result<bool, Unmade> {
+    bench: &mut E,
+    script: &Script,
+) -> Result<bool, Unmade>
+    requires { E.is_ready bench.old }
+{
     let table = table_at_last(alloc, script)?;
-    let mut core = core_at_last(alloc, script)?;
+    let owner = table.find("a").ok_or(Unmade::Wrong)?;
+    let mut core = match core_of(alloc, script) {
+        Ok(core) => core,
+        Err(_why) => core_of(alloc, script)?,
+    };
+    let mut are_right = core.rows_held(owner, "s").is_none();
     for call in script.calls {
-        if !is_served_alone(alloc, makes, &mut core, &table, call)? {
-            return Ok(false);
-        }
+        let is_served = is_served(alloc, &mut core, bench, &table, call)?;
+        are_right = are_right && is_served && core.rows_held(owner, "s") == Some(call.3);
     }
-    Ok(true)
-}
-
-// Where one allocation fails, at most one command is told so. It has changed nothing, also one
-// that registers or acknowledges a query over parts: sent once more, it and all later ones are
-// told what they are told with ample memory.
-#[test]
-fn a_command_without_memory_changes_nothing(rt: HostRuntime) -> Result<(), Fail> {
-    for script in scripts() {
-        let what = script.what;
-        assert!(rt; are_all_served(rt.alloc(), Makes::Plain, script)?, "{what}");
-    }
-    Ok(())
-}
-
-// The same with keyed joins and kept groups.
-#[test]
-fn a_keyed_command_without_memory_changes_nothing(rt: HostRuntime) -> Result<(), Fail> {
-    for script in scripts() {
-        let what = script.what;
-        assert!(rt; are_all_served(rt.alloc(), Makes::Keyed, script)?, "{what}");
-    }
-    Ok(())
+    Ok(are_right)
 }
 
 // The commands of a script but the one at a place.
@@ -223,72 +171,39 @@ fn commands(
     Ok(commands)
 }
 
-fn run_alone(
+fn replies_to<E: Evaluator>(
     alloc: Global,
-    makes: Makes,
-    table: TenantTable,
-    commands: Vec<(TenantId, Command)>,
-) -> Result<Vec<Reply>, AllocError> {
-    match makes {
-        Makes::Plain => run(alloc, table, commands, &mut plain_bench(alloc)),
-        Makes::Keyed => {
-            let joins = (KeyedJoin::new(alloc), KeyedJoin::new(alloc));
-            let shapes = (GroupShape::new(alloc), GroupShape::new(alloc));
-            run(
-                alloc,
-                table,
-                commands,
-                &mut mixed_bench(alloc, joins, shapes),
-            )
-        }
-    }
-}
-
-fn replies(
-    alloc: Global,
-    makes: Makes,
+    bench: &mut E,
     script: &Script,
     without: Option<usize>,
-) -> Result<Vec<Reply>, Unmade> {
+) -> Result<Vec<Reply>, Unmade>
+    requires { E.is_ready bench.old }
+    ensures { E.is_ready bench.new }
+{
     let table = table_of(alloc, script)?;
     let commands = commands(alloc, &table, script, without)?;
-    Ok(run_alone(alloc, makes, table, commands)?)
-}
-
-// The same, once more where the run itself had no memory.
-fn replies_at_last(alloc: Global, makes: Makes, script: &Script) -> Result<Vec<Reply>, Unmade> {
-    match replies(alloc, makes, script, None) {
-        Ok(replies) => Ok(replies),
-        Err(_why) => replies(alloc, makes, script, None),
-    }
+    Ok(run(alloc, table, commands, bench)?)
 }
 
 fn has_no_memory(reply: &Reply) -> bool {
     matches!(reply, Reply::Refused(Refusal::NoMemory))
 }
 
-// Whether replies are those of a run without the command at a place.
-fn are_those_without(
-    alloc: Global,
-    makes: Makes,
-    script: &Script,
-    replies: &[Reply],
-    without: usize,
-) -> Result<bool, Unmade> {
-    let others = self::replies(alloc, makes, script, Some(without))?;
-    let mut left = others.as_slice();
+// Whether the others are these replies without the one at a place.
+fn are_those_without(replies: &[Reply], without: usize, others: &[Reply]) -> bool {
+    let mut left = others;
     for (place, reply) in replies.iter().enumerate() {
         if place != without {
             let Some((other, more)) = left.split_first() else {
-                return Ok(false);
+                return false;
             };
             if !is_same_reply(reply, other) {
-                return Ok(false);
+                return false;
             }
             left = more;
         }
     }
-    Ok(left.is_empty())
+    left.is_empty()
 }
 
 fn are_all_told(alloc: Global, script: &Script, replies: &[Reply]) -> Result<bool, Unmade> {
@@ -300,31 +215,99 @@ fn are_all_told(alloc: Global, script: &Script, replies: &[Reply]) -> Result<boo
     Ok(replies.len() == script.calls.len())
 }
 
-fn is_run(alloc: Global, makes: Makes, script: &Script) -> Result<bool, Unmade> {
-    let replies = replies_at_last(alloc, makes, script)?;
-    match replies.iter().position(has_no_memory) {
-        Some(without) => are_those_without(alloc, makes, script, &replies, without),
-        None => are_all_told(alloc, script, &replies),
+// Whether each command of a run is told what it is to be told, or one that there was no memory, and
+// the others what they are told in a run without it. The run is made once more where it had no memory
+// itself.
+fn is_run<E: Evaluator>(alloc: Global, bench: &mut E, script: &Script) -> Result<bool, Unmade>
+    requires { E.is_ready bench.old }
+{
+    let replies = match replies_to(alloc, bench, script, None) {
+        Ok(replies) => replies,
+        Err(_why) => replies_to(alloc, bench, script, None)?,
+    };
+    let Some(without) = replies.iter().position(has_no_memory) else {
+        return are_all_told(alloc, script, &replies);
+    };
+    let others = replies_to(alloc, bench, script, Some(without))?;
+    Ok(are_those_without(&replies, without, &others))
+}
+
+// How the commands of a script are sent.
+#[derive(Clone, Copy)]
+enum Sent {
+    OneByOne,
+    AsAList,
+}
+
+fn is_right<E: Evaluator>(
+    alloc: Global,
+    bench: &mut E,
+    sent: Sent,
+    script: &Script,
+) -> Result<bool, Unmade>
+    requires { E.is_ready bench.old }
+{
+    match sent {
+        Sent::OneByOne => are_all_served(alloc, bench, script),
+        Sent::AsAList => is_run(alloc, bench, script),
     }
+}
+
+// Whether the script is right with a bench of its own.
+fn is_right_by(alloc: Global, makes: Makes, sent: Sent, script: &Script) -> Result<bool, Unmade> {
+    match makes {
+        Makes::Plain => is_right(alloc, &mut plain_bench(alloc), sent, script),
+        Makes::Keyed => {
+            let joins = (KeyedJoin::new(alloc), KeyedJoin::new(alloc));
+            let shapes = (GroupShape::new(alloc), GroupShape::new(alloc));
+            is_right(alloc, &mut mixed_bench(alloc, joins, shapes), sent, script)
+        }
+    }
+}
+
+// The first script that isn't right, if there is one.
+fn first_wrong(alloc: Global, makes: Makes, sent: Sent) -> Result<Option<&'static str>, Unmade> {
+    for script in scripts() {
+        if !is_right_by(alloc, makes, sent, script)? {
+            return Ok(Some(script.what));
+        }
+    }
+    Ok(None)
+}
+
+// Where one allocation fails, at most one command is told so. It has changed nothing, also one
+// that registers or acknowledges a query over parts: sent once more, it and all later ones are
+// told what they are told with ample memory. And rows are held while a query needs them.
+#[test]
+fn a_command_without_memory_changes_nothing(rt: HostRuntime) -> Result<(), Fail> {
+    assert_eq!(rt;
+        first_wrong(rt.alloc(), Makes::Plain, Sent::OneByOne)?,
+        None
+    );
+    Ok(())
+}
+
+// The same with keyed joins and kept groups.
+#[test]
+fn a_keyed_command_without_memory_changes_nothing(rt: HostRuntime) -> Result<(), Fail> {
+    assert_eq!(rt;
+        first_wrong(rt.alloc(), Makes::Keyed, Sent::OneByOne)?,
+        None
+    );
+    Ok(())
 }
 
 // With ample memory each command is told what it is to be told. Where one allocation fails, at most
 // one is told of no memory, and the others what they are told in a run without it.
 #[test]
 fn a_list_of_commands(rt: HostRuntime) -> Result<(), Fail> {
-    for script in scripts() {
-        let what = script.what;
-        assert!(rt; is_run(rt.alloc(), Makes::Plain, script)?, "{what}");
-    }
+    assert_eq!(rt; first_wrong(rt.alloc(), Makes::Plain, Sent::AsAList)?, None);
     Ok(())
 }
 
 // The same with keyed joins and kept groups.
 #[test]
 fn a_keyed_list_of_commands(rt: HostRuntime) -> Result<(), Fail> {
-    for script in scripts() {
-        let what = script.what;
-        assert!(rt; is_run(rt.alloc(), Makes::Keyed, script)?, "{what}");
-    }
+    assert_eq!(rt; first_wrong(rt.alloc(), Makes::Keyed, Sent::AsAList)?, None);
     Ok(())
 }

@@ -1,6 +1,7 @@
 // Benches that are handed out and put back: what stands for a query is taken out once it is old.
 use crate::pins::{Asked, pin};
 use cql_eval::Pool;
+use cql_ops::Operator;
 use cql_plain::{Plain, plain_bench};
 use std::alloc::{AllocError, Global};
 use std::test::Fail;
@@ -20,7 +21,7 @@ fn one_bench(alloc: Global) -> Result<Pool<Plain>, AllocError> {
 }
 
 // Whether a bench of the pool answers. It is put back at the time.
-fn answers(alloc: Global, pool: &mut Pool<Plain>, now: u64) -> Result<bool, Fail> {
+fn answers<O: Operator>(alloc: Global, pool: &mut Pool<O>, now: u64) -> Result<bool, Fail> {
     let pin = pin(alloc, &ASKED)?;
     let Some(mut bench) = pool.take(alloc, &pin) else {
         return Ok(false);
@@ -31,7 +32,7 @@ fn answers(alloc: Global, pool: &mut Pool<Plain>, now: u64) -> Result<bool, Fail
 }
 
 // Whether a bench that was put back before the time stands for a query. It then stands for none.
-fn lets_go(alloc: Global, pool: &mut Pool<Plain>, since: u64) -> bool {
+fn lets_go<O: Operator>(alloc: Global, pool: &mut Pool<O>, since: u64) -> bool {
     let Some(mut bench) = pool.take_unused(since) else {
         return false;
     };
@@ -40,15 +41,20 @@ fn lets_go(alloc: Global, pool: &mut Pool<Plain>, since: u64) -> bool {
     true
 }
 
+// Whether benches are let go that were put back before a time, and no others.
+fn lets_old_go<O: Operator>(alloc: Global, pool: &mut Pool<O>) -> Result<bool, Fail> {
+    let is_unused = !lets_go(alloc, pool, 9);
+    let is_first = answers(alloc, pool, 5)?;
+    let is_kept = !lets_go(alloc, pool, 5);
+    let is_old = lets_go(alloc, pool, 6);
+    let is_gone = !lets_go(alloc, pool, 9);
+    let is_again = answers(alloc, pool, 9)?;
+    Ok(is_unused && is_first && is_kept && is_old && is_gone && is_again)
+}
+
 #[test]
 fn what_is_old_is_let_go(rt: HostRuntime) -> Result<(), Fail> {
-    let alloc = rt.alloc();
-    let mut pool = one_bench(alloc)?;
-    assert!(rt; !lets_go(alloc, &mut pool, 9));
-    assert!(rt; answers(alloc, &mut pool, 5)?);
-    assert!(rt; !lets_go(alloc, &mut pool, 5));
-    assert!(rt; lets_go(alloc, &mut pool, 6));
-    assert!(rt; !lets_go(alloc, &mut pool, 9));
-    assert!(rt; answers(alloc, &mut pool, 9)?);
+    let mut pool = one_bench(rt.alloc())?;
+    assert!(rt; lets_old_go(rt.alloc(), &mut pool)?);
     Ok(())
 }

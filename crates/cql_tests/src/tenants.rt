@@ -84,21 +84,37 @@ fn place(table: &TenantTable, name: &str) -> Result<TenantId, Fail> {
     }
 }
 
+// A directory of the table, in which the first tenant has granted a stream to the second.
+fn directory_of(alloc: Global, table: &TenantTable, first: TenantId) -> Result<Directory, Fail> {
+    let schema = schema(alloc)?;
+    let mut directory = Directory::new(alloc, table)?;
+    let schema = directory.may_make(first, "s", Some(&schema))?;
+    directory.make_stream(alloc, first, "s", schema)?;
+    directory.grant(alloc, first, "s", None, "b")??;
+    Ok(directory)
+}
+
+// How many streams a tenant reads, if it is one of the directory's.
+fn reads(alloc: Global, directory: &Directory, tenant: TenantId) -> Result<Option<usize>, Fail> {
+    match directory.readable(alloc, tenant)? {
+        Ok(streams) => Ok(Some(streams.len())),
+        Err(_refusal) => Ok(None),
+    }
+}
+
 // What each of two tenants reads, of which the first has granted its stream to the second, and a
 // tenant of another table.
-#[test]
-fn readable_streams(rt: HostRuntime) -> Result<(), Fail> {
-    let alloc = rt.alloc();
+fn readable(alloc: Global) -> Result<(Option<usize>, Option<usize>, Option<usize>), Fail> {
     let table = table(alloc, &["a", "b"])?;
     let (a, b) = (place(&table, "a")?, place(&table, "b")?);
     let stranger = place(&self::table(alloc, &["a", "b", "c"])?, "c")?;
-    let mut directory = Directory::new(alloc, &table)?;
-    let schema = schema(alloc)?;
-    let schema = directory.may_make(a, "s", Some(&schema))?;
-    directory.make_stream(alloc, a, "s", schema)?;
-    directory.grant(alloc, a, "s", None, "b")??;
-    assert_eq!(rt; directory.readable(alloc, a)??.len(), 1);
-    assert_eq!(rt; directory.readable(alloc, b)??.len(), 1);
-    assert!(rt; directory.readable(alloc, stranger)?.is_err());
+    let directory = directory_of(alloc, &table, a)?;
+    let (first, second) = (reads(alloc, &directory, a)?, reads(alloc, &directory, b)?);
+    Ok((first, second, reads(alloc, &directory, stranger)?))
+}
+
+#[test]
+fn readable_streams(rt: HostRuntime) -> Result<(), Fail> {
+    assert_eq!(rt; readable(rt.alloc())?, (Some(1), Some(1), None));
     Ok(())
 }

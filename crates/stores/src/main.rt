@@ -35,6 +35,16 @@ use std::{env, io};
 /// The greatest instant, and a number of rows that no stub has.
 const GREATEST: u64 = 4_611_686_018_427_387_903;
 
+// What is done with a pin before it is let go.
+#[derive(Clone, Copy)]
+enum Look {
+    Pin,
+    // Its rows are looked at for changes of the first instant.
+    Scan,
+    // A walk goes over all its rows.
+    Walk,
+}
+
 // A store of rows of one number, and the least time that it takes.
 #[derive(Drop)]
 struct Fed {
@@ -95,28 +105,20 @@ impl Fed {
         }
     }
 
-    // Takes a pin of the stub, unless it is overrun, and lets it go.
-    fn pin(&self, id: StubId) -> Result<(), AllocError> {
-        if self.store.may_advance(id, self.opened) {
-            self.store.pin(id, GREATEST)?;
+    // Takes a pin of the stub, unless it is overrun, and looks at it.
+    fn look(&self, alloc: Global, id: StubId, look: Look) -> Result<(), AllocError> {
+        if !self.store.may_advance(id, self.opened) {
+            return Ok(());
         }
-        Ok(())
-    }
-
-    // Looks at each row of a pin of the stub.
-    fn scan(&self, alloc: Global, id: StubId) -> Result<(), AllocError> {
-        if self.store.may_advance(id, self.opened) {
-            let pin = self.store.pin(id, GREATEST)?;
-            changes(alloc, &pin, 0, 1)?;
-        }
-        Ok(())
-    }
-
-    // Walks over a pin of the stub.
-    fn walk(&self, alloc: Global, id: StubId) -> Result<(), AllocError> {
-        if self.store.may_advance(id, self.opened) {
-            let pin = self.store.pin(id, GREATEST)?;
-            Walk::new(alloc, &pin).advance(alloc, GREATEST)?;
+        let pin = self.store.pin(id, GREATEST)?;
+        match look {
+            Look::Pin => {}
+            Look::Scan => {
+                changes(alloc, &pin, 0, 1)?;
+            }
+            Look::Walk => {
+                Walk::new(alloc, &pin).advance(alloc, GREATEST)?;
+            }
         }
         Ok(())
     }
@@ -295,29 +297,17 @@ fn slides(alloc: Global, fed: &mut Fed, slide: u64, times: u64) -> Result<(), Al
     Ok(())
 }
 
-fn pins(alloc: Global, fed: &mut Fed, rows: u64, times: u64) -> Result<(), AllocError> {
+fn looks(
+    alloc: Global,
+    fed: &mut Fed,
+    rows: u64,
+    times: u64,
+    look: Look,
+) -> Result<(), AllocError> {
     let id = lag(fed)?;
     put_all(alloc, fed, rows)?;
     for _ in 0..times {
-        fed.pin(id)?;
-    }
-    Ok(())
-}
-
-fn scans(alloc: Global, fed: &mut Fed, rows: u64, times: u64) -> Result<(), AllocError> {
-    let id = lag(fed)?;
-    put_all(alloc, fed, rows)?;
-    for _ in 0..times {
-        fed.scan(alloc, id)?;
-    }
-    Ok(())
-}
-
-fn walks(alloc: Global, fed: &mut Fed, rows: u64, times: u64) -> Result<(), AllocError> {
-    let id = lag(fed)?;
-    put_all(alloc, fed, rows)?;
-    for _ in 0..times {
-        fed.walk(alloc, id)?;
+        fed.look(alloc, id, look)?;
     }
     Ok(())
 }
@@ -330,9 +320,7 @@ enum Work {
     Overrun,
     Rounds,
     Detach,
-    Pins,
-    Scans,
-    Walks,
+    Looks(Look),
     Parts,
     Slides,
 }
@@ -345,9 +333,9 @@ fn work_of(word: &str) -> Option<Work> {
         "overrun" => Some(Work::Overrun),
         "rounds" => Some(Work::Rounds),
         "detach" => Some(Work::Detach),
-        "pins" => Some(Work::Pins),
-        "scans" => Some(Work::Scans),
-        "walks" => Some(Work::Walks),
+        "pins" => Some(Work::Looks(Look::Pin)),
+        "scans" => Some(Work::Looks(Look::Scan)),
+        "walks" => Some(Work::Looks(Look::Walk)),
         "parts" => Some(Work::Parts),
         "slides" => Some(Work::Slides),
         _ => None,
@@ -369,9 +357,7 @@ fn held_after(
         Work::Overrun => overrun(alloc, &mut fed, stubs, times)?,
         Work::Rounds => rounds(alloc, &mut fed, stubs, times)?,
         Work::Detach => detach(alloc, &mut fed, stubs, times)?,
-        Work::Pins => pins(alloc, &mut fed, stubs, times)?,
-        Work::Scans => scans(alloc, &mut fed, stubs, times)?,
-        Work::Walks => walks(alloc, &mut fed, stubs, times)?,
+        Work::Looks(look) => looks(alloc, &mut fed, stubs, times, look)?,
         Work::Parts => parts(alloc, &mut fed, stubs, times, more)?,
         Work::Slides => slides(alloc, &mut fed, stubs, times)?,
     }

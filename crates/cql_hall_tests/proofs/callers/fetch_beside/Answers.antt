@@ -5,7 +5,7 @@ use Rattle.std.below.std_heap.proofs.GlobalAllocator.TheSendSync as frees
 use Rattle.cql_hall.proofs.Crosses.{hall_sync, kept_row_send, receipt_row_send}
 use Rattle.cql_hall_tests.specs.contracts.callers.Caller as caller
 use Rattle.cql_hall_tests.proofs.holding.Holding.TheSendSync as holding
-use Rattle.cql_hall_tests.proofs.alone.fetch_beside.Goals as goal
+use Rattle.cql_hall_tests.proofs.callers.fetch_beside.Goals as goal
 
 -- A caller may go to another thread.
 caller_send : IsSend (caller.the_field).row

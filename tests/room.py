@@ -183,7 +183,7 @@ LET_GO = (
 
 
 def of_values(streams, rows, text):
-    """The lines of a session of one query. Each value comes once, and some keys come twice as often as others."""
+    """The lines of a session of one query. Each value comes once, and some keys twice as often as others."""
     yield from made(streams)
     yield query(text)
     for at in range(rows):

@@ -1,6 +1,6 @@
 """Checks of tests/memory over the built cqld: that no want of memory is told of many rows, how many requests
-for memory a row makes, that a login which finds none is told so, and that what an answer took is given back to
-the system.
+for memory a row makes, how many bytes an answer has at once for each, that a login which finds none is told so,
+and that what an answer took is given back to the system.
 """
 import collections
 import concurrent.futures
@@ -121,15 +121,15 @@ MOST = 1.1
 READERS = 64
 
 
-def requests(program, library, lines):
-    """How many requests for memory a server of one session makes."""
+def counted(program, library, lines, name="requests"):
+    """What the counter tells of a server of one session: how many requests for memory it makes."""
     under = "env", f"LD_PRELOAD={library}"
     with Server(program, TABLE, under, workers=1, sessions=1) as server:
         with Caller(server, "a") as caller:
             caller.serve(lines)
             caller.rest()
         ended = server.end()
-    return int(re.findall(rb"^requests (\d+)$", ended.said, re.MULTILINE)[-1])
+    return int(re.findall(rb"^%b (\d+)$" % name.encode(), ended.said, re.MULTILINE)[-1])
 
 
 def of_rows(streams, rows, queries, fetches):
@@ -148,7 +148,7 @@ def of_rows(streams, rows, queries, fetches):
 def each_row(program, library, streams, queries, fetches):
     """How many requests each row more makes."""
     few, more = (
-        requests(program, library, of_rows(streams, rows, queries, fetches)) for rows in (FEW, MANY)
+        counted(program, library, of_rows(streams, rows, queries, fetches)) for rows in (FEW, MANY)
     )
     return (more - few) / (MANY - FEW) / len(streams)
 
@@ -162,6 +162,46 @@ def rows_are_shared(program, library):
     one, all_of_them = (each_row(program, library, "s", ["Select * From s"] * it, 0) for it in (1, READERS))
     same = abs(all_of_them - one) < 0.05
     yield f"requests of a put behind {READERS} readers", None if same else f"{one:.2f} and {all_of_them:.2f}"
+
+
+# Answers that tell nothing, or one row at first; those of parts leave in another order than they came. So
+# many bytes a row has at once, most of them in the store, and a tenth more are too many.
+LET_GO = (
+    (
+        "a sliding join of values that come once",
+        "sp",
+        "Select Istream(x.v) From s [Range 100] x, p [Range 100] y Where x.v = y.v And x.k > y.k",
+        236,
+    ),
+    (
+        "items over rows that leave in another order",
+        "s",
+        "Istream(Select Distinct 0 * v From s [Partition By k Rows 1])",
+        334,
+    ),
+)
+
+
+def of_values(streams, rows, text):
+    """The lines of a session of one query. Each value comes once, and some keys twice as often as others."""
+    yield from made(streams)
+    yield query(text)
+    for at in range(rows):
+        for name in streams:
+            yield put(at, name, at * at % 7, 0, at)
+    yield from beats(streams, rows - 1)
+    yield FETCH
+
+
+def rows_are_let_go(program, library):
+    """An answer keeps nothing of a row that has left its window."""
+    for name, streams, text, most in LET_GO:
+        few, more = (
+            counted(program, library, of_values(streams, rows, text), "most") for rows in (FEW, MANY)
+        )
+        found = (more - few) / (MANY - FEW) / len(streams)
+        wrong = f"{found:.0f} bytes a row at once, and not {most}"
+        yield f"bytes at once of {name}", None if found <= most * MOST else wrong
 
 
 # So many requests at the end of a session of a login alone are refused, one in each run; some are of that.
@@ -180,7 +220,7 @@ def login_without(program, library, number):
 
 def logins(program, library):
     """A login for which there is no memory is told so."""
-    all_of_them = requests(program, library, [])
+    all_of_them = counted(program, library, [])
     numbers = range(max(1, all_of_them - LAST), all_of_them + 1)
     with concurrent.futures.ThreadPoolExecutor(os.cpu_count()) as pool:
         told_them = set(pool.map(lambda it: login_without(program, library, it), numbers))

@@ -25,6 +25,7 @@ Large = collections.namedtuple("Large", "name text s p told apart", defaults=(Fa
 GROUPED = "Select Istream(x.k, Count(*)) From s x, p y Where x.k = y.k Group By x.k"
 LARGE = (
     Large("1,500 rows of one value", GROUPED, [(7, 0, it) for it in range(1_500)], [(7, 0, 0)], [[7, 1_500]]),
+    Large("1,500 equal rows", GROUPED, [(7, 0, 0)] * 1_500, [(7, 0, 0)], [[7, 1_500]]),
     Large("3,000 rows of a port", GROUPED, [(it, 0, 0) for it in range(3_000)], [(5, 0, 0)], [[5, 1]]),
     Large(
         "4,000 groups",

@@ -1,3 +1,4 @@
+use Rattle.std.proofs.lemmas.Bool.{false≢true}
 use Rattle.std.proofs.lemmas.Grind.{common_steps}
 use Rattle.std.proofs.Common.{◌≡◌, ◌<◌, [], ◌∷◌, ◌++◌, true, map, length, take, get_or, ap, sym, subst, ◌∙◌, arith}
 use Rattle.std.specs.Prelude.{Some, option_map}
@@ -26,7 +27,7 @@ loop-number-preserved c =
           let x = w.index-sent-number.result in
           let decides = replies_decide ss tell m (sent_as (get_or rs m x)) w.is_reply_of.result (get_map sent_as rs m x within w.index-sent-number.is ∙ ap (λ y. Some (sent_as y)) w.index-sent-number.is) w.is_reply_of.ensures in
           subst (FailsAmong ss tell (take i ks ++ m ∷ []) c.args.first) (sym w.least-is)
-          (among_new ss tell (take i ks) c.args.first least m (sym c.is_before.ensures ∙ w.if-is_before.true) (λ r. absurd (let told = decides.1 r in cc (told, w.if-not-is_reply_of.true))) c.loop-number.invariant)
+          (among_new ss tell (take i ks) c.args.first least m (sym c.is_before.ensures ∙ w.if-is_before.true) (λ r. absurd (false≢true (sym w.if-not-is_reply_of.true ∙ decides.1 r))) c.loop-number.invariant)
       | else-is_before w ↦
           subst (FailsAmong ss tell (take i ks ++ m ∷ []) c.args.first) (sym w.least-is)
           (among_same ss tell (take i ks) c.args.first least m (λ (before : is_before m least ≡ true).
@@ -34,7 +35,7 @@ loop-number-preserved c =
             | else-is_before-via-then-is_before+else-not-is_reply_of v ↦
                 let x = v.index-sent-number.result in
                 (replies_decide ss tell m (sent_as (get_or rs m x)) v.is_reply_of.result (get_map sent_as rs m x within v.index-sent-number.is ∙ ap (λ y. Some (sent_as y)) v.index-sent-number.is) v.is_reply_of.ensures).0 v.if-not-is_reply_of.false
-            | else-is_before-via-else-is_before v ↦ absurd (cc (before, c.is_before.ensures, v.if-is_before.false))
+            | else-is_before-via-else-is_before v ↦ absurd (false≢true (sym v.if-is_before.false ∙ c.is_before.ensures ∙ before))
           ] in reply) c.loop-number.invariant)
     ])
 

@@ -44,7 +44,7 @@ module _ (T D : RattleType) where
   floor_send s e = struct_send (shape (floor.the_type T D)) (
     search sendable depth 20,
     (
-      let p = place_row_send T s in search (sendable, slab.the_send, heap.the_send, frees.the_frees, p) depth 20,
+      let p : Unit {0} → IsSend (place.the_row T) = λ u. place_row_send T s in search (sendable, slab.the_send, heap.the_send, frees.the_frees, p) depth 20,
       (
         turns_send (turn.the_row T) (turn_row_send T s),
         (search (crosses, sendable) depth 30, (search sendable, (let v = Vec-send D e in search (sendable, v) depth 20, (search sendable, (search sendable, tt))))),
@@ -61,7 +61,7 @@ module _ (T D : RattleType) where
     (
       search sendable,
       (
-        let f = floor_row_send s e in search (sendable, mutex.the_sync, f) depth 20,
+        let f : Unit {0} → IsSend (floor.the_row T D) = λ u. floor_row_send s e in search (sendable, mutex.the_sync, f) depth 20,
         (search (crosses, sendable) depth 30, (search (crosses, sendable) depth 30, (search (crosses, sendable) depth 30, (search (crosses, sendable) depth 30, tt)))),
       ),
     ),

@@ -7,9 +7,6 @@ use Rattle.std.proofs.alloc.Global.TheSendSync as heap
 use Rattle.std.proofs.Crossing.{crosses, Box-send, Vec-send, Deque-send}
 use Rattle.slab.proofs.Slab.TheSendSync as slab
 use Rattle.std.below.std_heap.proofs.GlobalAllocator.TheSendSync as frees
-use Rattle.cql_sessions.specs.contracts.ending.Ending as ending
-use Rattle.cql_sessions.specs.contracts.guest.Guest as guest
-use Rattle.cql_sessions.proofs.Crosses.{ending_row_send, guest_row_send}
 use Rattle.cql_connections.specs.contracts.floor.Floor as floor
 use Rattle.cql_connections.specs.contracts.floor.Place as place
 use Rattle.cql_connections.specs.contracts.floor.Turn as turn
@@ -17,22 +14,22 @@ use Rattle.cql_connections.specs.contracts.house.House as house
 use Rattle.cql_connections.specs.contracts.turns.Queues as queues
 use Rattle.cql_connections.specs.contracts.turns.Turns as turns
 
-pub turn_send : IsSend (turn.the_field).row
-turn_send = struct_send (shape turn.the_type) (search sendable, (let b = Box-send guest.the_row guest_row_send in search (sendable, b) depth 20, tt))
-
-pub turn_row_send : IsSend turn.the_row
-turn_row_send = search (sendable, turn_send) depth 20
-
-pub place_send : IsSend (place.the_field).row
-place_send = struct_send (shape place.the_type) (
-  let b = Box-send guest.the_row guest_row_send in search (sendable, b) depth 20,
-  (search (crosses, sendable) depth 20, (search sendable, (search sendable, tt))),
-)
-
-pub place_row_send : IsSend place.the_row
-place_row_send = search (sendable, place_send) depth 20
-
 module _ (T : RattleType) where
+  pub turn_send : IsSend T → IsSend (turn.the_field T).row
+  turn_send s = struct_send (shape (turn.the_type T)) (search sendable, (let b = Box-send T s in search (sendable, b) depth 20, (search sendable, tt)))
+
+  pub turn_row_send : IsSend T → IsSend (turn.the_row T)
+  turn_row_send s = let t = turn_send s in search (sendable, t) depth 20
+
+  pub place_send : IsSend T → IsSend (place.the_field T).row
+  place_send s = struct_send (shape (place.the_type T)) (
+    let b = Box-send T s in search (sendable, b) depth 20,
+    (search (crosses, sendable) depth 20, (search sendable, (search sendable, (search sendable, tt)))),
+  )
+
+  pub place_row_send : IsSend T → IsSend (place.the_row T)
+  place_row_send s = let p = place_send s in search (sendable, p) depth 20
+
   pub queues_send : IsSend T → IsSend (queues.the_field T).row
   queues_send s = struct_send (shape (queues.the_type T)) (Vec-send _ (Deque-send T s), (search (crosses, sendable) depth 30, (search sendable, tt)))
 
@@ -42,29 +39,33 @@ module _ (T : RattleType) where
     (queues_send s, (search sendable, (search sendable, (search (crosses, sendable) depth 30, (search sendable, tt))))),
   )
 
-pub floor_send : IsSend (floor.the_field).row
-floor_send = struct_send (shape floor.the_type) (
-  search sendable depth 20,
-  (
-    search (sendable, slab.the_send, heap.the_send, frees.the_frees, place_row_send) depth 20,
+module _ (T D : RattleType) where
+  pub floor_send : IsSend T → IsSend D → IsSend (floor.the_field T D).row
+  floor_send s e = struct_send (shape (floor.the_type T D)) (
+    search sendable depth 20,
     (
-      turns_send turn.the_row turn_row_send,
-      (search (crosses, sendable) depth 30, (search sendable, (let e = Vec-send ending.the_row ending_row_send in search (sendable, e) depth 20, (search sendable, (search sendable, tt))))),
+      let p : Unit {0} → IsSend (place.the_row T) = λ u. place_row_send T s in search (sendable, slab.the_send, heap.the_send, frees.the_frees, p) depth 20,
+      (
+        turns_send (turn.the_row T) (turn_row_send T s),
+        (search (crosses, sendable) depth 30, (search sendable, (let v = Vec-send D e in search (sendable, v) depth 20, (search sendable, (search sendable, tt))))),
+      ),
     ),
-  ),
-)
+  )
 
-pub floor_row_send : IsSend floor.the_row
-floor_row_send = search (sendable, floor_send) depth 20
+  pub floor_row_send : IsSend T → IsSend D → IsSend (floor.the_row T D)
+  floor_row_send s e = let f = floor_send s e in search (sendable, f) depth 20
 
-pub house_sync : IsSync (house.the_field).row
-house_sync = struct_sync (shape house.the_type) (
-  search (crosses, sendable) depth 20,
-  (
-    search (sendable, mutex.the_sync, floor_row_send) depth 20,
-    (search (crosses, sendable) depth 30, (search (crosses, sendable) depth 30, (search (crosses, sendable) depth 30, (search (crosses, sendable) depth 30, tt)))),
-  ),
-)
+  pub house_sync : IsSend T → IsSend D → IsSync (house.the_field T D).row
+  house_sync s e = struct_sync (shape (house.the_type T D)) (
+    search (crosses, sendable) depth 20,
+    (
+      search sendable,
+      (
+        let f : Unit {0} → IsSend (floor.the_row T D) = λ u. floor_row_send s e in search (sendable, mutex.the_sync, f) depth 20,
+        (search (crosses, sendable) depth 30, (search (crosses, sendable) depth 30, (search (crosses, sendable) depth 30, (search (crosses, sendable) depth 30, tt)))),
+      ),
+    ),
+  )
 
-pub house_row_sync : IsSync house.the_row
-house_row_sync = search (sendable, house_sync) depth 20
+  pub house_row_sync : IsSend T → IsSend D → IsSync (house.the_row T D)
+  house_row_sync s e = let h = house_sync s e in search (sendable, h) depth 20

@@ -2,7 +2,8 @@
 
 use crate::connection::Limits;
 use crate::turns::{Task, Turns};
-use cql_sessions::{Ending, Guest, Needs};
+use cql_hall::EndReason;
+use cql_sessions::{Connected, Needs};
 use cql_wire::ScriptError;
 use slab::Slab;
 use std::alloc::{AllocError, Global};
@@ -16,47 +17,80 @@ const AT_ONCE: usize = 4096;
 
 /// A guest whose turn it is, under its key.
 #[derive(Drop)]
-pub struct Turn {
+pub struct Turn<T> {
     pub key: usize,
-    pub guest: Box<Guest>,
+    pub guest: Box<T>,
+    // whether the hub is told what comes
+    pub(crate) is_listed: bool,
+}
+
+impl<T: Connected> Turn<T> {
+    /// Whose turn it is: 0 until its caller has logged in, and then one more than the place of the
+    /// tenant.
+    pub fn owner(&self) -> usize {
+        match self.guest.tenant() {
+            Some(tenant) => tenant.place().saturating_add(1),
+            None => 0,
+        }
+    }
+
+    /// Why its session has ended, by this fault if by one.
+    pub(crate) fn reason(&self, fault: Option<ScriptError>) -> EndReason {
+        match fault {
+            Some(_) => EndReason::Fault,
+            None if self.guest.is_refused() => EndReason::Refused,
+            None => EndReason::Caller,
+        }
+    }
+
+    /// Why its session ends where its time has passed.
+    pub(crate) fn reason_of_late(&self) -> EndReason {
+        match self.guest.tenant() {
+            Some(_) => EndReason::Idle,
+            None => EndReason::Login,
+        }
+    }
 }
 
 // A caller who is connected: the guest unless it is at a worker or waits for one, since when it is
-// waited for, what is held for it, and whether something came while it wasn't here.
-struct Place {
-    guest: Option<Box<Guest>>,
+// waited for, what is held for it, whether the hub is told what comes, and whether something came
+// while it wasn't here.
+struct Place<T> {
+    guest: Option<Box<T>>,
     since: Instant,
     held: usize,
+    is_listed: bool,
     is_called: bool,
 }
 
-impl Drop for Place {
+impl<T: Drop> Drop for Place<T> {
     fn drop(self) {
         let Place {
             guest: _,
             since: _,
             held: _,
+            is_listed: _,
             is_called: _,
         } = self;
     }
 }
 
-/// The callers who are connected.
-pub struct Floor {
+/// The callers who are connected, and what is left of those who were.
+pub struct Floor<T, D> {
     limits: Limits,
-    places: Slab<Place>,
-    turns: Turns<Turn>,
+    places: Slab<Place<T>>,
+    turns: Turns<Turn<T>>,
     // how many bytes are held for each owner
     held: Vec<usize>,
     // where the look round goes on
     looked: usize,
-    ends: Vec<Ending>,
+    ends: Vec<D>,
     is_whole: bool,
     /// Whether workers are to end.
     pub is_closed: bool,
 }
 
-impl Drop for Floor {
+impl<T: Drop, D: Drop> Drop for Floor<T, D> {
     fn drop(self) {
         let Floor {
             limits: _,
@@ -71,7 +105,7 @@ impl Drop for Floor {
     }
 }
 
-impl Floor {
+impl<T: Connected<End = D>, D: Drop> Floor<T, D> {
     /// Nobody is connected. Owners are numbers below the given one. There is room for so many ends.
     pub fn new(
         alloc: Global,
@@ -79,7 +113,7 @@ impl Floor {
         owners: usize,
         workers: usize,
         room: usize,
-    ) -> Result<Floor, AllocError> {
+    ) -> Result<Floor<T, D>, AllocError> {
         let turns = Turns::new(alloc, owners, workers)?;
         let held = vec![in alloc; 0; owners]?;
         let ends = Vec::with_capacity(alloc, room)?;
@@ -111,7 +145,7 @@ impl Floor {
     }
 
     /// The ends of all sessions; or there was no room for one.
-    pub(crate) fn into_ends(self) -> Result<Vec<Ending>, AllocError> {
+    pub(crate) fn into_ends(self) -> Result<Vec<D>, AllocError> {
         let Floor {
             limits: _,
             places: _,
@@ -125,12 +159,14 @@ impl Floor {
         if is_whole { Ok(ends) } else { Err(AllocError) }
     }
 
-    /// A guest has come, and waits for its caller. Its key; or there was no memory.
-    pub(crate) fn enter(&mut self, guest: Box<Guest>, since: Instant) -> Result<usize, AllocError> {
+    /// A guest has come of whom the hub is told, and waits for its caller. Its key; or there was no
+    /// memory.
+    pub(crate) fn enter(&mut self, guest: Box<T>, since: Instant) -> Result<usize, AllocError> {
         let place = Place {
             guest: Some(guest),
             since,
             held: 0,
+            is_listed: true,
             is_called: false,
         };
         match self.places.insert(place) {
@@ -145,7 +181,7 @@ impl Floor {
     }
 
     /// Keeps how a session ended.
-    pub(crate) fn note(&mut self, end: Option<Ending>) {
+    pub(crate) fn note(&mut self, end: Option<D>) {
         if let Some(end) = end
             && self.ends.push(end).is_err()
         {
@@ -154,40 +190,46 @@ impl Floor {
     }
 
     // Takes a guest that waits for its caller.
-    fn leave_place(&mut self, key: usize) -> Option<Box<Guest>> {
+    fn leave_place(&mut self, key: usize) -> Option<Turn<T>> {
         let place = self.places.get_mut(key)?;
         let Some(guest) = place.guest.take() else {
             place.is_called = true;
             return None;
         };
+        let is_listed = place.is_listed;
         let held = std::mem::replace(&mut place.held, 0);
-        if let Some(all) = self.held.get_mut(guest.owner()) {
+        let turn = Turn {
+            key,
+            guest,
+            is_listed,
+        };
+        if let Some(all) = self.held.get_mut(turn.owner()) {
             *all = all.saturating_sub(held);
         }
-        Some(guest)
+        Some(turn)
     }
 
     /// Something has come for the guest of a key: it waits for a worker. Without memory for that
     /// it comes back.
-    pub(crate) fn call(&mut self, key: usize) -> Result<(), Turn> {
+    pub(crate) fn call(&mut self, key: usize) -> Result<(), Turn<T>> {
         match self.leave_place(key) {
-            Some(guest) => self.push(Turn { key, guest }),
+            Some(turn) => self.push(turn),
             None => Ok(()),
         }
     }
 
     /// A guest waits for a worker. Without memory for that it comes back.
-    pub(crate) fn push(&mut self, turn: Turn) -> Result<(), Turn> {
-        self.turns.push_short(turn.guest.owner(), turn)
+    pub(crate) fn push(&mut self, turn: Turn<T>) -> Result<(), Turn<T>> {
+        self.turns.push_short(turn.owner(), turn)
     }
 
     /// A guest waits for a worker who may compute an answer. Without memory it comes back.
-    pub(crate) fn push_answer(&mut self, turn: Turn) -> Result<(), Turn> {
-        self.turns.push_answer(turn.guest.owner(), turn)
+    pub(crate) fn push_answer(&mut self, turn: Turn<T>) -> Result<(), Turn<T>> {
+        self.turns.push_answer(turn.owner(), turn)
     }
 
     /// The next guest whose turn it is, at a thread that computes answers or at one that doesn't.
-    pub(crate) fn take(&mut self, computes: bool) -> Option<Task<Turn>> {
+    pub(crate) fn take(&mut self, computes: bool) -> Option<Task<Turn<T>>> {
         self.turns.take(computes)
     }
 
@@ -206,10 +248,10 @@ impl Floor {
     /// owner.
     pub(crate) fn keep(
         &mut self,
-        turn: Turn,
+        turn: Turn<T>,
         needs: Needs,
         now: Option<Instant>,
-    ) -> Result<(), Turn> {
+    ) -> Result<(), Turn<T>> {
         let Some(place) = self.places.get_mut(turn.key) else {
             return Err(turn);
         };
@@ -217,7 +259,7 @@ impl Floor {
             place.is_called = false;
             return self.push(turn);
         }
-        if let Some(all) = self.held.get_mut(turn.guest.owner()) {
+        if let Some(all) = self.held.get_mut(turn.owner()) {
             let held = turn.guest.held();
             if needs == Needs::Room && *all > MOST_HELD {
                 return Err(turn);
@@ -225,18 +267,19 @@ impl Floor {
             *all = all.saturating_add(held);
             place.held = held;
         }
-        if turn.guest.is_inside()
+        if turn.guest.tenant().is_some()
             && let Some(now) = now
         {
             place.since = now;
         }
+        place.is_listed = turn.is_listed;
         place.guest = Some(turn.guest);
         Ok(())
     }
 
     /// Guests whose time has passed by now, of some callers in a row. It goes on with those the next
     /// time.
-    pub(crate) fn take_late(&mut self, now: Instant, late: &mut Vec<Turn>) {
+    pub(crate) fn take_late(&mut self, now: Instant, late: &mut Vec<Turn<T>>) {
         if self.limits.login.is_none() && self.limits.idle.is_none() {
             return;
         }
@@ -247,9 +290,9 @@ impl Floor {
         for key in first..last {
             if self.is_late(now, key)
                 && late.reserve(1).is_ok()
-                && let Some(guest) = self.leave_place(key)
+                && let Some(turn) = self.leave_place(key)
             {
-                late.push_reserved(Turn { key, guest });
+                late.push_reserved(turn);
             }
         }
     }
@@ -262,7 +305,7 @@ impl Floor {
         let Some(guest) = &place.guest else {
             return false;
         };
-        let within = if guest.is_inside() {
+        let within = if guest.tenant().is_some() {
             self.limits.idle
         } else {
             earlier(self.limits.login, self.limits.idle)

@@ -2,23 +2,24 @@
 
 use crate::floor::{Floor, LATE, Turn};
 use crate::turns::Task;
-use cql_hall::{EndReason, Gate, Journal, Point};
-use cql_sessions::{Ending, Guest, Needs};
+use cql_hall::{EndReason, Gate, Point};
+use cql_sessions::{Connected, Needs};
 use cql_wire::ScriptError;
 use mio::unix::SourceFd;
 use mio::{Interest, Registry, Token, Waker};
 use std::alloc::{AllocError, Global};
 use std::io;
 use std::net::TcpStream;
-use std::os::fd::AsRawFd;
 use std::sync::atomic::{AtomicUsize, Ordering};
 use std::sync::{Condvar, Mutex, Wait};
 use std::time::{Clock, Instant};
 
 /// The callers who are connected, and what tells of those who send.
-pub struct House {
+pub struct House<T, D> {
     alloc: Global,
-    floor: Mutex<Floor>,
+    // whether calls are kept
+    is_kept: bool,
+    floor: Mutex<Floor<T, D>>,
     // tells workers that something waits for them
     called: Condvar,
     // how much waits for workers
@@ -28,10 +29,11 @@ pub struct House {
     waker: Waker,
 }
 
-impl Drop for House {
+impl<T: Drop, D: Drop> Drop for House<T, D> {
     fn drop(self) {
         let House {
             alloc: _,
+            is_kept: _,
             floor: _,
             called: _,
             waiting: _,
@@ -41,11 +43,18 @@ impl Drop for House {
     }
 }
 
-impl House {
-    /// Nobody is connected.
-    pub fn new(alloc: Global, floor: Floor, registry: Registry, waker: Waker) -> House {
+impl<T: Connected<End = D>, D: Drop> House<T, D> {
+    /// Nobody is connected. Calls are kept or aren't.
+    pub fn new(
+        alloc: Global,
+        is_kept: bool,
+        floor: Floor<T, D>,
+        registry: Registry,
+        waker: Waker,
+    ) -> House<T, D> {
         House {
             alloc,
+            is_kept,
             floor: Mutex::new(floor),
             called: Condvar::new(),
             waiting: AtomicUsize::new(0),
@@ -55,9 +64,10 @@ impl House {
     }
 
     /// The ends of all sessions; or there was no room for one.
-    pub fn into_ends(self) -> Result<Vec<Ending>, AllocError> {
+    pub fn into_ends(self) -> Result<Vec<D>, AllocError> {
         let House {
             alloc: _,
+            is_kept: _,
             floor,
             called: _,
             waiting: _,
@@ -89,16 +99,15 @@ impl House {
     }
 
     /// Lets a caller in, and waits for its first bytes.
-    pub(crate) fn let_in<J: Journal, R: Wait + Clock, G: Gate>(
+    pub(crate) fn let_in<R: Wait + Clock, G: Gate>(
         &self,
         rt: &R,
         gate: &G,
         stream: TcpStream,
     ) -> io::Result<()> {
-        let mut guest = Box::new(self.alloc, Guest::new::<J>(self.alloc, stream)?)?;
+        let guest = Box::new(self.alloc, T::new(self.alloc, stream, self.is_kept)?)?;
         let since = Instant::now(rt)?;
-        let fd = guest.stream.as_raw_fd();
-        guest.is_listed = true;
+        let fd = guest.raw_fd();
         let key = self.floor.lock(rt).enter(guest, since)?;
         let told = self
             .registry
@@ -132,7 +141,7 @@ impl House {
         }
     }
 
-    fn call_one<R: Wait>(&self, rt: &R, key: usize) -> Result<(), Turn> {
+    fn call_one<R: Wait>(&self, rt: &R, key: usize) -> Result<(), Turn<T>> {
         let mut floor = self.floor.lock(rt);
         let called = floor.call(key);
         self.waiting.store(floor.waiting(), Ordering::SeqCst);
@@ -141,7 +150,7 @@ impl House {
 
     /// The next guest whose turn it is, once there is one, at a thread that computes answers or at one
     /// that doesn't; or none where the workers are to end.
-    pub fn next<R: Wait>(&self, rt: &R, computes: bool) -> Option<Task<Turn>> {
+    pub fn next<R: Wait>(&self, rt: &R, computes: bool) -> Option<Task<Turn<T>>> {
         let mut floor = self.floor.lock(rt);
         for _ in rt.forever() {
             if floor.is_closed {
@@ -170,35 +179,41 @@ impl House {
     }
 
     /// From now on the hub isn't told what comes for the guest.
-    pub fn unlist(&self, guest: &mut Guest) {
-        if guest.is_listed {
-            let fd = guest.stream.as_raw_fd();
-            guest.is_listed = self.registry.deregister(&mut SourceFd(&fd)).is_err();
+    pub fn unlist(&self, turn: &mut Turn<T>) {
+        if turn.is_listed {
+            let fd = turn.guest.raw_fd();
+            turn.is_listed = self.registry.deregister(&mut SourceFd(&fd)).is_err();
         }
     }
 
     // From now on the hub is told once what the guest needs.
-    fn list(&self, turn: &mut Turn, needs: Needs) -> io::Result<()> {
+    fn list(&self, turn: &mut Turn<T>, needs: Needs) -> io::Result<()> {
         let interest = if needs == Needs::Room {
             Interest::WRITABLE
         } else {
             Interest::READABLE
         };
-        let fd = turn.guest.stream.as_raw_fd();
+        let fd = turn.guest.raw_fd();
         let (mut source, token) = (SourceFd(&fd), Token(turn.key));
-        if turn.guest.is_listed {
+        if turn.is_listed {
             return self.registry.reregister(&mut source, token, interest);
         }
         self.registry.register(&mut source, token, interest)?;
-        turn.guest.is_listed = true;
+        turn.is_listed = true;
         Ok(())
     }
 
     /// Takes back a guest who has had a turn, and ends its session where it needs nothing more.
-    pub fn take_back<R: Wait + Clock, G: Gate>(&self, rt: &R, gate: &G, turn: Turn, needs: Needs) {
+    pub fn take_back<R: Wait + Clock, G: Gate>(
+        &self,
+        rt: &R,
+        gate: &G,
+        turn: Turn<T>,
+        needs: Needs,
+    ) {
         let refused = match needs {
             Needs::End(fault) => {
-                let reason = turn.guest.reason(fault);
+                let reason = turn.reason(fault);
                 return self.end(rt, gate, turn, fault, reason);
             }
             Needs::Worker => self.floor.lock(rt).push(turn),
@@ -211,14 +226,14 @@ impl House {
     }
 
     // Has a guest wait for a worker who may compute an answer.
-    fn push_answer<R: Wait>(&self, rt: &R, turn: Turn) -> Result<(), Turn> {
+    fn push_answer<R: Wait>(&self, rt: &R, turn: Turn<T>) -> Result<(), Turn<T>> {
         let pushed = self.floor.lock(rt).push_answer(turn);
         self.called.notify_one();
         pushed
     }
 
     // Keeps a guest until what it needs has come.
-    fn keep<R: Wait + Clock>(&self, rt: &R, turn: Turn, needs: Needs) -> Result<(), Turn> {
+    fn keep<R: Wait + Clock>(&self, rt: &R, turn: Turn<T>, needs: Needs) -> Result<(), Turn<T>> {
         let mut turn = turn;
         turn.guest.rest();
         if self.list(&mut turn, needs).is_err() {
@@ -234,11 +249,15 @@ impl House {
         &self,
         rt: &R,
         gate: &G,
-        turn: Turn,
+        turn: Turn<T>,
         fault: Option<ScriptError>,
         reason: EndReason,
     ) {
-        let Turn { key, guest } = turn;
+        let Turn {
+            key,
+            guest,
+            is_listed: _,
+        } = turn;
         let tenant = guest.tenant();
         let end = Box::into_inner(guest).leave(self.alloc, fault);
         self.leave(rt, key, end);
@@ -246,7 +265,7 @@ impl House {
         let _ = self.waker.wake();
     }
 
-    fn leave<R: Wait>(&self, rt: &R, key: usize, end: Option<Ending>) {
+    fn leave<R: Wait>(&self, rt: &R, key: usize, end: Option<D>) {
         let mut floor = self.floor.lock(rt);
         floor.forget(key);
         floor.note(end);
@@ -260,7 +279,7 @@ impl House {
         let mut late = Vec::new(self.alloc);
         self.floor.lock(rt).take_late(now, &mut late);
         for turn in late {
-            let reason = turn.guest.reason_of_late();
+            let reason = turn.reason_of_late();
             self.end(rt, gate, turn, Some(LATE), reason);
         }
     }

@@ -2,7 +2,8 @@
 ghost use Rattle.std.specs.Prelude.{◌≤◌};
 
 use crate::house::House;
-use cql_hall::{Gate, Journal};
+use cql_hall::Gate;
+use cql_sessions::Connected;
 use mio::unix::SourceFd;
 use mio::{Events, Interest, Poll, Registry, Token, Waker};
 use std::alloc::Global;
@@ -131,10 +132,10 @@ fn has_passed<R: Clock>(clock: &R, since: Option<Instant>, millis: u64) -> bool 
 
 impl Door<'_> {
     // Waits until something is ready, and calls those guests to whom something has come.
-    fn wait<R: Wait + Clock, G: Gate>(
+    fn wait<R: Wait + Clock, G: Gate, T: Connected<End = D>, D: Drop>(
         &mut self,
         rt: &R,
-        house: &House,
+        house: &House<T, D>,
         gate: &G,
         keys: &mut Vec<usize>,
         within: Duration,
@@ -161,15 +162,15 @@ impl Door<'_> {
     }
 
     // Lets one caller in, if one waits. Tells whether a connection was had or failed.
-    fn let_one_in<J: Journal, R: Wait + Clock, G: Gate>(
+    fn let_one_in<R: Wait + Clock, G: Gate, T: Connected<End = D>, D: Drop>(
         &mut self,
         rt: &R,
-        house: &House,
+        house: &House<T, D>,
         gate: &G,
     ) -> bool {
         match self.listener.accept() {
             Ok((stream, _)) => {
-                let _ = house.let_in::<J, R, G>(rt, gate, stream);
+                let _ = house.let_in(rt, gate, stream);
                 true
             }
             Err(error) => match error.kind() {
@@ -188,10 +189,10 @@ impl Door<'_> {
 
     // Lets callers in, as many as there is room for, and at most so many. Gives how many
     // connections were had or failed.
-    fn let_in<J: Journal, R: Wait + Clock, G: Gate>(
+    fn let_in<R: Wait + Clock, G: Gate, T: Connected<End = D>, D: Drop>(
         &mut self,
         rt: &R,
-        house: &House,
+        house: &House<T, D>,
         gate: &G,
         most: u32,
     ) -> u32
@@ -202,7 +203,7 @@ impl Door<'_> {
             if !self.is_asked || self.failed.is_some() || house.is_full(rt) {
                 break;
             }
-            if self.let_one_in::<J, R, G>(rt, house, gate) {
+            if self.let_one_in(rt, house, gate) {
                 count += 1;
             }
         }
@@ -210,7 +211,12 @@ impl Door<'_> {
     }
 
     // For how long may be waited.
-    fn within<R: Wait>(&self, rt: &R, house: &House, may_enter: bool) -> Duration {
+    fn within<R: Wait, T: Connected<End = D>, D: Drop>(
+        &self,
+        rt: &R,
+        house: &House<T, D>,
+        may_enter: bool,
+    ) -> Duration {
         if self.failed.is_some() {
             Duration::from_millis(PAUSE)
         } else if may_enter && self.is_asked && !house.is_full(rt) {
@@ -221,7 +227,12 @@ impl Door<'_> {
     }
 
     // Looks at whose time has passed, where that wasn't done just now.
-    fn look_round<R: Wait + Clock, G: Gate>(&mut self, rt: &R, house: &House, gate: &G) {
+    fn look_round<R: Wait + Clock, G: Gate, T: Connected<End = D>, D: Drop>(
+        &mut self,
+        rt: &R,
+        house: &House<T, D>,
+        gate: &G,
+    ) {
         if has_passed(rt, self.failed, PAUSE) {
             self.failed = None;
         }
@@ -232,11 +243,11 @@ impl Door<'_> {
     }
 
     /// Serves so many sessions, or for ever where that is 0, by workers, who are to end then.
-    pub fn attend<J: Journal, R: Wait + Clock, G: Gate>(
+    pub fn attend<R: Wait + Clock, G: Gate, T: Connected<End = D>, D: Drop>(
         self,
         rt: &R,
         alloc: Global,
-        house: &House,
+        house: &House<T, D>,
         gate: &G,
         sessions: u16,
     ) {
@@ -245,7 +256,7 @@ impl Door<'_> {
         let mut left = u32::from(sessions);
         for _ in rt.forever() {
             let most = if sessions == 0 { AT_ONCE } else { left };
-            let count = door.let_in::<J, R, G>(rt, house, gate, most);
+            let count = door.let_in(rt, house, gate, most);
             if sessions > 0 {
                 left -= count;
             }

@@ -11,6 +11,7 @@ use Rattle.cql_hall.proofs.Crosses.{receipt_row_send}
 use Rattle.cql_sessions.specs.contracts.caller.Caller as caller
 use Rattle.cql_sessions.specs.contracts.ending.Ending as ending
 use Rattle.cql_sessions.specs.contracts.guest.Guest as guest
+use Rattle.cql_sessions.specs.contracts.link.Link as link
 use Rattle.cql_sessions.specs.contracts.visit.Visit as visit
 
 pub ending_send : IsSend (ending.the_field).row
@@ -31,17 +32,14 @@ visit_send = search (sendable, caller_row_send, intake.the_send) depth 20
 pub visit_row_send : IsSend visit.the_row
 visit_row_send = search (sendable, visit_send) depth 20
 
-pub guest_send : IsSend (guest.the_field).row
-guest_send = struct_send (shape guest.the_type) (
+pub link_send : IsSend (link.the_field).row
+link_send = struct_send (shape link.the_type) (
   search (crosses, sendable) depth 30,
-  (
-    search sendable,
-    (
-      search (sendable, visit_send) depth 20,
-      (search (crosses, sendable) depth 30, (search (crosses, sendable) depth 30, (search sendable, (search sendable, (search sendable, tt))))),
-    ),
-  ),
+  (search (crosses, sendable) depth 30, (search (crosses, sendable) depth 30, (search sendable, (search sendable, (search sendable, tt))))),
 )
+
+pub guest_send : IsSend (guest.the_field).row
+guest_send = struct_send (shape guest.the_type) (search (sendable, link_send) depth 20, (search (sendable, visit_send) depth 20, tt))
 
 pub guest_row_send : IsSend guest.the_row
 guest_row_send = search (sendable, guest_send) depth 20

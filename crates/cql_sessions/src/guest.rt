@@ -1,62 +1,32 @@
 // A caller's connection that never waits for long, and its session.
-ghost use Rattle.std.specs.Prelude.{◌≡◌, ◌≤◌, [], length, IfOk, IfSome};
+ghost use Rattle.std.specs.Prelude.{◌≡◌, ◌≤◌, [], length, IfOk};
 
 use crate::caller::{Outcome, Service};
 use crate::desk::Desk;
 use crate::ending::Ending;
+use crate::link::{Link, Outbox, read_once};
 use crate::visit::Visit;
 use cql_core::{Evaluator, TenantId};
-use cql_hall::{EndReason, Gate, Journal};
+use cql_hall::{Gate, Journal};
 use cql_wire::{Gathered, LineFault, Scratch, ScriptError, Watched, write_fault};
 use std::alloc::Global;
 use std::io;
-use std::io::{ErrorKind, Read, Write};
 use std::net::TcpStream;
+use std::os::fd::{AsRawFd, RawFd};
 use std::sync::Wait;
-use std::time::Duration;
 
 // The most lines of one turn.
 const LINES: u32 = 256;
 
-// For so many microseconds a worker waits for the next bytes of a caller, or for the least time that
-// the system knows.
-const LINGER: u64 = 50;
-
-// So many bytes a caller takes at once, if he takes any.
-const SMALL: usize = 4096;
-
-// How many turns a caller has before he is waited for, and again where he didn't send at once.
-const PATIENCE: u8 = 16;
-
 /// A caller's connection that never waits for long, and its session.
 pub struct Guest {
-    pub stream: TcpStream,
-    /// Whether the hub is told what comes.
-    pub is_listed: bool,
+    link: Link,
     visit: Visit,
-    // what was read and isn't used yet
-    unread: Vec<u8>,
-    // what is to be written, of which so many bytes are
-    unsent: Vec<u8>,
-    sent: usize,
-    // whether a read waits for a moment
-    is_waiting: bool,
-    // after so many turns it is waited for again
-    patience: u8,
 }
 
 impl Drop for Guest {
     fn drop(self) {
-        let Guest {
-            stream: _,
-            is_listed: _,
-            visit: _,
-            unread: _,
-            unsent: _,
-            sent: _,
-            is_waiting: _,
-            patience: _,
-        } = self;
+        let Guest { link: _, visit: _ } = self;
     }
 }
 
@@ -84,151 +54,81 @@ pub struct May {
     pub wait: bool,
 }
 
-// Whether the connection can't take or give anything now.
-fn is_later(error: &io::Error) -> bool {
-    matches!(error.kind(), ErrorKind::WouldBlock | ErrorKind::Interrupted)
+/// A caller who is connected, and its session, between turns. Who waits for it and whose turn it is
+/// are kept for any such, whatever its calls were told.
+pub trait Connected: Drop {
+    /// What is left of its session.
+    type End;
+
+    /// A connection of which nothing has come, whose calls are kept or aren't. An error where the
+    /// system can't hold it to the time of a moment.
+    fn new(alloc: Global, stream: TcpStream, is_kept: bool) -> io::Result<Self>;
+
+    /// What the system knows the connection by.
+    fn raw_fd(&self) -> RawFd;
+
+    /// Whose session it is, once its caller has logged in.
+    fn tenant(&self) -> Option<TenantId>;
+
+    /// Whether it is over since its login was refused.
+    fn is_refused(&self) -> bool;
+
+    /// How many bytes are held back or not used yet.
+    fn held(&self) -> usize;
+
+    /// Whether its caller mostly sends again at once.
+    fn is_quick(&self) -> bool;
+
+    /// Gives back what memory it doesn't need while nothing comes.
+    fn rest(&mut self);
+
+    /// What is left of its session. The connection is closed.
+    fn leave(self, alloc: Global, fault: Option<ScriptError>) -> Option<Self::End>;
 }
 
-// A writer that takes all: what the connection doesn't take at once is held back.
-struct Outbox<'a> {
-    stream: &'a TcpStream,
-    is_waiting: bool,
-    held: Vec<u8>,
-}
+impl Connected for Guest {
+    type End = Ending;
 
-impl Drop for Outbox<'_> {
-    fn drop(self) {
-        let Outbox {
-            stream: _,
-            is_waiting: _,
-            held: _,
-        } = self;
-    }
-}
-
-impl Outbox<'_> {
-    // What is still held back, and whether a read waits.
-    fn into_rest(self) -> (Vec<u8>, bool) {
-        let Outbox {
-            stream: _,
-            is_waiting,
-            held,
-        } = self;
-        (held, is_waiting)
-    }
-}
-
-impl Write for Outbox<'_> {
-    fn write(&mut self, buf: &[u8]) -> io::Result<usize> {
-        if self.held.is_empty() {
-            if self.is_waiting && buf.len() > SMALL {
-                self.stream.set_nonblocking(true)?;
-                self.is_waiting = false;
-            }
-            match self.stream.write(buf) {
-                Err(error) if is_later(&error) => {}
-                told => return told,
-            }
-        }
-        self.held.extend_from_slice(buf)?;
-        Ok(buf.len())
-    }
-
-    fn flush(&mut self) -> io::Result<()> {
-        Ok(())
-    }
-}
-
-impl Guest {
-    /// A connection of which nothing has come. An error where the system can't hold it to the
-    /// time of a moment.
-    pub fn new<J: Journal>(alloc: Global, stream: TcpStream) -> io::Result<Guest> {
-        stream.set_nonblocking(true)?;
-        let linger = Some(Duration::from_micros(LINGER));
-        stream.set_read_timeout(linger)?;
-        stream.set_write_timeout(linger)?;
-        let _ = stream.set_nodelay(true);
+    fn new(alloc: Global, stream: TcpStream, is_kept: bool) -> io::Result<Guest> {
         Ok(Guest {
-            stream,
-            is_listed: false,
-            visit: Visit::new::<J>(alloc),
-            unread: Vec::new(alloc),
-            unsent: Vec::new(alloc),
-            sent: 0,
-            is_waiting: false,
-            patience: PATIENCE,
+            link: Link::new(alloc, stream)?,
+            visit: Visit::new(alloc, is_kept),
         })
     }
 
-    /// Whether its caller has logged in.
-    pub fn is_inside(&self) -> bool {
-        self.visit.tenant().is_some()
+    fn raw_fd(&self) -> RawFd {
+        self.link.stream.as_raw_fd()
     }
 
-    /// Whose session it is, once its caller has logged in.
-    pub fn tenant(&self) -> Option<TenantId> {
+    fn tenant(&self) -> Option<TenantId> {
         self.visit.tenant()
     }
 
-    /// Why its session has ended, by this fault if by one.
-    pub fn reason(&self, fault: Option<ScriptError>) -> EndReason {
-        match fault {
-            Some(_) => EndReason::Fault,
-            None if self.visit.is_refused() => EndReason::Refused,
-            None => EndReason::Caller,
-        }
+    fn is_refused(&self) -> bool {
+        self.visit.is_refused()
     }
 
-    /// Why its session ends where its time has passed.
-    pub fn reason_of_late(&self) -> EndReason {
-        if self.is_inside() {
-            EndReason::Idle
-        } else {
-            EndReason::Login
-        }
+    fn held(&self) -> usize {
+        self.link.held()
     }
 
-    /// Whose turns it takes: 0 until its caller has logged in, and then one more than the place of
-    /// the tenant.
-    pub fn owner(&self) -> usize {
-        match self.visit.tenant() {
-            Some(tenant) => tenant.place().saturating_add(1),
-            None => 0,
-        }
+    fn is_quick(&self) -> bool {
+        self.link.is_quick()
     }
 
-    /// How many bytes are held back or not used yet.
-    pub fn held(&self) -> usize {
-        self.unsent.len().saturating_add(self.unread.len())
-    }
-
-    /// Whether its caller mostly sends again at once.
-    pub fn is_quick(&self) -> bool {
-        self.patience == 0
-    }
-
-    /// Gives back what memory it doesn't need while nothing comes.
-    pub fn rest(&mut self) {
+    fn rest(&mut self) {
         self.visit.rest();
     }
 
-    /// What is left of its session. The connection is closed.
-    pub fn leave(self, alloc: Global, fault: Option<ScriptError>) -> Option<Ending> {
-        let Guest {
-            stream: _,
-            is_listed: _,
-            visit,
-            unread: _,
-            unsent: _,
-            sent: _,
-            is_waiting: _,
-            patience: _,
-        } = self;
+    fn leave(self, alloc: Global, fault: Option<ScriptError>) -> Option<Ending> {
+        let Guest { link: _, visit } = self;
         let is_kept = visit.is_kept();
         let end = visit.into_end(alloc, fault);
         if is_kept { Some(Ending::of(end)) } else { None }
     }
+}
 
+impl Guest {
     /// Serves its session for a while: writes what is held back, or reads once and answers lines
     /// up to a fetch. A caller who doesn't take what is written is not read from. Nothing of its
     /// replies stays at the desk.
@@ -257,14 +157,14 @@ impl Guest {
 
     // Tells want of memory before the login's answer, where the connection takes it.
     fn tell_no_memory(&self, fault: ScriptError) {
-        if fault == ScriptError::NoMemory && !self.is_inside() {
-            let _ = write_fault(&mut Watched::new(&self.stream), &LineFault::NoMemory);
+        if fault == ScriptError::NoMemory && self.visit.tenant().is_none() {
+            let _ = write_fault(&mut Watched::new(&self.link.stream), &LineFault::NoMemory);
         }
     }
 
     // What it needs first, where it can't go on at once. A read that comes next waits where it may.
     fn needs_first(&mut self, alloc: Global, may: May) -> Result<Option<Needs>, ScriptError> {
-        if !self.send(alloc)? {
+        if !self.link.send(alloc)? {
             return Ok(Some(Needs::Room));
         }
         if self.visit.is_over() {
@@ -273,8 +173,8 @@ impl Guest {
         if self.visit.is_held() && !may.fetch {
             return Ok(Some(Needs::Answer));
         }
-        if self.unread.is_empty() && !self.visit.is_held() {
-            self.wait(may.wait)?;
+        if self.link.unread.is_empty() && !self.visit.is_held() {
+            self.link.wait(may.wait)?;
         }
         Ok(None)
     }
@@ -293,90 +193,33 @@ impl Guest {
         if let Some(needs) = self.needs_first(alloc, may)? {
             return Ok(needs);
         }
-        let unread = std::mem::replace(&mut self.unread, Vec::new(alloc));
+        let unread = std::mem::replace(&mut self.link.unread, Vec::new(alloc));
         let mut outbox = Watched::new(Outbox {
-            stream: &self.stream,
-            is_waiting: self.is_waiting,
+            stream: &self.link.stream,
+            is_waiting: self.link.is_waiting,
             held: Vec::new(alloc),
         });
         let visit = &mut self.visit;
         let came = answer_next(service, bench, visit, unread, desk, may.fetch, &mut outbox)?;
         desk.gathered.flush(&mut outbox)?;
-        (self.unsent, self.is_waiting) = outbox.into_inner().into_rest();
-        self.note(came, may.wait);
+        (self.link.unsent, self.link.is_waiting) = outbox.into_inner().into_rest();
+        self.link.note(came, may.wait);
         Ok(self.needs())
-    }
-
-    // Keeps what isn't used yet; or nothing has come, which may have been waited for.
-    fn note(&mut self, came: Option<Vec<u8>>, was_waited_for: bool) {
-        match came {
-            Some(unread) => {
-                self.unread = unread;
-                self.patience = self.patience.saturating_sub(1);
-            }
-            None if was_waited_for => self.patience = PATIENCE,
-            None => {}
-        }
-    }
-
-    // From now on a read waits for a moment, or it doesn't.
-    fn wait(&mut self, is_waiting: bool) -> Result<(), ScriptError> {
-        if self.is_waiting != is_waiting {
-            if self.stream.set_nonblocking(!is_waiting).is_err() {
-                return Err(ScriptError::Read);
-            }
-            self.is_waiting = is_waiting;
-        }
-        Ok(())
     }
 
     // What it needs once it has had its turn.
     fn needs(&self) -> Needs {
-        if !self.unsent.is_empty() {
+        if !self.link.unsent.is_empty() {
             Needs::Room
         } else if self.visit.is_over() {
             Needs::End(None)
         } else if self.visit.is_held() {
             Needs::Answer
-        } else if !self.unread.is_empty() {
+        } else if !self.link.unread.is_empty() {
             Needs::Worker
         } else {
             Needs::Bytes
         }
-    }
-
-    // Writes once of what is held back, without waiting. Tells whether all is written.
-    fn send(&mut self, alloc: Global) -> Result<bool, ScriptError> {
-        if self.unsent.is_empty() {
-            return Ok(true);
-        }
-        self.wait(false)?;
-        let Some(rest) = self.unsent.as_slice().get(self.sent..) else {
-            return Err(ScriptError::Write);
-        };
-        match (&self.stream).write(rest) {
-            Ok(count) if count > 0 => self.sent = self.sent.saturating_add(count),
-            Err(error) if is_later(&error) => return Ok(false),
-            _ => return Err(ScriptError::Write),
-        }
-        if self.sent < self.unsent.len() {
-            return Ok(false);
-        }
-        self.unsent = Vec::new(alloc);
-        self.sent = 0;
-        Ok(true)
-    }
-}
-
-// Reads once: how many bytes, of which there are none at the end; or nothing has come.
-fn read_once(mut stream: &TcpStream, chunk: &mut [u8]) -> Result<Option<usize>, ScriptError>
-    ensures within { IfOk result (λ got. IfSome got (λ count. count ≤ length chunk.new)) }
-    ensures len { length chunk.new ≡ length chunk.old }
-{
-    match stream.read(chunk) {
-        Ok(count) => Ok(Some(count)),
-        Err(error) if is_later(&error) => Ok(None),
-        Err(_) => Err(ScriptError::Read),
     }
 }
 

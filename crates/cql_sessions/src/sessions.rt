@@ -73,7 +73,7 @@ where
         table,
         gate,
     };
-    let mut visit = Visit::new::<J>(alloc);
+    let mut visit = Visit::new(alloc, J::is_kept());
     let served = attend(&service, bench, &mut visit, &mut reader, &mut writer);
     if served == Err(ScriptError::NoMemory) && visit.tenant().is_none() {
         let _ = write_fault(&mut writer, &LineFault::NoMemory);

@@ -55,15 +55,15 @@ impl Visit {
     ghost use Rattle.cql_sessions.specs.Seating.{IsNew, HasGoneOn, Visits, Faces, Served, Answers, account_of};
 
     /// Nothing has come yet. Takes no memory.
-    pub(crate) fn new<J: Journal>(alloc: Global) -> Visit
-        ensures kept { result.is_kept ≡ J.keeps }
+    pub(crate) fn new(alloc: Global, is_kept: bool) -> Visit
+        ensures kept { result.is_kept ≡ is_kept }
         ensures going { result.is_held ≡ false }
         ensures begins { IsNew result }
     {
         Visit {
             caller: None,
             intake: Intake::new(alloc),
-            is_kept: J::is_kept(),
+            is_kept,
             is_held: false,
             is_ended: false,
             is_over: false,

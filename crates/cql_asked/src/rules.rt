@@ -10,27 +10,24 @@ use crate::tenants::TENANT_KEYS;
 use crate::values::{array_at, has_only, text_at, whole_at};
 use cql_value::name::is_name;
 use serde_json::Value as Json;
-use std::fmt;
 use thiserror::Error;
 
 /// A key of a tenant in a tenants line.
-#[derive(Clone, Copy, Debug, PartialEq, Eq)]
+#[derive(Clone, Copy, Debug, PartialEq, Eq, Error)]
 pub enum TenantKey {
+    #[error("hold")]
     Hold,
+    #[error("key")]
     Key,
+    #[error("name")]
     Name,
+    #[error("queries")]
     Queries,
+    #[error("result")]
     Result,
+    #[error("streams")]
     Streams,
 }
-
-impl fmt::Display for TenantKey {
-    fn fmt<W: fmt::Write>(&self, f: &mut fmt::Formatter<W>) -> fmt::Result {
-        f.write_str(self.word())
-    }
-}
-
-impl std::error::Error for TenantKey {}
 
 impl TenantKey {
     // The key as it is written.

@@ -283,7 +283,7 @@ impl Directory {
             granting.schema,
             columns,
         )?;
-        self.homes[place].granted.push(grant)?;
+        self.homes[place].granted.push(alloc, grant)?;
         Ok(Ok(()))
     }
 

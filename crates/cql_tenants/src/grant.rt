@@ -1,21 +1,20 @@
 // A grant, and what lists share of it.
-ghost use Rattle.std.specs.Prelude.{◌≡◌, true, IfOk, option_copied};
+ghost use Rattle.std.specs.Prelude.{◌≡◌, true, Some, IfOk, option_copied, slice_get};
 ghost use Rattle.cql_places.specs.Chosen.{is_shown};
 ghost use Rattle.cql_tenants.specs.Home.{is_of};
 ghost use Rattle.cql_tenants.specs.Directory.{grant_over};
+ghost use Rattle.cql_tenants.specs.Held.{shown_of};
 
+use crate::held::Held;
 use crate::shared::Shared;
 use crate::tenants::TenantId;
 use cql_places::{schema_at, shown_places};
 use cql_value::{Items, Schema, Text};
 use std::alloc::{AllocError, Global};
 use std::marker::Model;
-use std::sync::Arc;
 
 /// What the reader of a stream that another tenant granted sees of it.
 pub struct Shown {
-    /// The stream's place among its owner's.
-    pub place: usize,
     pub stream: Text,
     pub schema: Schema,
     /// Where these columns stand among the stream's own.
@@ -27,7 +26,6 @@ pub struct Shown {
 impl Drop for Shown {
     fn drop(self) {
         let Shown {
-            place: _,
             stream: _,
             schema: _,
             places: _,
@@ -36,16 +34,22 @@ impl Drop for Shown {
     }
 }
 
-/// A stream that another tenant granted: its owner, and what the reader sees of it, which lists
-/// share. It is small, since those that look for a grant walk along all.
+/// A stream that another tenant granted: its owner, its place among the owner's, and what the
+/// reader sees of it, which lists share. It is small, since those that look for a grant walk along
+/// all.
 pub struct Grant {
     owner: TenantId,
-    shown: Shared<Shown>,
+    place: usize,
+    shown: Held,
 }
 
 impl Drop for Grant {
     fn drop(self) {
-        let Grant { owner: _, shown: _ } = self;
+        let Grant {
+            owner: _,
+            place: _,
+            shown: _,
+        } = self;
     }
 }
 
@@ -54,7 +58,7 @@ impl Model for Grant {
 
     ghost Value = { kept };
 
-    ghost view = { λ g. record { owner = g.owner; place = g.shown.place; stream = g.shown.stream; schema = g.shown.schema; places = g.shown.places; named = g.shown.named } };
+    ghost view = { λ g. record { owner = g.owner; place = g.place; stream = g.shown.stream; schema = g.shown.schema; places = g.shown.places; named = g.shown.named } };
 }
 
 impl Grant {
@@ -77,14 +81,30 @@ impl Grant {
         let seen = schema_at(alloc, schema, places.as_slice())?;
         let stream = Text::new(alloc, stream)?;
         let shown = Shown {
-            place,
             stream,
             schema: seen,
             places,
             named: columns.is_some(),
         };
-        let shown = Shared::new(Arc::new(alloc, shown)?);
-        Ok(Grant { owner, shown })
+        let shown = Held::alone(alloc, shown)?;
+        Ok(Grant {
+            owner,
+            place,
+            shown,
+        })
+    }
+
+    /// The same grant, with what is seen of it at a place among others.
+    pub fn among(&self, pack: &Shared<Items<Shared<Shown>>>, at: usize) -> Result<Grant, AllocError>
+        requires { slice_get pack.now at ≡ Some (shown_of self.now) }
+        ensures { IfOk result (λ g. g ≡ self.now) }
+    {
+        let shown = Held::among(pack, at)?;
+        Ok(Grant {
+            owner: self.owner,
+            place: self.place,
+            shown,
+        })
     }
 
     /// The stream's owner.
@@ -98,7 +118,7 @@ impl Grant {
     pub fn place(&self) -> usize
         ensures { result ≡ self.now.place }
     {
-        self.shown.get().place
+        self.place
     }
 
     /// The stream's name.
@@ -129,11 +149,18 @@ impl Grant {
         self.shown.get().named
     }
 
-    /// What the reader sees, with one more holder.
-    pub fn shown(&self) -> Result<Shared<Shown>, AllocError>
-        ensures { IfOk result (λ s. s ≡ record { place = self.now.place; stream = self.now.stream; schema = self.now.schema; places = self.now.places; named = self.now.named }) }
+    /// What the reader sees, with one more holder of those that it stands among.
+    pub fn held(&self) -> Result<Held, AllocError>
+        ensures { IfOk result (λ s. s ≡ shown_of self.now) }
     {
         self.shown.share()
+    }
+
+    /// What the reader sees, with one more holder of it alone.
+    pub fn shown(&self) -> Result<Shared<Shown>, AllocError>
+        ensures { IfOk result (λ s. s ≡ shown_of self.now) }
+    {
+        self.shown.alone_shared()
     }
 
     /// Whether it is a grant of that stream.

@@ -7,6 +7,7 @@ ghost use Rattle.cql_tenants.specs.Checks.{make_refused, room_refused};
 ghost use Rattle.cql_tenants.specs.Directory.{with_stream};
 
 use crate::grant::Grant;
+use crate::granted::Granted;
 use crate::refusal::StreamRefusal;
 use crate::shared::Shared;
 use crate::shelf::Shelf;
@@ -14,23 +15,9 @@ use crate::stream::Stream;
 use crate::tenants::{Quotas, Tenant};
 use cql_order::Clock;
 use cql_value::name::is_name;
-use cql_value::{Items, Name, Schema};
+use cql_value::{Name, Schema};
 use std::alloc::{AllocError, Global};
 use std::sync::Arc;
-
-// Takes the grants of that stream away.
-fn take_grants(granted: &mut Items<Grant>, owner: usize, stream: &str)
-    ensures { granted.new ≡ filter (λ grant. not (is_of owner stream.now grant)) granted.old }
-{
-    let mut at = 0;
-    while at < granted.len() {
-        if granted.as_slice()[at].is_of(owner, stream) {
-            let _grant = granted.remove(at);
-        } else {
-            at += 1;
-        }
-    }
-}
 
 /// A tenant's name, which lists share, and quotas, its streams in order of making, and the streams
 /// that were granted to it, in order of the grants.
@@ -38,7 +25,7 @@ pub struct Home {
     pub name: Shared<Name>,
     pub quotas: Quotas,
     pub streams: Shelf<Stream>,
-    pub granted: Items<Grant>,
+    pub granted: Granted,
 }
 
 impl Drop for Home {
@@ -62,7 +49,7 @@ impl Home {
             name: Shared::new(name),
             quotas: tenant.quotas,
             streams: Shelf::new(alloc),
-            granted: Items::new(alloc),
+            granted: Granted::new(alloc),
         })
     }
 
@@ -80,7 +67,7 @@ impl Home {
     pub fn take_back(&mut self, owner: usize, stream: &str)
         ensures { self.new ≡ without_grant owner stream.now self.old }
     {
-        take_grants(&mut self.granted, owner, stream);
+        self.granted.take(owner, stream);
     }
 
     // Whether there is a stream of the name, or no room for one more.

@@ -1,12 +1,13 @@
 // Streams as their readers see them.
-ghost use Rattle.std.specs.Prelude.{◌≡◌, ◌<◌, ◌++◌, IfOk, OnOk, length, map, option_map};
+ghost use Rattle.std.specs.Prelude.{◌≡◌, IfOk, map, option_map};
 ghost use Rattle.std.specs.List.{AllByRecursion};
 ghost use Rattle.cql_value.specs.declared.schema.Column.{Column as column};
 ghost use Rattle.cql_tenants.specs.Home.{opened_at};
 ghost use Rattle.cql_tenants.specs.Law.{IsPlaced};
 ghost use Rattle.cql_tenants.specs.Readable.{own_readable, granted_readable, own_stream, read_stream};
 
-use crate::grant::{Grant, Shown};
+use crate::grant::Grant;
+use crate::held::Held;
 use crate::home::Home;
 use crate::homes::{home_at, opened_at, owner_name};
 use crate::shared::Shared;
@@ -17,9 +18,6 @@ use cql_places::all_places;
 use cql_value::{Column, Items, Name, Schema, Text};
 use std::alloc::{AllocError, Global};
 use std::marker::Model;
-
-/// How many grants are listed at once.
-const BLOCK: usize = 64;
 
 /// A stream that a tenant reads: under its name alone where it is the tenant's own, else under its
 /// owner's and its name.
@@ -79,7 +77,7 @@ impl Drop for OwnStream {
 /// that none is copied where a list is made.
 pub struct ReadStream {
     owner: Shared<Name>,
-    shown: Shared<Shown>,
+    shown: Held,
     opened: u64,
 }
 
@@ -231,26 +229,14 @@ fn time_of(homes: &[Home], grant: &Grant) -> u64
     owner.opened(grant.place())
 }
 
-// The least times, in ticks, that the streams of these grants still take.
-fn times_of(alloc: Global, homes: &[Home], grants: &[Grant]) -> Result<Vec<u64>, AllocError>
-    requires { AllByRecursion (IsPlaced homes.now) grants.now }
-    ensures { IfOk result (λ times. times.items ≡ map (λ g. opened_at homes.now g.owner g.stream) grants.now) }
-{
-    let mut times = Vec::with_capacity(alloc, grants.len())?;
-    for grant in grants {
-        times.push(time_of(homes, grant))?;
-    }
-    Ok(times)
-}
-
-// A stream that was granted, and still takes a time: it shares the texts of the grant.
-fn read_stream(homes: &[Home], grant: &Grant, opened: u64) -> Result<ReadStream, AllocError>
-    requires there { grant.now.owner < length homes.now }
-    requires time { opened ≡ opened_at homes.now grant.now.owner grant.now.stream }
+// A stream that was granted, as a list shows it: it shares the texts of the grant.
+fn read_stream(homes: &[Home], grant: &Grant) -> Result<ReadStream, AllocError>
+    requires { IsPlaced homes.now grant.now }
     ensures { IfOk result (λ s. s ≡ read_stream homes.now grant.now) }
 {
+    let opened = time_of(homes, grant);
     let owner = home_at(homes, grant.owner().place()).name.share()?;
-    let shown = grant.shown()?;
+    let shown = grant.held()?;
     Ok(ReadStream {
         owner,
         shown,
@@ -270,24 +256,6 @@ pub fn own_listed(alloc: Global, streams: &Shelf<Stream>) -> Result<Items<OwnStr
     Ok(all)
 }
 
-// These grants, in order, as a list shows them, behind others. Their times are read first: reads of
-// places all over the memory overlap, while one more holder is counted only once all before it are.
-fn list_block(
-    alloc: Global,
-    homes: &[Home],
-    grants: &[Grant],
-    all: &mut Vec<ReadStream>,
-) -> Result<(), AllocError>
-    requires { AllByRecursion (IsPlaced homes.now) grants.now }
-    ensures { OnOk result (all.new.items ≡ all.old.items ++ map (read_stream homes.now) grants.now) }
-{
-    let times = times_of(alloc, homes, grants)?;
-    for i in 0..grants.len() {
-        all.push(read_stream(homes, &grants[i], times[i])?)?;
-    }
-    Ok(())
-}
-
 /// The streams of these grants, in order, as a list shows them.
 pub fn granted_listed(
     alloc: Global,
@@ -298,11 +266,8 @@ pub fn granted_listed(
     ensures { IfOk result (λ all. all ≡ map (read_stream homes.now) grants.now) }
 {
     let mut all = Vec::with_capacity(alloc, grants.len())?;
-    let mut rest = grants;
-    while !rest.is_empty() {
-        let (block, later) = rest.split_at(rest.len().min(BLOCK));
-        list_block(alloc, homes, block, &mut all)?;
-        rest = later;
+    for grant in grants {
+        all.push(read_stream(homes, grant)?)?;
     }
     Ok(Items::from_vec(all))
 }

@@ -158,6 +158,22 @@ class Server:
         return Ended(self.child.returncode, said, written)
 
 
+def counts_of(server, seconds):
+    """The counts that a server tells in so long, line by line."""
+    source, lines, end = server.child.stderr.fileno(), b"", time.monotonic() + seconds
+    while (left := end - time.monotonic()) > 0:
+        if select.select([source], [], [], left)[0]:
+            lines += os.read(source, 1 << 16)
+    return [json.loads(line) for line in lines.splitlines()]
+
+
+def went_on_and_anew(server):
+    """How many answers went on and how many began anew, by a server that tells its counts each second,
+    since this was asked last."""
+    counts = [it for it in counts_of(server, 1.5) if "sessions" in it]
+    return sum(it["warm"] for it in counts), sum(it["cold"] for it in counts)
+
+
 class Caller:
     """One connection. With a tenant's name it logs in, and the reply has to be right."""
 

@@ -41,8 +41,8 @@ pub fn answer<O: Operator>(
     let pin = Arc::new(alloc, pin)?;
     let evaluated = evaluate(alloc, bench, &pin, None);
     bench.clear(alloc);
-    let (blocks, turns, _) = evaluated?;
-    Ok(Answer::new(pin, Items::from_vec(blocks), turns))
+    let (blocks, turns, went_on, _) = evaluated?;
+    Ok(Answer::new(pin, Items::from_vec(blocks), turns, went_on))
 }
 
 /// The blocks of a pin that asks for no instant.
@@ -54,28 +54,29 @@ pub(crate) fn nothing_asked(alloc: Global, pin: &Pin) -> Vec<Block>
     Runs::new(alloc, pin.from()).finish()
 }
 
-/// The blocks, at how many instants the relation was computed, and what is kept of it for a later
-/// pin. The bench stands for what was kept of an earlier one, if anything was.
+/// The blocks, at how many instants the relation was computed, whether the bench went on, and what is
+/// kept of the relation for a later pin. The bench stands for what was kept of an earlier one, if
+/// anything was.
 pub(crate) fn evaluate<O: Operator>(
     alloc: Global,
     bench: &mut BenchOf<O>,
     pin: &Pin,
     kept: Option<Kept>,
-) -> Result<(Vec<Block>, u64, Option<LastTold>), AllocError>
+) -> Result<(Vec<Block>, u64, bool, Option<LastTold>), AllocError>
     requires bench { IsBench O.seen_in bench.old }
     requires kept { IfSome kept (λ k. StandsBehind k (bench_seen O.seen_in bench.old)) }
     ensures bench { IsBench O.seen_in bench.new }
     ensures answer { IfOk result (λ r. IsAnswer (record { pin = pin.now; blocks = r.0.items; turns = r.1 })) }
-    ensures kept { IfOk result (λ r. IfSome r.2 (λ last. IsKept pin.now last (bench_seen O.seen_in bench.new))) }
+    ensures kept { IfOk result (λ r. IfSome r.3 (λ last. IsKept pin.now last (bench_seen O.seen_in bench.new))) }
 {
     if pin.from() == pin.next() {
-        return Ok((nothing_asked(alloc, pin), 0, None));
+        return Ok((nothing_asked(alloc, pin), 0, false, None));
     }
     let mut runs = Runs::new(alloc, pin.from());
     let instants = later_changes(alloc, pin)?;
     let mut left = instants.as_slice();
     let mut rows = Room::new(alloc);
-    let mut shown = begin(
+    let (mut shown, went_on) = begin(
         alloc,
         bench,
         pin,
@@ -100,7 +101,7 @@ pub(crate) fn evaluate<O: Operator>(
         turns += 1;
     }
     let last = remember(alloc, bench, pin, shown);
-    Ok((runs.finish(), turns, last))
+    Ok((runs.finish(), turns, went_on, last))
 }
 
 // The instants from the first one at which a window's content may change, in whatever order.
@@ -233,9 +234,9 @@ fn change<'a, O: Operator>(
     Ok(shown)
 }
 
-// The relation before the first instant that is asked for, which stays up to a later one: the bench
-// goes on where it stands for that relation, and is started anew else. At the base there is none,
-// and the base itself comes first.
+// The relation before the first instant that is asked for, which stays up to a later one, and whether
+// the bench goes on: it does where it stands for that relation, and is started anew else. At the base
+// there is none, and the base itself comes first.
 fn begin<'a, O: Operator>(
     alloc: Global,
     bench: &mut BenchOf<O>,
@@ -244,7 +245,7 @@ fn begin<'a, O: Operator>(
     runs: &mut Runs,
     rows: &mut Room,
     until: u64,
-) -> Result<Shown<'a>, AllocError>
+) -> Result<(Shown<'a>, bool), AllocError>
     requires bench { IsBench O.seen_in bench.old }
     requires kept { IfSome kept (λ k. StandsBehind k (bench_seen O.seen_in bench.old)) }
     requires next { runs.old.next ≡ pin.now.from }
@@ -253,21 +254,22 @@ fn begin<'a, O: Operator>(
     requires quiet { IsQuietUntil pin.now (first_change pin.now) until }
     requires stand { StandFor (output_at pin.now) pin.now.from runs.old }
     ensures bench { IsBench O.seen_in bench.new }
-    ensures shown { IfOk result (λ s. IsShown pin.now until s.walks.items s.last (bench_seen O.seen_in bench.new)) }
+    ensures shown { IfOk result (λ r. IsShown pin.now until r.0.walks.items r.0.last (bench_seen O.seen_in bench.new)) }
     ensures next { OnOk result (runs.new.next ≡ until) }
     ensures stand { OnOk result (StandFor (output_at pin.now) pin.now.from runs.new) }
 {
     if let Some(kept) = kept {
         if let Some(resumed) = resume(alloc, pin, kept)? {
             hold(alloc, pin, &resumed.last, runs, until)?;
-            return Ok(resumed);
+            return Ok((resumed, true));
         }
     }
     let shown = nothing_shown(alloc, bench, pin)?;
     if pin.base() < pin.from() {
         let shown = open(alloc, bench, pin, shown, pin.from())?;
         hold(alloc, pin, &shown.last, runs, until)?;
-        return Ok(shown);
+        return Ok((shown, false));
     }
-    change(alloc, bench, pin, shown, runs, rows, until)
+    let shown = change(alloc, bench, pin, shown, runs, rows, until)?;
+    Ok((shown, false))
 }

@@ -201,15 +201,15 @@ impl<O: Operator> Warm<O> {
         let pin = Arc::new(alloc, pin)?;
         if pin.from() == pin.next() {
             let blocks = nothing_asked(alloc, &pin);
-            return Ok(Answer::new(pin, Items::from_vec(blocks), 0));
+            return Ok(Answer::new(pin, Items::from_vec(blocks), 0, false));
         }
         let kept = self.kept.take();
         let before = if kept.is_some() { self.pushed } else { 0 };
         self.pushed = before.saturating_add(pin.rows_to_push(kept.is_some()));
         match evaluate(alloc, &mut self.bench, &pin, kept) {
-            Ok((blocks, turns, last)) => {
+            Ok((blocks, turns, went_on, last)) => {
                 self.keep(alloc, &pin, last);
-                Ok(Answer::new(pin, Items::from_vec(blocks), turns))
+                Ok(Answer::new(pin, Items::from_vec(blocks), turns, went_on))
             }
             Err(AllocError) => {
                 self.keep(alloc, &pin, None);

@@ -12,9 +12,10 @@ const NUMBERS: usize = 100;
 
 /// Counts what a server does, and tells it on standard error, lines of JSON: each login, each login
 /// that was refused and each session that has ended, as it comes; and every so many seconds how many
-/// sessions are open and fetches under way, what was called and refused since the line before, and
-/// of these calls the longest time that one had the lock and that a fetch took, in microseconds. Of
-/// tenants it tells their names, and nothing of what they send or are told.
+/// sessions are open and fetches under way, what was called and refused since the line before, how
+/// many answers went on or began anew, and of these calls the longest time that one had the lock and
+/// that a fetch took, in microseconds. Of tenants it tells their names, and nothing of what they send
+/// or are told.
 pub struct Watch<'a, R> {
     rt: &'a R,
     alloc: Global,
@@ -28,6 +29,9 @@ pub struct Watch<'a, R> {
     sessions: AtomicU64,
     fetches: AtomicU64,
     fetching: AtomicU64,
+    // Answers by benches that went on, and by others.
+    warm: AtomicU64,
+    cold: AtomicU64,
     // When the call under the lock entered, and the longest such time, in nanoseconds.
     entered: AtomicU64,
     longest_lock: AtomicU64,
@@ -50,6 +54,8 @@ impl<'a, R> Drop for Watch<'a, R> {
             sessions: _,
             fetches: _,
             fetching: _,
+            warm: _,
+            cold: _,
             entered: _,
             longest_lock: _,
             longest_fetch: _,
@@ -124,6 +130,8 @@ impl<'a, R: Clock + Eprint> Watch<'a, R> {
             sessions: AtomicU64::new(0),
             fetches: AtomicU64::new(0),
             fetching: AtomicU64::new(0),
+            warm: AtomicU64::new(0),
+            cold: AtomicU64::new(0),
             entered: AtomicU64::new(0),
             longest_lock: AtomicU64::new(0),
             longest_fetch: AtomicU64::new(0),
@@ -169,6 +177,12 @@ impl<'a, R: Clock + Eprint> Watch<'a, R> {
         lengthen(&self.longest_fetch, self.now().saturating_sub(begun));
     }
 
+    // An answer was computed, by a bench that went on or by another.
+    fn computed(&self, went_on: bool) {
+        let count = if went_on { &self.warm } else { &self.cold };
+        count.fetch_add(1, Ordering::SeqCst);
+    }
+
     fn logged_in(&self, tenant: TenantId) {
         let name = self.named(Some(tenant));
         let _ = eprintln!(self.rt; "{{\"login\":{name}}}");
@@ -205,12 +219,14 @@ impl<'a, R: Clock + Eprint> Watch<'a, R> {
         let sessions = self.sessions.load(Ordering::SeqCst);
         let fetches = self.fetches.swap(0, Ordering::SeqCst);
         let fetching = self.fetching.load(Ordering::SeqCst);
+        let warm = self.warm.swap(0, Ordering::SeqCst);
+        let cold = self.cold.swap(0, Ordering::SeqCst);
         let lock = self.longest_lock.swap(0, Ordering::SeqCst) / 1000;
         let answer = self.longest_fetch.swap(0, Ordering::SeqCst) / 1000;
         let (calls, commands) = commands_of(self.alloc, self.kinds.as_slice())?;
         let refused = refusals_of(self.alloc, self.refusals.as_slice())?;
         format!(in self.alloc;
-            "{{\"sessions\":{sessions},\"calls\":{calls},\"fetches\":{fetches},\"fetching\":{fetching},\"lock_us\":{lock},\"answer_us\":{answer},\"commands\":{{{commands}}},\"refused\":{{{refused}}}}}"
+            "{{\"sessions\":{sessions},\"calls\":{calls},\"fetches\":{fetches},\"fetching\":{fetching},\"warm\":{warm},\"cold\":{cold},\"lock_us\":{lock},\"answer_us\":{answer},\"commands\":{{{commands}}},\"refused\":{{{refused}}}}}"
         )
     }
 }
@@ -283,6 +299,7 @@ impl<'a, R: Clock + Eprint + Sync> Gate for Watch<'a, R> {
             }
             Point::Answered => {}
             Point::Fetched(begun) => self.fetched(begun),
+            Point::Computed(went_on) => self.computed(went_on),
             Point::Refused(number) => count_at(self.refusals.as_slice(), number as usize),
             Point::Second => self.second(),
         }

@@ -187,7 +187,10 @@ fn tell<G: Gate>(gate: &G, kind: Kind, begun: u64, reply: &Reply) {
     if kind == Kind::Fetch {
         gate.at(Point::Fetched(begun));
     }
-    if let Reply::Refused(refusal) = reply {
-        gate.at(Point::Refused(refusal.number()));
+    match reply {
+        // Where no instant is asked for no bench began.
+        Reply::Blocks(answer) if answer.turns() > 0 => gate.at(Point::Computed(answer.went_on())),
+        Reply::Refused(refusal) => gate.at(Point::Refused(refusal.number())),
+        _ => {}
     }
 }

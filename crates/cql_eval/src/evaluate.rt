@@ -259,7 +259,7 @@ fn begin<'a, O: Operator>(
     ensures stand { OnOk result (StandFor (output_at pin.now) pin.now.from runs.new) }
 {
     if let Some(kept) = kept {
-        if let Some(resumed) = resume(alloc, pin, kept)? {
+        if let Some(resumed) = resume(alloc, bench, pin, kept)? {
             hold(alloc, pin, &resumed.last, runs, until)?;
             return Ok((resumed, true));
         }

@@ -105,7 +105,9 @@ impl Pin {
     }
 
     // Whether a cursor is from the first instant on, up to behind the last.
-    pub(crate) fn has(&self, cursor: u64) -> bool {
+    pub(crate) fn has(&self, cursor: u64) -> bool
+        ensures { IsTrue result → cursor ≤ self.now.next }
+    {
         self.from <= cursor && cursor <= self.next
     }
 

@@ -1,5 +1,5 @@
 // What is shown of a pin.
-ghost use Rattle.std.specs.Prelude.{◌≡◌, ◌≢◌, ◌≤◌, ◌<◌, ℕ, IfOk};
+ghost use Rattle.std.specs.Prelude.{◌≡◌, ◌≢◌, ◌≤◌, ◌<◌, ℕ, IfOk, OnOk};
 ghost use Rattle.std.specs.List.Sorted.{IsSorted};
 ghost use Rattle.cql_value.specs.Order.{row_cmp};
 ghost use Rattle.cql_bag.specs.Bag.{Counts, IsBag, bag_of};
@@ -10,8 +10,9 @@ ghost use Rattle.cql_out.specs.declared.relation.Relation.{Relation as relation}
 ghost use Rattle.cql_out.specs.declared.relation.Relation.TheVariants.{Bag as bag};
 ghost use Rattle.cql_out.specs.ByKind.{output_of, output_of_bags};
 ghost use Rattle.cql_plan.specs.declared.plan.OutputKind.TheVariants.{Rstream};
-ghost use Rattle.cql_eval.specs.Relation.{relation_at};
-ghost use Rattle.cql_eval.specs.Shown.{StandsFor, LeadsTo, Tells, IsReady, IsShown};
+ghost use Rattle.cql_eval.specs.Relation.{bags_at, relation_at};
+ghost use Rattle.cql_eval.specs.Seen.{windows_seen};
+ghost use Rattle.cql_eval.specs.Shown.{StandsFor, LeadsTo, Tells, bags_held, IsReady, IsShown};
 
 use crate::bags::{Room, add_rows, parted, take_rows};
 use crate::pin::Pin;
@@ -231,8 +232,8 @@ fn tell(
     }
 }
 
-// What is kept after a bench answered, where nothing is told.
-fn keep(
+/// What is kept after a bench answered, where nothing is told.
+pub(crate) fn keep(
     alloc: Global,
     kind: OutputKind,
     last: LastTold,
@@ -250,8 +251,35 @@ fn keep(
     }
 }
 
-// Goes on to a cursor with every walk, and asks the bench what it tells there. Where a fault left an
-// operator spent the bench is started anew, over what the walks hold.
+/// Asks the bench what it tells at a cursor that the walks have reached. Where a fault left an operator
+/// spent the bench is started anew, over what the walks hold.
+pub(crate) fn ask<O: Operator>(
+    alloc: Global,
+    bench: &mut BenchOf<O>,
+    pin: &Pin,
+    walks: &[SeenWalk<'_>],
+    cursor: u64,
+) -> Result<Outcome, AllocError>
+    requires bench { IsBench O.seen_in bench.old }
+    requires based { pin.now.base < cursor }
+    requires ready { IsReady pin.now cursor walks.now (bench_seen O.seen_in bench.old) }
+    requires bags { bags_held walks.now ≡ bags_at cursor (windows_seen pin.now) }
+    ensures bench { IsBench O.seen_in bench.new }
+    ensures ready { OnOk result (IsReady pin.now cursor walks.now (bench_seen O.seen_in bench.new)) }
+    ensures leads { IfOk result (λ r. LeadsTo r (told_of pin.now.plan (bench_seen O.seen_in bench.old)) (told_of pin.now.plan (bench_seen O.seen_in bench.new)) (relation_at pin.now cursor)) }
+{
+    let outcome = bench.emit(alloc, pin.plan(), pin.limit())?;
+    match outcome {
+        Outcome::Changed(changes) => Ok(Outcome::Changed(changes)),
+        Outcome::Held(fault) => Ok(Outcome::Held(fault)),
+        Outcome::Faulty(fault) => {
+            restart(alloc, bench, pin, walks)?;
+            Ok(Outcome::Faulty(fault))
+        }
+    }
+}
+
+// Goes on to a cursor with every walk, and asks the bench what it tells there.
 fn reach<'a, O: Operator>(
     alloc: Global,
     bench: &mut BenchOf<O>,
@@ -267,15 +295,8 @@ fn reach<'a, O: Operator>(
     ensures leads { IfOk result (λ r. LeadsTo r.1 (told_of pin.now.plan (bench_seen O.seen_in bench.old)) (told_of pin.now.plan (bench_seen O.seen_in bench.new)) (relation_at pin.now cursor)) }
 {
     let walks = advance(alloc, bench, pin, walks, cursor)?;
-    let outcome = bench.emit(alloc, pin.plan(), pin.limit())?;
-    match outcome {
-        Outcome::Changed(changes) => Ok((walks, Outcome::Changed(changes))),
-        Outcome::Held(fault) => Ok((walks, Outcome::Held(fault))),
-        Outcome::Faulty(fault) => {
-            restart(alloc, bench, pin, &walks)?;
-            Ok((walks, Outcome::Faulty(fault)))
-        }
-    }
+    let outcome = ask(alloc, bench, pin, &walks, cursor)?;
+    Ok((walks, outcome))
 }
 
 /// What is shown at a later cursor, where nothing is told: the opening of an answer.

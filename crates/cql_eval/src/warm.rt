@@ -4,14 +4,14 @@ ghost use Rattle.std.specs.Arc.{arc_value};
 ghost use Rattle.cql_ops.specs.Bench.{BenchSeen, IsBench, bench_seen};
 ghost use Rattle.cql_eval.specs.Seen.{reached, windows_seen};
 ghost use Rattle.cql_eval.specs.Shown.{bags_held, IsShown};
-ghost use Rattle.cql_eval.specs.Warm.{IsKept, StandsBehind, IsWarm};
+ghost use Rattle.cql_eval.specs.Warm.{IsKept, StandsBehind, Meets, IsWarm};
 
 use crate::answered::Answer;
 use crate::evaluate::{evaluate, nothing_asked};
 use crate::pin::Pin;
 use crate::seen_walk::SeenWalk;
-use crate::shown::{LastTold, Shown};
-use crate::walks::advance;
+use crate::shown::{LastTold, Shown, ask, keep};
+use crate::walks::{advance, retreat};
 use cql_ops::{BenchOf, Cancellation, Operator};
 use cql_value::Items;
 use std::alloc::{AllocError, Global};
@@ -62,6 +62,15 @@ impl Kept {
         ensures { result.now ≡ self.now.pin }
     {
         &self.pin
+    }
+
+    // How many times at most rows come or leave as a bench is taken back to where a pin begins.
+    fn rows_back(&self, pin: &Pin) -> usize {
+        if pin.from() < self.pin.next() {
+            self.pin.rows_to_push(true)
+        } else {
+            0
+        }
     }
 
     fn into_last(self) -> LastTold
@@ -204,7 +213,10 @@ impl<O: Operator> Warm<O> {
             return Ok(Answer::new(pin, Items::from_vec(blocks), 0, false));
         }
         let kept = self.kept.take();
-        let before = if kept.is_some() { self.pushed } else { 0 };
+        let before = match &kept {
+            Some(kept) => self.pushed.saturating_add(kept.rows_back(&pin)),
+            None => 0,
+        };
         self.pushed = before.saturating_add(pin.rows_to_push(kept.is_some()));
         match evaluate(alloc, &mut self.bench, &pin, kept) {
             Ok((blocks, turns, went_on, last)) => {
@@ -240,7 +252,11 @@ fn kept_of(pin: &Arc<Pin>, last: Option<LastTold>, pushed: usize) -> Option<Kept
 }
 
 // A walk over each window, at a cursor.
-fn walks_at<'a>(alloc: Global, pin: &'a Pin, cursor: u64) -> Result<Vec<SeenWalk<'a>>, AllocError>
+pub(crate) fn walks_at<'a>(
+    alloc: Global,
+    pin: &'a Pin,
+    cursor: u64,
+) -> Result<Vec<SeenWalk<'a>>, AllocError>
     ensures { IfOk result (λ v. v.items ≡ map (reached cursor) (windows_seen pin.now)) }
 {
     let inputs = pin.plan().inputs();
@@ -284,21 +300,23 @@ fn seem_same(alloc: Global, pin: &Pin, kept: &Kept, cursor: u64) -> Result<bool,
     )
 }
 
-// The walks over a pin at its first cursor, where it goes on where the kept one ended.
+// The walks over a pin at its first cursor, where the kept one holds the same there, on its way or at
+// its end.
 fn walks_from<'a>(
     alloc: Global,
     pin: &'a Pin,
     kept: &Kept,
 ) -> Result<Option<Vec<SeenWalk<'a>>>, AllocError>
-    ensures based { IfOk result (λ r. IfSome r (λ walks. pin.now.base < pin.now.from)) }
-    ensures shown { IfOk result (λ r. IfSome r (λ walks. (o : BenchSeen) → StandsBehind kept.now o → IsShown pin.now pin.now.from walks.items kept.now.last o)) }
+    ensures meets { IfOk result (λ r. IfSome r (λ walks. Meets kept.now pin.now)) }
+    ensures walks { IfOk result (λ r. IfSome r (λ walks. walks.items ≡ map (reached pin.now.from) (windows_seen pin.now))) }
 {
     let before = kept.pin();
-    if pin.from() <= pin.base() || !before.has_plan_of(pin) {
+    let begins = pin.from();
+    if begins <= pin.base() || !before.has(begins) || !before.has_plan_of(pin) {
         return Ok(None);
     }
-    let held = walks_at(alloc, before, before.next())?;
-    let walks = walks_at(alloc, pin, pin.from())?;
+    let held = walks_at(alloc, before, begins)?;
+    let walks = walks_at(alloc, pin, begins)?;
     if are_held_same(&held, &walks) {
         Ok(Some(walks))
     } else {
@@ -306,23 +324,52 @@ fn walks_from<'a>(
     }
 }
 
-/// What is shown of a pin before the first instant that is asked for, where it goes on where the
-/// kept one ended: the bench has told that.
-pub(crate) fn resume<'a>(
+// What is kept of the relation before a pin's first instant, on the way of the kept one: the bench is
+// taken back there from that one's end.
+fn go_back<O: Operator>(
     alloc: Global,
+    bench: &mut BenchOf<O>,
+    pin: &Pin,
+    walks: &[SeenWalk<'_>],
+    kept: Kept,
+) -> Result<LastTold, AllocError>
+    requires bench { IsBench O.seen_in bench.old }
+    requires kept { StandsBehind kept (bench_seen O.seen_in bench.old) }
+    requires meets { Meets kept pin.now }
+    requires walks { walks.now ≡ map (reached pin.now.from) (windows_seen pin.now) }
+    ensures bench { IsBench O.seen_in bench.new }
+    ensures shown { IfOk result (λ last. IsShown pin.now pin.now.from walks.now last (bench_seen O.seen_in bench.new)) }
+{
+    let _ = pin.windows();
+    let begins = pin.from();
+    let before = kept.pin();
+    if begins == before.next() {
+        return Ok(kept.into_last());
+    }
+    retreat(alloc, bench, before, begins)?;
+    let outcome = ask(alloc, bench, pin, walks, begins)?;
+    keep(alloc, pin.plan().output(), kept.into_last(), outcome)
+}
+
+/// What is shown of a pin before the first instant that is asked for, where the bench stands for an
+/// earlier pin that holds the same there, on its way or at its end.
+pub(crate) fn resume<'a, O: Operator>(
+    alloc: Global,
+    bench: &mut BenchOf<O>,
     pin: &'a Pin,
     kept: Kept,
 ) -> Result<Option<Shown<'a>>, AllocError>
+    requires bench { IsBench O.seen_in bench.old }
+    requires kept { StandsBehind kept (bench_seen O.seen_in bench.old) }
+    ensures bench { IsBench O.seen_in bench.new }
     ensures based { IfOk result (λ r. IfSome r (λ s. pin.now.base < pin.now.from)) }
-    ensures shown { IfOk result (λ r. IfSome r (λ s. (o : BenchSeen) → StandsBehind kept o → IsShown pin.now pin.now.from s.walks.items s.last o)) }
+    ensures shown { IfOk result (λ r. IfSome r (λ s. IsShown pin.now pin.now.from s.walks.items s.last (bench_seen O.seen_in bench.new))) }
 {
-    match walks_from(alloc, pin, &kept)? {
-        Some(walks) => Ok(Some(Shown {
-            walks,
-            last: kept.into_last(),
-        })),
-        None => Ok(None),
-    }
+    let Some(walks) = walks_from(alloc, pin, &kept)? else {
+        return Ok(None);
+    };
+    let last = go_back(alloc, bench, pin, &walks, kept)?;
+    Ok(Some(Shown { walks, last }))
 }
 
 /// What is kept of the relation, once all instants of a pin were gone through: the walks go on to

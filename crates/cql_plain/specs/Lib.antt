@@ -5,6 +5,7 @@ pub mod Joining
 pub mod JoinRows
 pub mod LastPort
 pub mod Grouping
+pub mod Adding
 pub mod Made
 pub mod Shaped
 pub mod Plain

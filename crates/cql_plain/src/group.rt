@@ -1,10 +1,14 @@
 // The items of a shape on the groups of a bag.
 ghost use Rattle.std.specs.Prelude.{◌≡◌, ◌≤◌, [], ◌∷◌, length, None, IfOk, IsTrue, OnOk};
-ghost use Rattle.std.specs.Option.{option_copied, option_map};
+ghost use Rattle.std.specs.Option.{option_copied, option_map, unwrap_or};
+ghost use Rattle.std.specs.Map.{lookup};
+ghost use Rattle.std.specs.BTreeMap.{is_at, insert_entry};
+ghost use Rattle.cql_value.specs.Order.{row_cmp};
 ghost use Rattle.cql_algebra.specs.Shape.{best_from, item_over, items_over, key_of, is_first};
 ghost use Rattle.cql_bag.specs.Bag.{Counts, IsBag, put_all};
 ghost use Rattle.cql_bag.specs.Law.{ArePositive};
-ghost use Rattle.cql_plain.specs.Grouping.{gather, groups_by, entries_from, IsSameMade};
+ghost use Rattle.cql_plain.specs.Adding.{TakesRun, TakesGroup};
+ghost use Rattle.cql_plain.specs.Grouping.{groups_by, entries_from};
 
 use crate::sum::sum_of;
 use cql_bag::Bag;
@@ -62,10 +66,7 @@ fn take_run<'a>(
 ) -> Result<Option<(&'a Row, &'a u64)>, AllocError>
     requires bag { IsBag left.old }
     requires some { ArePositive run.old.items }
-    ensures made { IfOk result (λ next. (group : Counts) → IsSameMade (key_of columns.now) key.now left.old (put_all run.old.items group) (entries_from (option_map (λ e. (e.0.now, e.1.now)) next) left.new) (put_all run.new.items group)) }
-    ensures some { OnOk result (ArePositive run.new.items) }
-    ensures bag { IfOk result (λ next. IsBag (entries_from (option_map (λ e. (e.0.now, e.1.now)) next) left.new)) }
-    ensures fewer { IfOk result (λ next. length (entries_from (option_map (λ e. (e.0.now, e.1.now)) next) left.new) ≤ length left.old) }
+    ensures { IfOk result (λ next. TakesRun (key_of columns.now) key.now left.old run.old.items (entries_from (option_map (λ e. (e.0.now, e.1.now)) next) left.new) run.new.items) }
 {
     while let Some((row, times)) = left.next() {
         if !has_key(columns, row.values(), key) {
@@ -93,6 +94,20 @@ fn put_run(run: Vec<(Row, u64)>, group: &mut Bag) -> Result<(), AllocError>
     Ok(())
 }
 
+// The rows put into the group of the key.
+fn put_group(
+    alloc: Global,
+    key: Row,
+    run: Vec<(Row, u64)>,
+    groups: &mut BTreeMap<Row, Bag>,
+) -> Result<(), AllocError>
+    requires { ArePositive run.items }
+    ensures { OnOk result (groups.new.entries ≡ insert_entry row_cmp groups.old.entries key (put_all run.items (unwrap_or (lookup (is_at (row_cmp key)) groups.old.entries) []))) }
+{
+    let group = groups.entry(key)?.or_insert(Bag::new(alloc));
+    put_run(run, group)
+}
+
 // A run of this row alone.
 fn run_of(alloc: Global, row: &Row, times: u64) -> Result<Vec<(Row, u64)>, AllocError>
     ensures { IfOk result (λ run. run.items ≡ (row.now, times) ∷ []) }
@@ -115,15 +130,12 @@ fn put_in_group<'a>(
 ) -> Result<Option<(&'a Row, &'a u64)>, AllocError>
     requires some { 1 ≤ times }
     requires bag { IsBag left.old }
-    ensures made { IfOk result (λ next. gather (key_of columns.now) ((row.now, times) ∷ left.old) groups.old.entries ≡ gather (key_of columns.now) (entries_from (option_map (λ e. (e.0.now, e.1.now)) next) left.new) groups.new.entries) }
-    ensures bag { IfOk result (λ next. IsBag (entries_from (option_map (λ e. (e.0.now, e.1.now)) next) left.new)) }
-    ensures fewer { IfOk result (λ next. length (entries_from (option_map (λ e. (e.0.now, e.1.now)) next) left.new) ≤ length left.old) }
+    ensures { IfOk result (λ next. TakesGroup (key_of columns.now) (row.now, times) left.old groups.old.entries (entries_from (option_map (λ e. (e.0.now, e.1.now)) next) left.new) groups.new.entries) }
 {
     let key = key(alloc, columns, row.values())?;
     let mut run = run_of(alloc, row, times)?;
     let next = take_run(alloc, columns, key.values(), left, &mut run, meter)?;
-    let group = groups.entry(key)?.or_insert(Bag::new(alloc));
-    put_run(run, group)?;
+    put_group(alloc, key, run, groups)?;
     Ok(next)
 }
 

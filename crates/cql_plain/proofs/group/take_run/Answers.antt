@@ -33,20 +33,8 @@ loop-row-preserved c =
 pub loop-row-smaller : goal.loop-row-smaller
 loop-row-smaller c = grind (arith, common_steps)
 
-pub returns-clause-made : goal.returns-clause-made
-returns-clause-made c = grind (arith, common_steps)
+pub returns : goal.returns
+returns c = record { made = grind (arith, common_steps); some = grind (arith, common_steps); bag = grind (arith, common_steps); fewer = grind (arith, common_steps) }
 
-pub returns-clause-some : goal.returns-clause-some
-returns-clause-some c = grind (arith, common_steps)
-
-pub returns-then-not-has_key-clause-bag : goal.returns-then-not-has_key-clause-bag
-returns-then-not-has_key-clause-bag c = grind (arith, common_steps)
-
-pub returns-then-not-has_key-clause-fewer : goal.returns-then-not-has_key-clause-fewer
-returns-then-not-has_key-clause-fewer c = grind (arith, common_steps)
-
-pub returns-then-not-has_key-clause-made : goal.returns-then-not-has_key-clause-made
-returns-then-not-has_key-clause-made c = grind (arith, common_steps)
-
-pub returns-then-not-has_key-clause-some : goal.returns-then-not-has_key-clause-some
-returns-then-not-has_key-clause-some c = grind (arith, common_steps)
+pub returns-then-not-has_key : goal.returns-then-not-has_key
+returns-then-not-has_key c = record { made = grind (arith, common_steps); some = grind (arith, common_steps); bag = grind (arith, common_steps); fewer = grind (arith, common_steps) }

@@ -446,14 +446,6 @@ changed_none asked c key es now left more old_count new_count g new none is_new 
   counted = counts;
 }
 
-pub on_ok_both : {X E : Type 0} (r : Result X E) (P Q T : Type 0) → (P → Q → T) → OnOk r P → OnOk r Q → OnOk r T
-on_ok_both (Ok x) P Q T f p q = f p q
-on_ok_both (Err e) P Q T f p q = tt
-
-pub on_ok_all : {X E : Type 0} (r : Result X E) (P Q R T : Type 0) → (P → Q → R → T) → OnOk r P → OnOk r Q → OnOk r R → OnOk r T
-on_ok_all (Ok x) P Q R T f p q s = f p q s
-on_ok_all (Err e) P Q R T f p q s = tt
-
 -- whether the group that was taken lacks a value
 taken_lacks : (layout : Layout) (left : List Row) (key row : Row) (rows : Counts) (o : Option Group) (g : Group) → IsHeldAt layout left key rows o → IsTaken layout.asked row o g → one_if g.lacks ≡ times_lacking layout.shape.items rows
 taken_lacks layout left key row rows None g none new = ap one_if new.lacks ∙ sym (ap (times_lacking layout.shape.items) none)

@@ -136,3 +136,27 @@ pub record AreTold (shape : Shape) (told after : Counts) (changes : List Change)
 -- a list grew by such changes
 abbrev pub TellsGroups : Shape → Counts → Counts → List Change → List Change → Type 0
 TellsGroups shape told after before out = (changes : List Change) × (out ≡ before ++ changes) × AreTold shape told after changes
+
+-- a group after one of its rows came or went: its key waits, and so many lack a value
+abbrev pub IsChangedOne : Change → List Value → Group → Group → List (List Value) → List (List Value) → ℕ → ℕ → Type 0
+IsChangedOne c key old new left more before after = record {
+  group : IsChangedGroup c (record old { pushed = true }) new;
+  touched : more ≡ (if old.pushed then left else left ++ key ∷ []);
+  lacking : after + one_if old.lacks ≡ before + one_if new.lacks;
+}
+
+-- the port is this, and what is kept beside it is of it; nothing more is told
+abbrev pub IsPushed : Layout → Counts → Counts → Counts → List (List Value × Group) → List (List Value) → ℕ → Type 0
+IsPushed l after before now groups left many = record {
+  port : now ≡ after;
+  told : told_of groups ≡ before;
+  held : IsGrouping l now (told_of groups) groups left;
+  lacking : many ≡ lacking_groups l.shape now;
+}
+
+-- the group of a key is told, and waits no more
+abbrev pub IsToldOf : Layout → Counts → List (List Value × Group) → List (List Value × Group) → List (List Value) → List Change → List Change → Type 0
+IsToldOf l port old new left before out = record {
+  groups : IsGrouping l port (told_of new) new left;
+  told : TellsGroups l.shape (told_of old) (told_of new) before out;
+}

@@ -4,7 +4,7 @@ ghost use Rattle.cql_bag.specs.Changes.{changed, change_of, CanChange, Grows};
 ghost use Rattle.std.specs.BTreeMap.{insert_entry, Updates};
 ghost use Rattle.cql_value.specs.Order.{row_cmp};
 ghost use Rattle.cql_value.specs.Schema.{HasTypes};
-ghost use Rattle.cql_groups.specs.Grouped.{IsNew, at_key, IsChangedGroup, CanChangeAt, IsChangedAt, IsDue, IsLacking, IsGrouping, IsSettled, lacking_groups, one_if, TellsGroups, told_of};
+ghost use Rattle.cql_groups.specs.Grouped.{IsNew, at_key, IsChangedGroup, CanChangeAt, IsChangedAt, IsDue, IsLacking, IsChangedOne, IsGrouping, IsPushed, IsSettled, IsToldOf, lacking_groups, one_if, TellsGroups, told_of};
 ghost use Rattle.cql_groups.specs.GroupLaws.{Laws};
 ghost use Rattle.cql_ops.specs.Linear.{with_change};
 ghost use Rattle.cql_ops.specs.declared.error.OpError.TheVariants.{NoMemory, Overflow};
@@ -177,8 +177,7 @@ fn put_group(
     group: Group,
     groups: &mut BTreeMap<Row, Group>,
 ) -> Result<(), AllocError>
-    ensures entries { OnOk result (groups.new.entries ≡ insert_entry row_cmp groups.old.entries key.now group) }
-    ensures updates { OnOk result (Updates row_cmp groups.old groups.new key.now (Some group)) }
+    ensures { OnOk result ((groups.new.entries ≡ insert_entry row_cmp groups.old.entries key.now group) × Updates row_cmp groups.old groups.new key.now (Some group)) }
 {
     groups.insert(key.try_clone(alloc)?, group)?;
     Ok(())
@@ -191,8 +190,7 @@ fn mark(
     group: &mut Group,
     touched: &mut Vec<Row>,
 ) -> Result<(), AllocError>
-    ensures group { OnOk result (group.new ≡ record group.old { pushed = true }) }
-    ensures touched { OnOk result (touched.new.items ≡ (if group.old.pushed then touched.old.items else touched.old.items ++ key.now ∷ [])) }
+    ensures { OnOk result ((group.new ≡ record group.old { pushed = true }) × (touched.new.items ≡ (if group.old.pushed then touched.old.items else touched.old.items ++ key.now ∷ []))) }
 {
     if !group.pushed {
         touched.push(key.try_clone(alloc)?)?;
@@ -225,9 +223,7 @@ fn change_group(
     requires few { group.old.size < 2 ^ 63 }
     requires some { change.now.plus ≡ false → 1 ≤ group.old.size }
     requires among { group.old.lacks ≡ true → 1 ≤ lacking.old }
-    ensures group { OnOk result (IsChangedGroup change.now (record group.old { pushed = true }) group.new) }
-    ensures touched { OnOk result (touched.new.items ≡ (if group.old.pushed then touched.old.items else touched.old.items ++ key.now ∷ [])) }
-    ensures lacking { OnOk result (lacking.new + one_if group.old.lacks ≡ lacking.old + one_if group.new.lacks) }
+    ensures { OnOk result (IsChangedOne change.now key.now group.old group.new touched.old.items touched.new.items lacking.old lacking.new) }
 {
     mark(alloc, key, group, touched)?;
     let lacked = group.lacks;
@@ -273,10 +269,7 @@ pub(crate) fn push_row(
     requires lacking { lacking.old ≡ lacking_groups layout.now.shape port.old }
     requires types { HasTypes layout.now.shape.columns change.now.row }
     requires there { CanChange change.now port.old }
-    ensures port { OnOk result (port.new ≡ changed change.now port.old) }
-    ensures told { OnOk result (told_of groups.new.entries ≡ told_of groups.old.entries) }
-    ensures held { OnOk result (IsGrouping layout.now port.new (told_of groups.new.entries) groups.new.entries touched.new.items) }
-    ensures lacking { OnOk result (lacking.new ≡ lacking_groups layout.now.shape port.new) }
+    ensures { OnOk result (IsPushed layout.now (changed change.now port.old) (told_of groups.old.entries) port.new groups.new.entries touched.new.items lacking.new) }
 {
     group_laws();
     let key = key(alloc, layout.shape.groups.as_slice(), change.row.values())?;
@@ -301,8 +294,7 @@ fn settle_group(
     out: &mut Vec<Change>,
 ) -> Result<bool, OpError>
     requires { group.old.size < 2 ^ 63 }
-    ensures settled { IfOk result (IsSettled sources.now group.old group.new) }
-    ensures out { OnOk result (out.new.items ≡ (out.old.items ++ with_change false group.old.told []) ++ with_change true group.new.told []) }
+    ensures settled { IfOk result (λ some. IsSettled sources.now group.old group.new some × (out.new.items ≡ (out.old.items ++ with_change false group.old.told []) ++ with_change true group.new.told [])) }
     ensures kept { OnErr result (Grows out.old.items out.new.items) }
     ensures err { IfErr result (λ e. (e ≡ NoMemory) ⊎ ((e ≡ Overflow) × IsLacking sources.now group.old)) }
 {
@@ -327,8 +319,7 @@ fn settle_key(
     out: &mut Vec<Change>,
 ) -> Result<(), OpError>
     requires { IsGrouping layout.now port.now (told_of groups.old.entries) groups.old.entries (key.now ∷ rest.now) }
-    ensures groups { OnOk result (IsGrouping layout.now port.now (told_of groups.new.entries) groups.new.entries rest.now) }
-    ensures told { OnOk result (TellsGroups layout.now.shape (told_of groups.old.entries) (told_of groups.new.entries) out.old.items out.new.items) }
+    ensures told { OnOk result (IsToldOf layout.now port.now groups.old.entries groups.new.entries rest.now out.old.items out.new.items) }
     ensures kept { OnErr result (Grows out.old.items out.new.items) }
     ensures err { IfErr result (FailsToShape layout.now.shape port.now) }
 {

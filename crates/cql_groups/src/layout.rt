@@ -96,13 +96,13 @@ impl Layout {
         ensures shape { IfOk result (λ l. l.shape ≡ shape.now) }
         ensures layout { IfOk result IsLayout }
     {
-        let copy = copy_of_shape(alloc, shape)?;
         let mut asked = Vec::new(alloc);
         let mut sources = Vec::new(alloc);
         for item in shape.items.as_slice() {
             let source = source_of(item, &mut asked)?;
             sources.push(source)?;
         }
+        let copy = copy_of_shape(alloc, shape)?;
         Ok(Layout {
             shape: copy,
             asked: Items::from_vec(asked),

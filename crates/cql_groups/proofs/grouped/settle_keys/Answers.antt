@@ -6,8 +6,8 @@ use Rattle.cql_groups.proofs.grouped.settle_keys.Goals as goal
 
 pub loop-key-preserved : goal.loop-key-preserved
 loop-key-preserved c = record {
-  groups = c.in_ok-settle_key.ensures.groups;
-  told = told_both c.args.layout.now.shape (told_of c.args.groups.now.entries) (told_of c.loop-key.groups.entries) (told_of c.settle_key.new.groups.entries) c.args.out.now.items c.loop-key.out.items c.settle_key.new.out.items c.loop-key.invariant.told c.in_ok-settle_key.ensures.told;
+  groups = c.in_ok-settle_key.ensures.told.groups;
+  told = told_both c.args.layout.now.shape (told_of c.args.groups.now.entries) (told_of c.loop-key.groups.entries) (told_of c.settle_key.new.groups.entries) c.args.out.now.items c.loop-key.out.items c.settle_key.new.out.items c.loop-key.invariant.told c.in_ok-settle_key.ensures.told.told;
 }
 
 pub returns-in_err-settle_key-clause-kept : goal.returns-in_err-settle_key-clause-kept

@@ -16,3 +16,7 @@ returns-in_err-item-2 c = grind (arith, common_steps, chain_turn, head_signs)
 pub returns-then-not-sees : goal.returns-then-not-sees
 unfolding items list_of chain_of chain
 returns-then-not-sees c = grind (arith, common_steps, chain_turn, head_signs)
+
+pub loop-turn-init : goal.loop-turn-init
+unfolding items list_of chain_of chain
+loop-turn-init c = grind (arith, chain_turn, head_signs)

@@ -15,3 +15,6 @@ returns-in_err-settle_key-clause-kept c = grind (arith, common_steps)
 
 pub returns-clause-groups : goal.returns-clause-groups
 returns-clause-groups c = grind (arith, common_steps)
+
+pub settle_key-requires : goal.settle_key-requires
+settle_key-requires c = grind (arith, common_steps)

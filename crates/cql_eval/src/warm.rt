@@ -1,4 +1,4 @@
-// A bench that goes on where its last answer ended.
+// A bench that goes on from its last answer.
 ghost use Rattle.std.specs.Prelude.{◌≡◌, ◌<◌, IfOk, IfSome, IsTrue, map};
 ghost use Rattle.std.specs.Arc.{arc_value};
 ghost use Rattle.cql_ops.specs.Bench.{BenchSeen, IsBench, bench_seen};
@@ -81,9 +81,9 @@ impl Kept {
     }
 }
 
-/// A bench that answers pins in turn. Where a pin goes on where the last one ended, that is where
-/// its windows hold at its first cursor what those of the last one held at their end, the bench goes
-/// on too; else it is started anew. `new` makes one that `IsWarm`, and every call keeps that.
+/// A bench that answers pins in turn. Where a pin begins on the last one's way, that is where its
+/// windows hold at its first cursor what those of the last one held there, the bench goes on, taken
+/// back from the last one's end; else it is started anew. `new` makes one that `IsWarm`, and every call keeps that.
 #[derive(Drop)]
 pub struct Warm<O> {
     pub bench: BenchOf<O>,

@@ -11,6 +11,7 @@ use Rattle.cql_connections.specs.contracts.floor.Floor as floor
 use Rattle.cql_connections.specs.contracts.floor.Place as place
 use Rattle.cql_connections.specs.contracts.floor.Turn as turn
 use Rattle.cql_connections.specs.contracts.house.House as house
+use Rattle.cql_connections.specs.contracts.lookout.Lookout as lookout
 use Rattle.cql_connections.specs.contracts.turns.Queues as queues
 use Rattle.cql_connections.specs.contracts.turns.Turns as turns
 
@@ -47,7 +48,13 @@ module _ (T D : RattleType) where
       let p : Unit {0} → IsSend (place.the_row T) = λ u. place_row_send T s in search (sendable, slab.the_send, heap.the_send, frees.the_frees, p) depth 20,
       (
         turns_send (turn.the_row T) (turn_row_send T s),
-        (search (crosses, sendable) depth 30, (search sendable, (let v = Vec-send D e in search (sendable, v) depth 20, (search sendable, (search sendable, tt))))),
+        (
+          search sendable,
+          (
+            search (crosses, sendable) depth 30,
+            (search sendable, (let v = Vec-send D e in search (sendable, v) depth 20, (search sendable, (search sendable, (search sendable, tt))))),
+          ),
+        ),
       ),
     ),
   )
@@ -62,7 +69,16 @@ module _ (T D : RattleType) where
       search sendable,
       (
         let f : Unit {0} → IsSend (floor.the_row T D) = λ u. floor_row_send s e in search (sendable, mutex.the_sync, f) depth 20,
-        (search (crosses, sendable) depth 30, (search (crosses, sendable) depth 30, (search (crosses, sendable) depth 30, (search (crosses, sendable) depth 30, tt)))),
+        (
+          search (crosses, sendable) depth 30,
+          (
+            search (crosses, sendable) depth 30,
+            (
+              let l : Unit {0} → IsSend lookout.the_row = λ u. search (crosses, sendable) depth 40 in search (sendable, mutex.the_sync, l) depth 20,
+              (search (crosses, sendable) depth 30, (search (crosses, sendable) depth 30, (search (crosses, sendable) depth 30, tt))),
+            ),
+          ),
+        ),
       ),
     ),
   )

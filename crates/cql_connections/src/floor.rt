@@ -15,12 +15,15 @@ const MOST_HELD: usize = 64 << 20;
 // How many callers are looked at in a row.
 const AT_ONCE: usize = 4096;
 
+// After so many turns it is looked who has sent, though others wait.
+const TURNS: u32 = 4;
+
 /// A guest whose turn it is, under its key.
 #[derive(Drop)]
 pub struct Turn<T> {
     pub key: usize,
     pub guest: Box<T>,
-    // whether the hub is told what comes
+    // whether it is told of bytes, each time that they come
     pub(crate) is_listed: bool,
 }
 
@@ -53,8 +56,8 @@ impl<T: Connected> Turn<T> {
 }
 
 // A caller who is connected: the guest unless it is at a worker or waits for one, since when it is
-// waited for, what is held for it, whether the hub is told what comes, and whether something came
-// while it wasn't here.
+// waited for, what is held for it, whether it is told of bytes, and whether it was told of something
+// since the guest's last turn began.
 struct Place<T> {
     guest: Option<Box<T>>,
     since: Instant,
@@ -75,17 +78,34 @@ impl<T: Drop> Drop for Place<T> {
     }
 }
 
+/// What a thread is to do next.
+#[derive(Drop)]
+pub(crate) enum Next<T> {
+    /// Give a guest a turn.
+    Turn(Task<Turn<T>>),
+    /// Look who has sent.
+    Look,
+    /// Wait until someone has sent.
+    WatchOut,
+    /// Wait until it is called.
+    Wait,
+}
+
 /// The callers who are connected, and what is left of those who were.
 pub struct Floor<T, D> {
     limits: Limits,
     places: Slab<Place<T>>,
     turns: Turns<Turn<T>>,
+    // how many turns were taken since it was looked who has sent
+    taken: u32,
     // how many bytes are held for each owner
     held: Vec<usize>,
     // where the look round goes on
     looked: usize,
     ends: Vec<D>,
     is_whole: bool,
+    /// Whether a thread looks who has sent.
+    pub(crate) is_looked: bool,
     /// Whether workers are to end.
     pub is_closed: bool,
 }
@@ -96,10 +116,12 @@ impl<T: Drop, D: Drop> Drop for Floor<T, D> {
             limits: _,
             places: _,
             turns: _,
+            taken: _,
             held: _,
             looked: _,
             ends: _,
             is_whole: _,
+            is_looked: _,
             is_closed: _,
         } = self;
     }
@@ -121,10 +143,12 @@ impl<T: Connected<End = D>, D: Drop> Floor<T, D> {
             limits,
             places: Slab::new(alloc),
             turns,
+            taken: 0,
             held,
             looked: 0,
             ends,
             is_whole: true,
+            is_looked: false,
             is_closed: false,
         })
     }
@@ -139,9 +163,41 @@ impl<T: Connected<End = D>, D: Drop> Floor<T, D> {
         self.places.len() >= self.limits.callers as usize
     }
 
-    /// How much waits that a worker could do now.
+    /// How much waits that a worker could do now. To look who has sent is such.
     pub(crate) fn waiting(&self) -> usize {
-        self.turns.waiting()
+        let look = usize::from(!self.is_looked);
+        self.turns.waiting().saturating_add(look)
+    }
+
+    /// Whether something waits that any thread could do now.
+    pub(crate) fn has_more(&self) -> bool {
+        !self.is_looked || self.turns.has_short()
+    }
+
+    /// What is to be done next, by a thread that computes answers or by one that doesn't.
+    pub(crate) fn next(&mut self, computes: bool) -> Next<T> {
+        if self.taken >= TURNS && !self.is_looked {
+            self.begin_look();
+            return Next::Look;
+        }
+        let Some(task) = self.turns.take(computes) else {
+            if self.is_looked {
+                return Next::Wait;
+            }
+            self.begin_look();
+            return Next::WatchOut;
+        };
+        self.taken = self.taken.saturating_add(1);
+        if let Some(place) = self.places.get_mut(task.item.key) {
+            place.is_called = false;
+        }
+        Next::Turn(task)
+    }
+
+    // A thread is to look who has sent.
+    fn begin_look(&mut self) {
+        self.is_looked = true;
+        self.taken = 0;
     }
 
     /// The ends of all sessions; or there was no room for one.
@@ -150,10 +206,12 @@ impl<T: Connected<End = D>, D: Drop> Floor<T, D> {
             limits: _,
             places: _,
             turns: _,
+            taken: _,
             held: _,
             looked: _,
             ends,
             is_whole,
+            is_looked: _,
             is_closed: _,
         } = self;
         if is_whole { Ok(ends) } else { Err(AllocError) }
@@ -226,11 +284,6 @@ impl<T: Connected<End = D>, D: Drop> Floor<T, D> {
     /// A guest waits for a worker who may compute an answer. Without memory it comes back.
     pub(crate) fn push_answer(&mut self, turn: Turn<T>) -> Result<(), Turn<T>> {
         self.turns.push_answer(turn.owner(), turn)
-    }
-
-    /// The next guest whose turn it is, at a thread that computes answers or at one that doesn't.
-    pub(crate) fn take(&mut self, computes: bool) -> Option<Task<Turn<T>>> {
-        self.turns.take(computes)
     }
 
     /// Begins an answer for the owner, if it needn't wait.

@@ -1,6 +1,8 @@
 // What the accepting thread and the workers share.
 
-use crate::floor::{Floor, LATE, Turn};
+use crate::floor::{Floor, LATE, Next, Turn};
+use crate::hub::Wires;
+use crate::lookout::Lookout;
 use crate::turns::Task;
 use cql_hall::{EndReason, Gate, Point};
 use cql_sessions::{Connected, Needs};
@@ -11,7 +13,7 @@ use std::alloc::{AllocError, Global};
 use std::io;
 use std::net::TcpStream;
 use std::sync::atomic::{AtomicUsize, Ordering};
-use std::sync::{Condvar, Mutex, Wait};
+use std::sync::{Condvar, Mutex, MutexGuard, Wait};
 use std::time::{Clock, Instant};
 
 /// The callers who are connected, and what tells of those who send.
@@ -24,7 +26,11 @@ pub struct House<T, D> {
     called: Condvar,
     // how much waits for workers
     waiting: AtomicUsize,
+    // tells who has sent
+    lookout: Mutex<Lookout>,
     registry: Registry,
+    // wakes the thread that looks who has sent
+    bell: Waker,
     // wakes the accepting thread
     waker: Waker,
 }
@@ -37,7 +43,9 @@ impl<T: Drop, D: Drop> Drop for House<T, D> {
             floor: _,
             called: _,
             waiting: _,
+            lookout: _,
             registry: _,
+            bell: _,
             waker: _,
         } = self;
     }
@@ -45,20 +53,22 @@ impl<T: Drop, D: Drop> Drop for House<T, D> {
 
 impl<T: Connected<End = D>, D: Drop> House<T, D> {
     /// Nobody is connected. Calls are kept or aren't.
-    pub fn new(
-        alloc: Global,
-        is_kept: bool,
-        floor: Floor<T, D>,
-        registry: Registry,
-        waker: Waker,
-    ) -> House<T, D> {
+    pub fn new(alloc: Global, is_kept: bool, floor: Floor<T, D>, wires: Wires) -> House<T, D> {
+        let Wires {
+            lookout,
+            registry,
+            bell,
+            waker,
+        } = wires;
         House {
             alloc,
             is_kept,
             floor: Mutex::new(floor),
             called: Condvar::new(),
             waiting: AtomicUsize::new(0),
+            lookout: Mutex::new(lookout),
             registry,
+            bell,
             waker,
         }
     }
@@ -71,7 +81,9 @@ impl<T: Connected<End = D>, D: Drop> House<T, D> {
             floor,
             called: _,
             waiting: _,
+            lookout: _,
             registry: _,
+            bell: _,
             waker: _,
         } = self;
         floor.into_inner().into_ends()
@@ -96,6 +108,7 @@ impl<T: Connected<End = D>, D: Drop> House<T, D> {
     pub fn close<R: Wait>(&self, rt: &R) {
         self.floor.lock(rt).is_closed = true;
         self.called.notify_all();
+        let _ = self.bell.wake();
     }
 
     /// Lets a caller in, and waits for its first bytes.
@@ -120,11 +133,56 @@ impl<T: Connected<End = D>, D: Drop> House<T, D> {
         told
     }
 
-    /// Has the guests of these keys wait for workers. A session for which there is no memory ends.
-    pub(crate) fn call<R: Wait, G: Gate>(&self, rt: &R, gate: &G, keys: &[usize]) {
-        for key in keys {
-            let called = self.call_one(rt, *key);
-            if let Err(turn) = called {
+    /// The next guest whose turn it is, once there is one, at a thread that computes answers or at one
+    /// that doesn't; or none where the workers are to end. The thread may look who has sent.
+    pub fn next<R: Wait + Clock, G: Gate>(
+        &self,
+        rt: &R,
+        gate: &G,
+        computes: bool,
+    ) -> Option<Task<Turn<T>>> {
+        let mut floor = self.floor.lock(rt);
+        for _ in rt.forever() {
+            if floor.is_closed {
+                return None;
+            }
+            let next = floor.next(computes);
+            self.waiting.store(floor.waiting(), Ordering::SeqCst);
+            match next {
+                Next::Turn(task) => {
+                    if floor.has_more() {
+                        self.called.notify_one();
+                    }
+                    return Some(task);
+                }
+                Next::Look => {
+                    drop(floor);
+                    floor = self.look(rt, gate, false);
+                }
+                Next::WatchOut => {
+                    drop(floor);
+                    floor = self.look(rt, gate, true);
+                }
+                Next::Wait => floor = self.called.wait(rt, floor),
+            }
+        }
+        None
+    }
+
+    // Looks who has sent, or waits until someone has, and has them wait for workers. A session for
+    // which there is no memory ends.
+    fn look<R: Wait + Clock, G: Gate>(
+        &self,
+        rt: &R,
+        gate: &G,
+        may_wait: bool,
+    ) -> MutexGuard<'_, Floor<T, D>> {
+        let mut lookout = self.lookout.lock(rt);
+        lookout.look(rt, may_wait);
+        let mut floor = self.floor.lock(rt);
+        for event in &lookout.events {
+            if let Err(turn) = floor.call(event.token().0) {
+                drop(floor);
                 self.end(
                     rt,
                     gate,
@@ -132,38 +190,11 @@ impl<T: Connected<End = D>, D: Drop> House<T, D> {
                     Some(ScriptError::NoMemory),
                     EndReason::Fault,
                 );
+                floor = self.floor.lock(rt);
             }
         }
-        match keys.len() {
-            0 => {}
-            1 => self.called.notify_one(),
-            _ => self.called.notify_all(),
-        }
-    }
-
-    fn call_one<R: Wait>(&self, rt: &R, key: usize) -> Result<(), Turn<T>> {
-        let mut floor = self.floor.lock(rt);
-        let called = floor.call(key);
-        self.waiting.store(floor.waiting(), Ordering::SeqCst);
-        called
-    }
-
-    /// The next guest whose turn it is, once there is one, at a thread that computes answers or at one
-    /// that doesn't; or none where the workers are to end.
-    pub fn next<R: Wait>(&self, rt: &R, computes: bool) -> Option<Task<Turn<T>>> {
-        let mut floor = self.floor.lock(rt);
-        for _ in rt.forever() {
-            if floor.is_closed {
-                return None;
-            }
-            let task = floor.take(computes);
-            self.waiting.store(floor.waiting(), Ordering::SeqCst);
-            if task.is_some() {
-                return task;
-            }
-            floor = self.called.wait(rt, floor);
-        }
-        None
+        floor.is_looked = false;
+        floor
     }
 
     /// Begins an answer for the owner, if it needn't wait.
@@ -178,7 +209,7 @@ impl<T: Connected<End = D>, D: Drop> House<T, D> {
         self.waiting.store(floor.waiting(), Ordering::SeqCst);
     }
 
-    /// From now on the hub isn't told what comes for the guest.
+    /// From now on it isn't told what comes for the guest.
     pub fn unlist(&self, turn: &mut Turn<T>) {
         if turn.is_listed {
             let fd = turn.guest.raw_fd();
@@ -186,20 +217,26 @@ impl<T: Connected<End = D>, D: Drop> House<T, D> {
         }
     }
 
-    // From now on the hub is told once what the guest needs.
+    // From now on it is told that there is what the guest needs, now or later: of room once, of bytes
+    // each time that they come behind a read that found none.
     fn list(&self, turn: &mut Turn<T>, needs: Needs) -> io::Result<()> {
-        let interest = if needs == Needs::Room {
+        let wants_room = needs == Needs::Room;
+        if turn.is_listed && !wants_room {
+            return Ok(());
+        }
+        let interest = if wants_room {
             Interest::WRITABLE
         } else {
             Interest::READABLE
         };
         let fd = turn.guest.raw_fd();
-        let (mut source, token) = (SourceFd(&fd), Token(turn.key));
-        if turn.is_listed {
-            return self.registry.reregister(&mut source, token, interest);
-        }
-        self.registry.register(&mut source, token, interest)?;
-        turn.is_listed = true;
+        let mut source = SourceFd(&fd);
+        // it may be listed for room, or not at all
+        let _ = self.registry.deregister(&mut source);
+        turn.is_listed = false;
+        self.registry
+            .register(&mut source, Token(turn.key), interest)?;
+        turn.is_listed = !wants_room;
         Ok(())
     }
 
@@ -227,8 +264,15 @@ impl<T: Connected<End = D>, D: Drop> House<T, D> {
 
     // Has a guest wait for a worker who may compute an answer.
     fn push_answer<R: Wait>(&self, rt: &R, turn: Turn<T>) -> Result<(), Turn<T>> {
-        let pushed = self.floor.lock(rt).push_answer(turn);
+        let mut floor = self.floor.lock(rt);
+        let pushed = floor.push_answer(turn);
+        let is_looked = floor.is_looked;
+        drop(floor);
         self.called.notify_one();
+        if is_looked {
+            // who looks may be the only one who is free to compute it
+            let _ = self.bell.wake();
+        }
         pushed
     }
 

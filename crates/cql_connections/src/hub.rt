@@ -1,7 +1,8 @@
-// Waits for callers and for what they send.
+// Waits for callers, and lets them in.
 ghost use Rattle.std.specs.Prelude.{◌≤◌};
 
 use crate::house::House;
+use crate::lookout::Lookout;
 use cql_hall::Gate;
 use cql_sessions::Connected;
 use mio::unix::SourceFd;
@@ -14,8 +15,8 @@ use std::sync::Wait;
 use std::time::{Clock, Duration, Instant};
 use std::{io, thread};
 
-// The most events of one wait.
-const EVENTS: usize = 1024;
+// The most events of one wait at the listener.
+const EVENTS: usize = 4;
 
 // The most callers who are let in at once.
 const AT_ONCE: u32 = 64;
@@ -26,18 +27,44 @@ const TICK: u64 = 100;
 // For how many milliseconds no caller is let in where one couldn't be.
 const PAUSE: u64 = 10;
 
-// Tokens that are no keys of callers.
-const LISTENER: Token = Token(1 << 32);
+const LISTENER: Token = Token(0);
 
-const WAKER: Token = Token((1 << 32) + 1);
+const WAKER: Token = Token(1);
 
-/// A listener that doesn't wait, and all connections, of which this waits until one is ready.
+/// A listener that doesn't wait, and what is needed to wait at it and at connections.
 pub struct Hub<'a> {
     listener: &'a TcpListener,
     poll: Poll,
     events: Events,
-    registry: Registry,
-    waker: Waker,
+    wires: Wires,
+}
+
+/// What tells of those who send, and by what others are woken.
+#[derive(Drop)]
+pub struct Wires {
+    pub(crate) lookout: Lookout,
+    // the connections
+    pub(crate) registry: Registry,
+    // wakes the thread that looks who has sent
+    pub(crate) bell: Waker,
+    // wakes the accepting thread
+    pub(crate) waker: Waker,
+}
+
+impl Wires {
+    // For no connection yet. An error where the system has no more of what it takes.
+    fn new<N: Net>(net: &N, alloc: Global, door: &Registry) -> io::Result<Wires> {
+        let waker = Waker::new(door, WAKER)?;
+        let lookout = Lookout::new(net, alloc)?;
+        let registry = lookout.registry()?;
+        let bell = lookout.waker()?;
+        Ok(Wires {
+            lookout,
+            registry,
+            bell,
+            waker,
+        })
+    }
 }
 
 impl Drop for Hub<'_> {
@@ -46,8 +73,7 @@ impl Drop for Hub<'_> {
             listener: _,
             poll: _,
             events: _,
-            registry: _,
-            waker: _,
+            wires: _,
         } = self;
     }
 }
@@ -56,30 +82,28 @@ impl<'a> Hub<'a> {
     /// Has the listener wait no more, and takes what of the system's is needed to wait at it. An
     /// error where there is no more of that.
     pub fn new<N: Net>(net: &N, alloc: Global, listener: &'a TcpListener) -> io::Result<Hub<'a>> {
-        let poll = Poll::new(net)?;
-        let registry = poll.registry().try_clone()?;
-        let waker = Waker::new(&registry, WAKER)?;
-        let events = Events::with_capacity(alloc, EVENTS)?;
         listener.set_nonblocking(true)?;
+        let poll = Poll::new(net)?;
         let fd = listener.as_raw_fd();
-        registry.register(&mut SourceFd(&fd), LISTENER, Interest::READABLE)?;
+        poll.registry()
+            .register(&mut SourceFd(&fd), LISTENER, Interest::READABLE)?;
+        let wires = Wires::new(net, alloc, poll.registry())?;
+        let events = Events::with_capacity(alloc, EVENTS)?;
         Ok(Hub {
             listener,
             poll,
             events,
-            registry,
-            waker,
+            wires,
         })
     }
 
-    /// What the accepting thread waits by, and what others tell it by.
-    pub fn into_parts(self) -> (Door<'a>, Registry, Waker) {
+    /// What the accepting thread waits by, and the rest.
+    pub fn into_parts(self) -> (Door<'a>, Wires) {
         let Hub {
             listener,
             poll,
             events,
-            registry,
-            waker,
+            wires,
         } = self;
         let door = Door {
             listener,
@@ -89,7 +113,7 @@ impl<'a> Hub<'a> {
             failed: None,
             looked: None,
         };
-        (door, registry, waker)
+        (door, wires)
     }
 }
 
@@ -131,34 +155,19 @@ fn has_passed<R: Clock>(clock: &R, since: Option<Instant>, millis: u64) -> bool 
 }
 
 impl Door<'_> {
-    // Waits until something is ready, and calls those guests to whom something has come.
-    fn wait<R: Wait + Clock, G: Gate, T: Connected<End = D>, D: Drop>(
-        &mut self,
-        rt: &R,
-        house: &House<T, D>,
-        gate: &G,
-        keys: &mut Vec<usize>,
-        within: Duration,
-    ) {
+    // Waits until a caller may be let in.
+    fn wait<R: Wait + Clock>(&mut self, rt: &R, within: Duration) {
         match self.poll.poll(&mut self.events, Some(within)) {
             Err(error) if error.kind() != ErrorKind::Interrupted => {
                 thread::sleep(rt, Duration::from_millis(PAUSE));
             }
             _ => {}
         }
-        keys.clear();
         for event in &self.events {
-            match event.token() {
-                LISTENER => self.is_asked = true,
-                WAKER => {}
-                Token(key) => {
-                    if keys.push(key).is_err() {
-                        house.call(rt, gate, &[key]);
-                    }
-                }
+            if event.token() == LISTENER {
+                self.is_asked = true;
             }
         }
-        house.call(rt, gate, keys.as_slice());
     }
 
     // Lets one caller in, if one waits. Tells whether a connection was had or failed.
@@ -246,13 +255,11 @@ impl Door<'_> {
     pub fn attend<R: Wait + Clock, G: Gate, T: Connected<End = D>, D: Drop>(
         self,
         rt: &R,
-        alloc: Global,
         house: &House<T, D>,
         gate: &G,
         sessions: u16,
     ) {
         let mut door = self;
-        let mut keys = Vec::new(alloc);
         let mut left = u32::from(sessions);
         for _ in rt.forever() {
             let most = if sessions == 0 { AT_ONCE } else { left };
@@ -264,7 +271,7 @@ impl Door<'_> {
                 break;
             }
             let within = door.within(rt, house, sessions == 0 || left > 0);
-            door.wait(rt, house, gate, &mut keys, within);
+            door.wait(rt, within);
             door.look_round(rt, house, gate);
         }
         house.close(rt);

@@ -119,6 +119,11 @@ impl<T: Drop> Turns<T> {
         }
     }
 
+    /// Whether a short turn waits.
+    pub(crate) fn has_short(&self) -> bool {
+        self.short.count > 0
+    }
+
     /// A short turn waits. Without memory it comes back.
     pub fn push_short(&mut self, owner: usize, item: T) -> Result<(), T> {
         self.short.push(owner, item)

@@ -33,7 +33,7 @@ impl Drop for Guest {
 /// What a session needs for its next turn.
 #[derive(Clone, Copy, PartialEq, Eq, Drop)]
 pub enum Needs {
-    /// Bytes from its caller.
+    /// Bytes from its caller, of whom nothing more has come.
     Bytes,
     /// That its caller takes what was written.
     Room,
@@ -203,22 +203,23 @@ impl Guest {
         let came = answer_next(service, bench, visit, unread, desk, may.fetch, &mut outbox)?;
         desk.gathered.flush(&mut outbox)?;
         (self.link.unsent, self.link.is_waiting) = outbox.into_inner().into_rest();
+        let is_spent = came.is_none();
         self.link.note(came, may.wait);
-        Ok(self.needs())
+        Ok(self.needs(is_spent))
     }
 
-    // What it needs once it has had its turn.
-    fn needs(&self) -> Needs {
+    // What it needs once it has had its turn, in which nothing had come or something had.
+    fn needs(&self, is_spent: bool) -> Needs {
         if !self.link.unsent.is_empty() {
             Needs::Room
         } else if self.visit.is_over() {
             Needs::End(None)
         } else if self.visit.is_held() {
             Needs::Answer
-        } else if !self.link.unread.is_empty() {
-            Needs::Worker
-        } else {
+        } else if is_spent {
             Needs::Bytes
+        } else {
+            Needs::Worker
         }
     }
 }

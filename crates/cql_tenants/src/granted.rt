@@ -105,7 +105,12 @@ impl Granted {
         ensures { self.new ≡ self.old }
     {
         let len = self.all.len();
-        let from = if self.next < len { self.next } else { 0 };
+        // the last few wait until they are as many as stand together
+        let from = if len.saturating_sub(self.next) < TOGETHER {
+            0
+        } else {
+            self.next
+        };
         let end = from + TOGETHER.min(len - from);
         let pack = gathered(alloc, &self.all.as_slice()[from..end])?;
         let pack = Shared::new(Arc::new(alloc, pack)?);

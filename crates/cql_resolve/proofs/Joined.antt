@@ -1,5 +1,5 @@
 -- The inputs of a block with one more.
-use Rattle.std.proofs.Common.{◌≡◌, List, [], ◌∷◌, ◌++◌, refl, ap, ◌∙◌, sym, append_assoc}
+use Rattle.std.proofs.Common.{◌≡◌, List, [], ◌∷◌, ◌++◌, ap, ◌∙◌, sym, append_assoc}
 use Rattle.std.proofs.lemmas.List.{append-nil}
 use Rattle.cql_resolve.specs.declared.source.Source.{Source}
 use Rattle.cql_resolve.specs.Sources.{joined_row}

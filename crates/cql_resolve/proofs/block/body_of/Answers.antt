@@ -1,4 +1,5 @@
-use Rattle.std.proofs.Common.{rules}
+use Rattle.std.proofs.lemmas.Grind.{common_steps}
+use Rattle.std.proofs.Common.{rules, arith}
 use Rattle.cql_resolve.specs.Typing.{body_of}
 use Rattle.cql_resolve.proofs.block.body_of.Goals as goal
 
@@ -8,4 +9,8 @@ returns-in_err-condition c = search rules
 
 pub returns-in_err-groups : goal.returns-in_err-groups
 unfolding body_of
-returns-in_err-groups c = search rules
+returns-in_err-groups c = grind (arith, common_steps)
+
+pub returns : goal.returns
+unfolding body_of
+returns c = grind (arith, common_steps)

@@ -1,10 +1,11 @@
-use Rattle.std.proofs.Common.{rules}
+use Rattle.std.proofs.lemmas.Grind.{common_steps}
+use Rattle.std.proofs.Common.{rules, arith}
 use Rattle.cql_resolve.specs.Typing.{comparison_of}
 use Rattle.cql_resolve.proofs.typed.comparison_of.Goals as goal
 
 pub returns : goal.returns
 unfolding comparison_of
-returns c = search rules
+returns c = grind (arith, common_steps)
 
 pub returns-then-not-same_kind : goal.returns-then-not-same_kind
 unfolding comparison_of

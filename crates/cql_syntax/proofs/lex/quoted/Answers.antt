@@ -28,3 +28,9 @@ returns-clause-value c = turn_none _ c.loop-before.rest.now c.args.rest.now c.lo
 
 pub loop-before-init : goal.loop-before-init
 loop-before-init c = grind (arith, common_steps)
+
+pub returns-in_default-strip_prefix-clause-within : goal.returns-in_default-strip_prefix-clause-within
+returns-in_default-strip_prefix-clause-within c = grind (arith, common_steps)
+
+pub loop-before-smaller : goal.loop-before-smaller
+loop-before-smaller c = grind (arith, common_steps)

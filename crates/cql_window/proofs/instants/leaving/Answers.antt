@@ -1,4 +1,5 @@
-use Rattle.std.proofs.Common.{rules, tests, ◌≡◌, ◌++◌, nat_le, nat_lt, IfOk, subst}
+use Rattle.std.proofs.lemmas.Grind.{common_steps}
+use Rattle.std.proofs.Common.{rules, tests, ◌≡◌, ◌++◌, nat_le, nat_lt, IfOk, subst, arith}
 use Rattle.std.proofs.lemmas.Iterator.{YieldsList-from_map, items_from_collect}
 use Rattle.std.proofs.lemmas.Iterator.Consumers.{YieldsList-at, YieldsList-from_chain, YieldsList-from_first, YieldsList-from_filter}
 use Rattle.std.proofs.lemmas.Iterator.Search.{YieldsList-from_take_while}
@@ -20,3 +21,9 @@ returns c =
     c.map.ensures.closure (λ x r q k. search (rules, tests))))
     c.take_while.ensures.closure c.take_while.ensures.done (λ x b q k. search (rules, tests))))
     c.filter.ensures.closure (λ x b q k. search (rules, tests))))
+
+pub collect-requires-clause-finite : goal.collect-requires-clause-finite
+collect-requires-clause-finite c = grind (arith, common_steps)
+
+pub collect-requires-clause-can : goal.collect-requires-clause-can
+collect-requires-clause-can c = grind (arith, common_steps)

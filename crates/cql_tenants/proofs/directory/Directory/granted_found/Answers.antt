@@ -1,4 +1,5 @@
-use Rattle.std.proofs.Common.{◌≡◌, ℕ, length, ap, sym, subst, ◌∙◌}
+use Rattle.std.proofs.lemmas.Grind.{common_steps}
+use Rattle.std.proofs.Common.{◌≡◌, ℕ, length, ap, sym, subst, ◌∙◌, arith}
 use Rattle.std.specs.Prelude.{None, Some, IfSome, option_map, slice_get}
 use Rattle.cql_places.specs.Places.{at_places, AreWithin}
 use Rattle.cql_tenants.specs.Named.{place_of}
@@ -57,3 +58,42 @@ returns-clause-within c =
     let there : Given homes c.args.owner name g = given_at _ homes c.self.invariant.grants c.self.view_is c.args.tenant c.args.owner name c.home_at-home.result.now g ((λ i. home_at (sym (c.deref.ensures.value ∙ c.self.view_is) i) (sym c.place.ensures i)) ∙ sym c.home_at-home.ensures) c.in_ok-grant.ensures in
     subst (λ o. IfSome o (λ s. AreWithin c.places.result.now (length s.schema))) (sym (ap (λ o. stream_at homes o name) c.owner-owner.ensures ∙ there.found))
     (subst (λ l. AreWithin l (length there.stream.schema)) (sym c.places.ensures) there.shows.within)
+
+pub returns-in_err-place-clause-place : goal.returns-in_err-place-clause-place
+returns-in_err-place-clause-place c = grind (arith, common_steps)
+
+pub returns-in_err-grant-clause-places : goal.returns-in_err-grant-clause-places
+returns-in_err-grant-clause-places c = grind (arith, common_steps)
+
+pub returns-in_err-place-clause-within : goal.returns-in_err-place-clause-within
+returns-in_err-place-clause-within c = grind (arith, common_steps)
+
+pub returns-in_err-grant-clause-seen : goal.returns-in_err-grant-clause-seen
+returns-in_err-grant-clause-seen c = grind (arith, common_steps)
+
+pub returns-in_err-place-clause-places : goal.returns-in_err-place-clause-places
+returns-in_err-place-clause-places c = grind (arith, common_steps)
+
+pub returns-in_err-place-clause-schema : goal.returns-in_err-place-clause-schema
+returns-in_err-place-clause-schema c = grind (arith, common_steps)
+
+pub home_at-home-requires : goal.home_at-home-requires
+home_at-home-requires c = grind (arith, common_steps)
+
+pub returns-in_err-grant-clause-within : goal.returns-in_err-grant-clause-within
+returns-in_err-grant-clause-within c = grind (arith, common_steps)
+
+pub returns-in_err-place-clause-owner : goal.returns-in_err-place-clause-owner
+returns-in_err-place-clause-owner c = grind (arith, common_steps)
+
+pub returns-in_err-grant-clause-owner : goal.returns-in_err-grant-clause-owner
+returns-in_err-grant-clause-owner c = grind (arith, common_steps)
+
+pub returns-in_err-grant-clause-schema : goal.returns-in_err-grant-clause-schema
+returns-in_err-grant-clause-schema c = grind (arith, common_steps)
+
+pub returns-in_err-grant-clause-place : goal.returns-in_err-grant-clause-place
+returns-in_err-grant-clause-place c = grind (arith, common_steps)
+
+pub returns-clause-place : goal.returns-clause-place
+returns-clause-place c = grind (arith, common_steps)

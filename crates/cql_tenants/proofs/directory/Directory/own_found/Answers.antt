@@ -1,3 +1,4 @@
+use Rattle.std.proofs.lemmas.Grind.{common_steps}
 use Rattle.std.proofs.Common.{◌≡◌, true, false, eqb, length, ap, sym, subst, ◌∙◌, arith}
 use Rattle.std.specs.Prelude.{Some, IfSome, option_map, if◌then◌else◌}
 use Rattle.std.proofs.lemmas.Bool.Decides.{nat_tests}
@@ -46,3 +47,24 @@ returns-clause-within c =
     let found = ap (λ h. find_named h.streams c.args.stream.now) home ∙ found_at c.home_at.result.now.streams c.args.stream.now _ _ (sym c.place-2.ensures.value ∙ c.in_ok-place.was) c.entry.ensures in
     let many = length c.entry.result.1.now.schema in
     subst (λ o. IfSome o (λ s. AreWithin c.all_places.result.now (length s.schema))) (sym found) (subst (λ l. AreWithin l many) (sym c.all_places.ensures) (all_within many))
+
+pub entry-requires : goal.entry-requires
+entry-requires c = grind (arith, common_steps)
+
+pub returns-in_err-place-clause-schema : goal.returns-in_err-place-clause-schema
+returns-in_err-place-clause-schema c = grind (arith, common_steps)
+
+pub home_at-requires : goal.home_at-requires
+home_at-requires c = grind (arith, common_steps)
+
+pub returns-in_err-place-clause-places : goal.returns-in_err-place-clause-places
+returns-in_err-place-clause-places c = grind (arith, common_steps)
+
+pub returns-clause-place : goal.returns-clause-place
+returns-clause-place c = grind (arith, common_steps)
+
+pub returns-in_err-place-clause-place : goal.returns-in_err-place-clause-place
+returns-in_err-place-clause-place c = grind (arith, common_steps)
+
+pub returns-in_err-place-clause-within : goal.returns-in_err-place-clause-within
+returns-in_err-place-clause-within c = grind (arith, common_steps)

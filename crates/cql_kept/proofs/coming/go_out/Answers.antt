@@ -1,3 +1,4 @@
+use Rattle.std.proofs.lemmas.Grind.{common_steps}
 use Rattle.std.proofs.Common.{◌≡◌, ◌<◌, ◌≤◌, true, false, map, length, sym, ◌∙◌, ap, subst, arith}
 use Rattle.std.specs.Prelude.{slice_get}
 use Rattle.std.specs.List.{remove, prefix_len}
@@ -84,3 +85,6 @@ returns-clause-parted c =
     let on_rows = c.in_ok-rows-in-Some.ensures in
     let on_parts = c.in_ok-remove-in-Some.ensures in
     subst (λ xs. AreParted columns xs (arc_value c.in_ok-remove-in-Some.field-0)) (sym on_rows) (subst (AreParted columns (remove rows c.below-place.result)) (sym on_parts) left.parted)
+
+pub remove-requires-in-Some : goal.remove-requires-in-Some
+remove-requires-in-Some c = grind (arith, common_steps)

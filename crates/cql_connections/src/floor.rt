@@ -217,7 +217,7 @@ impl<T: Connected<End = D>, D: Drop> Floor<T, D> {
         if is_whole { Ok(ends) } else { Err(AllocError) }
     }
 
-    /// A guest has come of whom the hub is told, and waits for its caller. Its key; or there was no
+    /// A guest has come of whose bytes it is told, and waits for its caller. Its key; or there was no
     /// memory.
     pub(crate) fn enter(&mut self, guest: Box<T>, since: Instant) -> Result<usize, AllocError> {
         let place = Place {

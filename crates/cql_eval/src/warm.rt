@@ -83,7 +83,8 @@ impl Kept {
 
 /// A bench that answers pins in turn. Where a pin begins on the last one's way, that is where its
 /// windows hold at its first cursor what those of the last one held there, the bench goes on, taken
-/// back from the last one's end; else it is started anew. `new` makes one that `IsWarm`, and every call keeps that.
+/// back from the last one's end; else it is started anew. `new` makes one that `IsWarm`, and every
+/// call keeps that.
 #[derive(Drop)]
 pub struct Warm<O> {
     pub bench: BenchOf<O>,

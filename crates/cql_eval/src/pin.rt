@@ -143,17 +143,23 @@ impl Pin {
         rows
     }
 
+    /// How many rows its windows hold before the first instant that is asked for.
+    pub(crate) fn rows_held(&self) -> usize {
+        let mut rows: usize = 0;
+        for window in self.windows() {
+            rows = rows.saturating_add(window.content().len());
+        }
+        rows
+    }
+
     /// How many times at most rows of its windows come or leave: of those that are held before the
     /// first instant only as they leave, where the bench has them.
     pub(crate) fn rows_to_push(&self, goes_on: bool) -> usize {
-        let mut rows: usize = 0;
+        let mut rows = if goes_on { 0 } else { self.rows_held() };
         for window in self.windows() {
             rows = rows
                 .saturating_add(window.unseen().len())
                 .saturating_add(window.unseen().len());
-            if !goes_on {
-                rows = rows.saturating_add(window.content().len());
-            }
         }
         rows
     }

@@ -24,6 +24,9 @@ pub const MOST: usize = 1 << 18;
 // So many rows are always pushed before a bench is started anew.
 const FEW: usize = 4096;
 
+// So many rows are always taken back, since a start costs something, too.
+const FEW_BACK: usize = 64;
+
 /// What is kept of an answer: its pin, which the answer shares, and what is kept of the relation at
 /// the pin's end.
 pub struct Kept {
@@ -83,8 +86,8 @@ impl Kept {
 
 /// A bench that answers pins in turn. Where a pin begins on the last one's way, that is where its
 /// windows hold at its first cursor what those of the last one held there, the bench goes on, taken
-/// back from the last one's end; else it is started anew. `new` makes one that `IsWarm`, and every
-/// call keeps that.
+/// back from the last one's end, unless that costs more than what the windows hold; else it is started
+/// anew. `new` makes one that `IsWarm`, and every call keeps that.
 #[derive(Drop)]
 pub struct Warm<O> {
     pub bench: BenchOf<O>,
@@ -213,7 +216,10 @@ impl<O: Operator> Warm<O> {
             let blocks = nothing_asked(alloc, &pin);
             return Ok(Answer::new(pin, Items::from_vec(blocks), 0, false));
         }
-        let kept = self.kept.take();
+        let kept = match self.kept.take() {
+            Some(kept) if kept.rows_back(&pin) <= pin.rows_held().max(FEW_BACK) => Some(kept),
+            _ => None,
+        };
         let before = match &kept {
             Some(kept) => self.pushed.saturating_add(kept.rows_back(&pin)),
             None => 0,

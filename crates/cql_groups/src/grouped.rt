@@ -19,11 +19,10 @@ use cql_algebra::law::{
 use cql_algebra::pushes::{
     ends_law, fewer_law, key_change_law, key_count_law, more_law, of_groups_law, one_group_law,
 };
-use cql_bag::Change;
 use cql_bag::law::{own_entries, put_all_counts, same_counts, take_counts};
+use cql_bag::{Change, RowQueue};
 use cql_ops::{Meter, OpError};
 use cql_plain::key;
-use cql_queue::RowQueue;
 use cql_value::Row;
 use std::alloc::{AllocError, Global};
 use std::collections::BTreeMap;

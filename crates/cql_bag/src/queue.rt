@@ -3,7 +3,8 @@ ghost use Rattle.std.specs.Prelude.{◌≡◌, [], Some, slice_get, IsTrue, IfSo
 ghost use Rattle.cql_bag.specs.Bag.{IsBag, less_one, put_rows};
 ghost use Rattle.cql_bag.specs.Changes.{changed};
 
-use cql_bag::{Bag, Change};
+use crate::bag::Bag;
+use crate::change::Change;
 use cql_value::Row;
 use std::alloc::{AllocError, Global};
 use std::collections::VecDeque;

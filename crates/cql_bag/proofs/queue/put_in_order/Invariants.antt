@@ -1,6 +1,6 @@
 use Rattle.std.proofs.Common.{◌≡◌, length}
 use Rattle.cql_bag.specs.Bag.{IsBag, put_rows}
-use Rattle.cql_queue.proofs.queue.put_in_order.Given as goal
+use Rattle.cql_bag.proofs.queue.put_in_order.Given as goal
 
 -- those in order and those that still wait are the whole
 abbrev pub invariant-loop-row : goal.invariant-loop-row

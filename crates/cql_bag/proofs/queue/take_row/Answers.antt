@@ -1,8 +1,8 @@
 use Rattle.std.proofs.Common.{drop, sym, ap, ◌∙◌, subst}
 use Rattle.cql_bag.specs.Bag.{IsBag, put_rows, less_one, count}
 use Rattle.cql_bag.proofs.Rows.{bag_less}
-use Rattle.cql_queue.proofs.Orders.{first_goes, first_of, ordered_goes, none_goes, no_more}
-use Rattle.cql_queue.proofs.queue.take_row.Goals as goal
+use Rattle.cql_bag.proofs.Orders.{first_goes, first_of, ordered_goes, none_goes, no_more}
+use Rattle.cql_bag.proofs.queue.take_row.Goals as goal
 
 pub returns-then-is_first-clause-rows : goal.returns-then-is_first-clause-rows
 returns-then-is_first-clause-rows c =

@@ -2,7 +2,7 @@ use Rattle.std.proofs.lemmas.Grind.{common_steps}
 use Rattle.std.proofs.Common.{sym, ap, ◌∙◌, subst, arith}
 use Rattle.cql_bag.specs.Bag.{IsBag, put_rows}
 use Rattle.cql_bag.proofs.Rows.{bag_put}
-use Rattle.cql_queue.proofs.queue.put_in_order.Goals as goal
+use Rattle.cql_bag.proofs.queue.put_in_order.Goals as goal
 
 pub loop-row-preserved : goal.loop-row-preserved
 loop-row-preserved c = record {

@@ -1,7 +1,7 @@
 use Rattle.std.proofs.Common.{◌++◌, ◌∷◌, [], if◌then◌else◌, sym, ap, ◌∙◌}
 use Rattle.cql_bag.specs.Bag.{put, put_rows, less_one}
-use Rattle.cql_queue.proofs.Orders.{at_end}
-use Rattle.cql_queue.proofs.queue.RowQueue.change.Goals as goal
+use Rattle.cql_bag.proofs.Orders.{at_end}
+use Rattle.cql_bag.proofs.queue.RowQueue.change.Goals as goal
 
 pub returns-in_ok-push_back : goal.returns-in_ok-push_back
 returns-in_ok-push_back c =

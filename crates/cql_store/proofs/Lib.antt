@@ -9,4 +9,9 @@ pub mod Later
 pub mod Told
 pub mod Search
 pub mod Lifted
+pub mod Pairs
+pub mod Towers
+pub mod Laws
+pub mod Rising
+pub mod Marked
 mod Instances

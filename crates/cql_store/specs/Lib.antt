@@ -2,3 +2,4 @@ pub mod Calls
 pub mod Held
 pub mod Next
 pub mod Places
+pub mod Levels

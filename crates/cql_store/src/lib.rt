@@ -9,12 +9,14 @@
 #![tactic(auto)]
 
 pub mod law;
+mod least;
 mod moves;
 mod needs;
 pub mod ready;
 pub mod store;
 mod stub;
 
+pub use least::Least;
 pub use ready::Ready;
 pub use store::Store;
 pub use stub::StubId;

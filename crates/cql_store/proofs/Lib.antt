@@ -1,3 +1,10 @@
+pub mod KeptCrosses
+pub mod RowNumbers
+pub mod Oldest
+pub mod OneMore
+pub mod Segments
+pub mod Sorting
+pub mod Staying
 pub mod Crosses
 pub mod Fit
 pub mod Keeps

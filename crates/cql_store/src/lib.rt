@@ -8,14 +8,20 @@
 //! its content, its unseen rows, and whether it is overrun.
 #![tactic(auto)]
 
+mod coming;
+mod kept;
 pub mod law;
 mod least;
+mod made;
 mod moves;
 mod needs;
+mod part;
+mod parted;
 pub mod ready;
 pub mod store;
 mod stub;
 
+pub use kept::Kept;
 pub use least::Least;
 pub use ready::Ready;
 pub use store::Store;

@@ -8,9 +8,9 @@ ghost use Rattle.cql_window.specs.Window.{AreAscending, count_before, front_len,
 ghost use Rattle.cql_store.specs.Held.{advanced, HasParts, CanAdvance, IsReady, pinned};
 ghost use Rattle.cql_store.specs.Places.{shown, shifted, greatest, IsSound, IsPlaced};
 
+use crate::kept::Kept as KeptParts;
 use crate::stub::{Kept, Stub};
 use cql_chunks::Chunks;
-use cql_kept::Kept as KeptParts;
 use cql_value::{Timed, TryClone};
 use cql_window::{Count, Window, WindowPin, end_in, newest_of_parts, whole_slides};
 use std::alloc::{AllocError, Global};

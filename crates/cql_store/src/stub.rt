@@ -2,8 +2,8 @@
 ghost use Rattle.std.specs.Prelude.{◌≡◌, ◌++◌, [], length, IfOk, OnOk};
 ghost use Rattle.cql_store.specs.Places.{emptied, limit};
 
+use crate::kept::Kept as KeptParts;
 use cql_chunks::Chunks;
-use cql_kept::Kept as KeptParts;
 use cql_seq::Waste;
 use cql_value::Timed;
 use cql_window::Window;

@@ -1,0 +1,8 @@
+use Rattle.std.proofs.Common.{◌≡◌, length, take}
+use Rattle.std.specs.Arc.{arc_value}
+use Rattle.cql_store.specs.Parts.{AreParted}
+use Rattle.cql_store.proofs.parted.parts_of.Given as goal
+
+-- the rows so far
+abbrev pub invariant-loop-place : goal.invariant-loop-place
+invariant-loop-place l = (l.place-end ≡ length (arc_value l.rows)) × AreParted l.columns (take l.place (arc_value l.rows)) (arc_value l.parts)

@@ -21,4 +21,7 @@ pub mod Towers
 pub mod Laws
 pub mod Rising
 pub mod Marked
+pub mod StreamsCrosses
+pub mod Moved
+pub mod Added
 mod Instances

@@ -4,3 +4,5 @@ pub mod Held
 pub mod Next
 pub mod Places
 pub mod Levels
+pub mod StreamsLaw
+pub mod Stores

@@ -1,11 +1,21 @@
-//! One list of rows for all windows on a stream.
+//! One list of rows for all windows on a stream, and the stores of all streams, by owner and in order
+//! of making.
 //!
 //! A store keeps the rows of a stream once, for every window of every query on it. A window is
 //! attached as a stub, which knows where its content and its unseen rows stand among the store's
-//! rows. A row goes once every stub has let it go.
+//! rows. A row goes once every stub has let it go. Who needs it longest is the least of many numbers,
+//! of which one at a time is changed.
+//!
+//! What a window of parts keeps, the newest rows of each part, stands in trees whose parts are shared,
+//! so that those after some more rows are made beside those before, in a time that grows with the
+//! logarithm of how many there are.
+//!
+//! Each stream has a store of its own, and a stub on it is named by a spot: the owner, the place of
+//! the stream among the owner's, and the stub's number in the store.
 //!
 //! Contracts see a store as its stubs, each under its number: its window, its cursor, its hold,
-//! its content, its unseen rows, and whether it is overrun.
+//! its content, its unseen rows, and whether it is overrun; and all stores as the stubs of each, by
+//! owner and stream.
 #![tactic(auto)]
 
 mod coming;
@@ -15,14 +25,18 @@ mod least;
 mod made;
 mod moves;
 mod needs;
+mod owner;
 mod part;
 mod parted;
 pub mod ready;
+mod spot;
 pub mod store;
+mod stores;
+pub mod streams_law;
 mod stub;
 
-pub use kept::Kept;
-pub use least::Least;
 pub use ready::Ready;
+pub use spot::Spot;
 pub use store::Store;
+pub use stores::Stores;
 pub use stub::StubId;

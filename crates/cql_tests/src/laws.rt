@@ -18,7 +18,7 @@ use cql_places::law::{all_places_law, chain_law, narrow_law, twice_law, wide_law
 use cql_resolve::law::{
     column_law, first_fault_law, form_law, plain_law, ports_law, qualified_law, seen_law,
 };
-use cql_streams::law::remove_law;
+use cql_store::streams_law::remove_law;
 use cql_syntax::reserved_law;
 use cql_tenants::law::{directory_law, grant_law, place_law};
 use cql_text::read_law;

@@ -2,7 +2,7 @@ use Rattle.std.proofs.lemmas.Grind.{common_steps}
 use Rattle.std.proofs.Common.{◌≡◌, false, ap, sym, ◌∙◌, arith}
 use Rattle.std.specs.Prelude.{Some, IsSomeAnd, option_map}
 use Rattle.cql_store.specs.Held.{pinned}
-use Rattle.cql_streams.specs.Stores.{held_at}
+use Rattle.cql_store.specs.Stores.{held_at}
 use Rattle.cql_core.proofs.Walks.{get_there, all_at, found_more, mapped_is}
 use Rattle.cql_core.proofs.going.pin_all.Goals as goal
 

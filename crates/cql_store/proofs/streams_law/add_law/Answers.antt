@@ -1,0 +1,5 @@
+use Rattle.cql_store.proofs.Added as added
+use Rattle.cql_store.proofs.streams_law.add_law.Goals as goal
+
+pub returns : goal.returns
+returns c = added.add_law

@@ -1,0 +1,210 @@
+// The stores of all owners' streams.
+ghost use Rattle.std.specs.Prelude.{◌≡◌, ◌<◌, ◌++◌, ◌∷◌, [], length, set, Some, None, IsSome, IsSomeAnd, IfSome, IfOk, OnOk, OnErr, false};
+ghost use Rattle.cql_store.specs.Held.{opened, advanced, pinned, CanAppend, CanAdvance, IsReady, HasParts, IsRowsHeld};
+ghost use Rattle.cql_store.specs.Stores.{OwnStores, own_at, store_at, held_at, IsStream, Moves, Appends};
+
+use crate::owner::OwnerStreams;
+use crate::ready::Ready;
+use crate::spot::Spot;
+use cql_tenants::TenantId;
+use cql_value::Timed;
+use cql_window::{Window, WindowPin};
+use std::alloc::{AllocError, Global};
+use std::marker::Model;
+
+/// The stores of all owners' streams, the streams of each owner in order of making.
+#[derive(Drop)]
+pub struct Stores {
+    owners: Vec<OwnerStreams>,
+    turn: Turn,
+}
+
+// The stream that settles next.
+#[derive(Clone, Copy)]
+struct Turn {
+    owner: usize,
+    stream: usize,
+}
+
+impl Turn {
+    // The next stream of the same owner, or else the first one of the next owner, or of the first.
+    fn next(self, is_stream: bool, is_owner: bool) -> Turn {
+        match (is_stream, is_owner) {
+            (true, _) => Turn {
+                owner: self.owner,
+                stream: self.stream.wrapping_add(1),
+            },
+            (false, true) => Turn {
+                owner: self.owner.wrapping_add(1),
+                stream: 0,
+            },
+            (false, false) => Turn {
+                owner: 0,
+                stream: 0,
+            },
+        }
+    }
+}
+
+impl Model for Stores {
+    ghost use Rattle.cql_store.specs.Stores.{AllStores};
+
+    ghost Value = { AllStores };
+
+    ghost view = { λ s. s.owners.items };
+}
+
+impl Stores {
+    /// No owner. Takes no memory.
+    pub fn new(alloc: Global) -> Stores
+        ensures { result ≡ [] }
+    {
+        Stores {
+            owners: Vec::new(alloc),
+            turn: Turn {
+                owner: 0,
+                stream: 0,
+            },
+        }
+    }
+
+    /// One more owner, with no stream.
+    pub fn add_owner(&mut self, alloc: Global) -> Result<(), AllocError>
+        ensures ok { OnOk result (self.new ≡ self.old ++ [] ∷ []) }
+        ensures err { OnErr result (self.new ≡ self.old) }
+    {
+        self.owners.push(OwnerStreams::new(alloc))?;
+        Ok(())
+    }
+
+    /// One more stream of an owner, with no stub.
+    pub fn add_stream(&mut self, alloc: Global, owner: TenantId) -> Result<(), AllocError>
+        requires { owner < length self.old }
+        ensures ok { OnOk result (self.new ≡ set self.old owner (own_at self.old owner ++ [] ∷ [])) }
+        ensures err { OnErr result (self.new ≡ self.old) }
+    {
+        self.owners[owner.place()].push(alloc)
+    }
+
+    /// Takes the owner's last stream away, which has no stub. Takes no memory.
+    pub fn remove_stream(&mut self, owner: TenantId)
+        requires within { owner < length self.old }
+        requires last { (front : OwnStores) × (own_at self.old owner ≡ front ++ [] ∷ []) }
+        ensures { (front : OwnStores) → own_at self.old owner ≡ front ++ [] ∷ [] → self.new ≡ set self.old owner front }
+    {
+        self.owners[owner.place()].pop();
+    }
+
+    /// One more row for every stub on a stream that isn't overrun. A stub for which it is one too
+    /// many is overrun from then on, and has no rows.
+    pub fn append(&mut self, owner: TenantId, stream: usize, row: Timed) -> Result<(), AllocError>
+        requires there { IsStream self.old owner stream }
+        requires can { CanAppend (store_at self.old owner stream) row }
+        ensures ok { OnOk result (Appends self.old self.new owner stream row) }
+        ensures err { OnErr result (self.new ≡ self.old) }
+    {
+        self.owners[owner.place()].append(stream, row)
+    }
+
+    /// A stub of the window on a stream, at the cursor `base`, which may hold so many rows. It has
+    /// none, whatever the stream's store holds for others.
+    pub fn attach(
+        &mut self,
+        owner: TenantId,
+        stream: usize,
+        window: Window,
+        base: u64,
+        hold: u64,
+    ) -> Result<Spot, AllocError>
+        requires { IsStream self.old owner stream }
+        ensures owner { IfOk result (λ p. p.owner ≡ owner) }
+        ensures stream { IfOk result (λ p. p.stream ≡ stream) }
+        ensures was_free { IfOk result (λ p. held_at self.old p ≡ None) }
+        ensures ok { IfOk result (λ p. Moves self.old self.new p (Some (opened window base hold))) }
+        ensures err { OnErr result (self.new ≡ self.old) }
+    {
+        let stub = self.owners[owner.place()].attach(stream, window, base, hold)?;
+        Ok(Spot {
+            owner,
+            stream,
+            stub,
+        })
+    }
+
+    /// Whether the stub had to let its rows go. Takes no memory.
+    pub fn is_overrun(&self, spot: Spot) -> bool
+        requires there { IsStream self.now spot.owner spot.stream }
+        requires held { IsSome (held_at self.now spot) }
+        ensures { IfSome (held_at self.now spot) (λ h. result ≡ h.overrun) }
+    {
+        self.owners[spot.owner.place()]
+            .store(spot.stream)
+            .is_overrun(spot.stub)
+    }
+
+    /// The stub's window and content, and its unseen rows before an instant. The rows are shared.
+    pub fn pin(&self, spot: Spot, until: u64) -> Result<WindowPin, AllocError>
+        requires there { IsStream self.now spot.owner spot.stream }
+        requires held { IsSomeAnd (held_at self.now spot) (λ h. h.overrun ≡ false) }
+        ensures { IfOk result (λ w. IfSome (held_at self.now spot) (λ h. w ≡ pinned until h)) }
+    {
+        self.owners[spot.owner.place()]
+            .store(spot.stream)
+            .pin(spot.stub, until)
+    }
+
+    /// All that takes memory for an advance of the stub to a later cursor: none unless its window
+    /// is one of parts.
+    pub fn ready(&self, spot: Spot, to: u64) -> Result<Ready, AllocError>
+        requires there { IsStream self.now spot.owner spot.stream }
+        requires held { IsSomeAnd (held_at self.now spot) (CanAdvance to) }
+        ensures id { IfOk result (λ r. r.id ≡ spot.stub) }
+        ensures to { IfOk result (λ r. r.to ≡ to) }
+        ensures kept { IfOk result (λ r. IfSome (held_at self.now spot) (IsReady to r.kept)) }
+        ensures err { OnErr result (IfSome (held_at self.now spot) (λ h. HasParts h.window)) }
+    {
+        self.owners[spot.owner.place()]
+            .store(spot.stream)
+            .ready(spot.stub, to)
+    }
+
+    /// The stub goes to a later cursor. Takes no memory.
+    pub fn advance(&mut self, spot: Spot, ready: Ready)
+        requires there { IsStream self.old spot.owner spot.stream }
+        requires stub { ready.id ≡ spot.stub }
+        requires ready { IsSomeAnd (held_at self.old spot) (IsReady ready.to ready.kept) }
+        ensures { IfSome (held_at self.old spot) (λ h. Moves self.old self.new spot (Some (advanced ready.to h))) }
+    {
+        self.owners[spot.owner.place()].advance(spot.stream, ready);
+    }
+
+    /// Takes the stub away, and lets go of the rows that it alone needed. Takes no memory.
+    pub fn detach(&mut self, spot: Spot)
+        requires there { IsStream self.old spot.owner spot.stream }
+        requires held { IsSome (held_at self.old spot) }
+        ensures { Moves self.old self.new spot None }
+    {
+        self.owners[spot.owner.place()].detach(spot.stream, spot.stub);
+    }
+
+    /// How many rows the store of a stream holds: as many as the stub that needs the most.
+    pub fn rows_held(&self, owner: TenantId, stream: usize) -> u64
+        requires { IsStream self.now owner stream }
+        ensures { IsRowsHeld (store_at self.now owner stream) result }
+    {
+        self.owners[owner.place()].store(stream).rows_held()
+    }
+
+    /// The store of one stream lets go of a few of the rows that nothing needs any more; the next call
+    /// settles the next stream's.
+    pub fn settle(&mut self)
+        ensures { self.new ≡ self.old }
+    {
+        let turn = self.turn;
+        let (is_stream, is_owner) = match self.owners.get_mut(turn.owner) {
+            Some(streams) => (streams.settle(turn.stream), true),
+            None => (false, false),
+        };
+        self.turn = turn.next(is_stream, is_owner);
+    }
+}

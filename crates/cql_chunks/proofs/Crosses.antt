@@ -3,7 +3,7 @@ use denote.Param.Send.{IsSend, IsSync, sendable}
 use Rattle.std.proofs.sync.Arc.TheSendSync as arc
 use Rattle.std.proofs.alloc.Global.TheSendSync as heap
 use Rattle.std.below.std_heap.proofs.GlobalAllocator.TheSendSync as frees
-use Rattle.cql_seq.proofs.Crosses.{seq_send, seq_sync}
+use Rattle.cql_chunks.proofs.SeqCrosses.{seq_send, seq_sync}
 use Rattle.cql_chunks.proofs.plain.Plain.TheSendSync as plain
 use Rattle.cql_chunks.specs.contracts.tree.Tree as tree
 use Rattle.cql_chunks.specs.contracts.chunks.Form as form

@@ -1,3 +1,5 @@
+pub mod Seq
+pub mod Taken
 pub mod Beside
 pub mod Chunks
 pub mod Form

@@ -1,14 +1,14 @@
 // A list of rows.
 ghost use Rattle.std.specs.Prelude.{◌≡◌, ◌≤◌, ◌<◌, ◌^◌, ◌+◌, ◌-◌, [], ◌∷◌, ◌++◌, IfOk, OnOk, OnErr, length, map, drop, take, slice_index_or};
 ghost use Rattle.std.specs.Arc.{arc_value};
-ghost use Rattle.cql_seq.specs.Seq.{row_in};
+ghost use Rattle.cql_chunks.specs.Seq.{row_in};
 
 use crate::plain::Plain;
 use crate::run::Run;
 use crate::same::are_joined_same;
+use crate::seq::Seq;
 use crate::stretch::Stretch;
 use crate::tree::Tree;
-use cql_seq::Seq;
 use cql_value::{Same, Timed};
 use std::alloc::{AllocError, Global};
 use std::marker::Model;

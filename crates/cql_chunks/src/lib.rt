@@ -1,4 +1,8 @@
-//! Rows in chunks that those who hold them share.
+//! Rows in chunks that those who hold them share; and lists of numbered rows that share what they have
+//! in common.
+//!
+//! Such a list is a balanced tree whose parts are shared: one with a row more or a row fewer is made
+//! beside it, in a time that grows with the logarithm of its length.
 #![tactic(auto)]
 
 mod chunk;
@@ -6,10 +10,14 @@ mod chunks;
 mod plain;
 mod run;
 mod same;
+mod seq;
 mod stretch;
 mod tree;
+mod waste;
 mod words;
 
 pub use chunks::Chunks;
 pub use same::are_joined_same;
+pub use seq::{Numbered, Seq};
 pub use stretch::Stretch;
+pub use waste::Waste;

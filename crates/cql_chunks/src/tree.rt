@@ -1,11 +1,11 @@
 // The rows of a tree.
 ghost use Rattle.std.specs.Prelude.{◌≡◌, ◌≤◌, ◌<◌, ◌^◌, IfOk, length, map, drop, take, slice_index_or};
 ghost use Rattle.std.specs.Arc.{arc_value};
-ghost use Rattle.cql_seq.specs.Seq.{row_in};
+ghost use Rattle.cql_chunks.specs.Seq.{row_in};
 
 use crate::plain::LIMIT;
 use crate::run::Run;
-use cql_seq::Seq;
+use crate::seq::Seq;
 use cql_value::Timed;
 use std::alloc::AllocError;
 use std::marker::Model;
@@ -24,7 +24,7 @@ impl Model for Tree {
     ghost use Rattle.std.specs.Prelude.{◌≤◌, ◌<◌, ◌^◌, List, drop, length, map};
     ghost use Rattle.std.specs.Arc.{arc_value};
     ghost use Rattle.cql_value.specs.Element.{Element};
-    ghost use Rattle.cql_seq.specs.Seq.{row_in};
+    ghost use Rattle.cql_chunks.specs.Seq.{row_in};
 
     ghost Value = { List Element };
 

@@ -4,7 +4,7 @@ use Rattle.std.proofs.alloc.Global.TheSendSync as heap
 use Rattle.std.below.std_heap.proofs.GlobalAllocator.TheSendSync as frees
 use Rattle.std.proofs.option.Option.TheSendSync as option
 use Rattle.slab.proofs.Slab.TheSendSync as slab
-use Rattle.cql_seq.proofs.Crosses.{waste_send, waste_sync}
+use Rattle.cql_chunks.proofs.SeqCrosses.{waste_send, waste_sync}
 use Rattle.cql_chunks.proofs.Crosses.{chunks_send, chunks_sync}
 use Rattle.cql_window.proofs.window.Window.TheSendSync as window
 use Rattle.cql_store.proofs.KeptCrosses as parts

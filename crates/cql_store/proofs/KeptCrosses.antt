@@ -4,7 +4,7 @@ use Rattle.std.proofs.sync.Arc.TheSendSync as arc
 use Rattle.std.proofs.alloc.Global.TheSendSync as heap
 use Rattle.std.below.std_heap.proofs.GlobalAllocator.TheSendSync as frees
 use Rattle.std.proofs.vec.Vec.TheSendSync as vec
-use Rattle.cql_seq.proofs.Crosses.{seq_send, seq_sync}
+use Rattle.cql_chunks.proofs.SeqCrosses.{seq_send, seq_sync}
 use Rattle.cql_store.specs.contracts.kept.Kept as kept
 
 pub kept_send : IsSend kept.the_row

@@ -4,8 +4,8 @@ use Rattle.std.specs.Prelude.{slice_get}
 use Rattle.std.specs.List.{remove, prefix_len}
 use Rattle.std.specs.Ordering.{is_eq}
 use Rattle.cql_value.specs.declared.value.Value.{Value}
-use Rattle.cql_seq.specs.declared.seq.Numbered.{Numbered}
-use Rattle.cql_seq.specs.Seq.{row_in}
+use Rattle.cql_chunks.specs.declared.seq.Numbered.{Numbered}
+use Rattle.cql_chunks.specs.Seq.{row_in}
 use Rattle.cql_window.specs.Coming.{without_oldest}
 use Rattle.cql_window.specs.Key.{key_of, key_cmp}
 use Rattle.cql_window.proofs.Keys.{key_exact}

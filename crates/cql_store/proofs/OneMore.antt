@@ -8,8 +8,8 @@ use Rattle.std.specs.Ordering.{is_lt, is_eq, ordering_reverse}
 use Rattle.std.proofs.lemmas.List.{append-nil}
 use Rattle.std.proofs.lemmas.List.Elements.{filter-append}
 use Rattle.cql_value.specs.declared.value.Value.{Value}
-use Rattle.cql_seq.specs.declared.seq.Numbered.{Numbered}
-use Rattle.cql_seq.specs.Seq.{IsDown}
+use Rattle.cql_chunks.specs.declared.seq.Numbered.{Numbered}
+use Rattle.cql_chunks.specs.Seq.{IsDown}
 use Rattle.cql_window.specs.Key.{key_cmp, key_cmp_total}
 use Rattle.cql_window.proofs.Keys.{key_exact}
 use Rattle.cql_store.specs.Parts.{key_in, is_before, part_in, AreParted}

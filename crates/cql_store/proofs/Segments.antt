@@ -5,8 +5,8 @@ use Rattle.std.specs.List.{filter, insert, remove, prefix_len, AllByRecursion}
 use Rattle.std.specs.declared.cmp.Ordering.{Ordering}
 use Rattle.std.specs.declared.cmp.Ordering.TheVariants.{Less, Equal, Greater}
 use Rattle.std.specs.Ordering.{is_lt, is_eq}
-use Rattle.cql_seq.specs.declared.seq.Numbered.{Numbered}
-use Rattle.cql_seq.specs.Seq.{IsDown}
+use Rattle.cql_chunks.specs.declared.seq.Numbered.{Numbered}
+use Rattle.cql_chunks.specs.Seq.{IsDown}
 
 -- ---- by what a test says of the first
 

@@ -4,8 +4,8 @@ use Rattle.std.specs.List.{filter, AllByRecursion}
 use Rattle.std.specs.Ordering.{is_lt, is_eq}
 use Rattle.cql_value.specs.declared.value.Value.{Value}
 use Rattle.cql_window.specs.Key.{key_of, key_cmp}
-use Rattle.cql_seq.specs.declared.seq.Numbered.{Numbered}
-use Rattle.cql_seq.specs.Seq.{IsDown}
+use Rattle.cql_chunks.specs.declared.seq.Numbered.{Numbered}
+use Rattle.cql_chunks.specs.Seq.{IsDown}
 
 -- what the row has at the columns by which rows are parted
 abbrev pub key_in : List ℕ → Numbered → List (Option Value)

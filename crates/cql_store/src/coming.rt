@@ -1,12 +1,12 @@
 // One more row among those kept.
 ghost use Rattle.std.specs.Prelude.{◌≡◌, ◌+◌, ℕ, [], map, IfOk};
 ghost use Rattle.std.specs.Arc.{arc_value};
-ghost use Rattle.cql_seq.specs.Seq.{row_in};
+ghost use Rattle.cql_chunks.specs.Seq.{row_in};
 ghost use Rattle.cql_window.specs.Coming.{stays, with_one};
 ghost use Rattle.cql_store.specs.Parts.{AreNumbered, AreParted};
 
 use crate::parted::{before, put};
-use cql_seq::{Numbered, Seq};
+use cql_chunks::{Numbered, Seq};
 use cql_value::{Row, Timed};
 use cql_window::Count;
 use std::alloc::{AllocError, Global};

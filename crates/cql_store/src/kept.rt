@@ -1,13 +1,13 @@
 // The rows that a window of parts keeps.
 ghost use Rattle.std.specs.Prelude.{◌≡◌, [], length, map, IfOk};
 ghost use Rattle.std.specs.Arc.{arc_value};
-ghost use Rattle.cql_seq.specs.Seq.{row_in};
+ghost use Rattle.cql_chunks.specs.Seq.{row_in};
 ghost use Rattle.cql_window.specs.Coming.{with_one};
 
 use crate::coming::come_in;
 use crate::made::{numbered, sort_by_part};
 use crate::parted::parted_by;
-use cql_seq::{Seq, Waste};
+use cql_chunks::{Seq, Waste};
 use cql_value::Timed;
 use cql_window::Count;
 use std::alloc::{AllocError, Global};
@@ -42,7 +42,7 @@ impl Model for Kept {
     ghost use Rattle.std.specs.Prelude.{List, map, ◌≡◌, []};
     ghost use Rattle.std.specs.Arc.{arc_value};
     ghost use Rattle.cql_value.specs.Element.{Element};
-    ghost use Rattle.cql_seq.specs.Seq.{row_in};
+    ghost use Rattle.cql_chunks.specs.Seq.{row_in};
     ghost use Rattle.cql_store.specs.Parts.{AreNumbered, AreParted};
 
     ghost Value = { List Element };

@@ -1,10 +1,10 @@
 // Both lists at once, of rows at hand.
 ghost use Rattle.std.specs.Prelude.{◌≡◌, map, length, IfOk, OnOk};
-ghost use Rattle.cql_seq.specs.Seq.{row_in};
+ghost use Rattle.cql_chunks.specs.Seq.{row_in};
 ghost use Rattle.cql_store.specs.Parts.{AreNumbered, AreParted};
 
 use crate::part::part_cmp;
-use cql_seq::Numbered;
+use cql_chunks::Numbered;
 use cql_value::Timed;
 use std::alloc::{AllocError, Global};
 

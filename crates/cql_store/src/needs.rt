@@ -7,8 +7,7 @@ ghost use Rattle.cql_store.specs.Places.{greatest, AreLonger, AreKnown, AreOf, A
 
 use crate::least::Least;
 use crate::stub::{Stub, mark};
-use cql_chunks::Chunks;
-use cql_seq::Waste;
+use cql_chunks::{Chunks, Waste};
 use slab::Slab;
 use std::alloc::{AllocError, Global};
 use std::marker::Model;

@@ -2,13 +2,13 @@
 ghost use Rattle.std.specs.Prelude.{◌≡◌, ◌≤◌, [], ◌∷◌, ◌++◌, List, IfOk, length};
 ghost use Rattle.std.specs.List.{prefix_len};
 ghost use Rattle.std.specs.Arc.{arc_value};
-ghost use Rattle.cql_seq.specs.Seq.{IsDown};
-ghost use Rattle.cql_seq.specs.declared.seq.Numbered.{Numbered as Entry};
+ghost use Rattle.cql_chunks.specs.Seq.{IsDown};
+ghost use Rattle.cql_chunks.specs.declared.seq.Numbered.{Numbered as Entry};
 ghost use Rattle.cql_window.specs.Key.{key_of};
 ghost use Rattle.cql_store.specs.Parts.{is_before, AreParted};
 
 use crate::part::{is_ahead, part_cmp};
-use cql_seq::{Numbered, Seq};
+use cql_chunks::{Numbered, Seq};
 use cql_value::Row;
 use std::alloc::{AllocError, Global};
 use std::sync::Arc;

@@ -3,8 +3,7 @@ ghost use Rattle.std.specs.Prelude.{◌≡◌, ◌++◌, [], length, IfOk, OnOk}
 ghost use Rattle.cql_store.specs.Places.{emptied, limit};
 
 use crate::kept::Kept as KeptParts;
-use cql_chunks::Chunks;
-use cql_seq::Waste;
+use cql_chunks::{Chunks, Waste};
 use cql_value::Timed;
 use cql_window::Window;
 use std::alloc::{AllocError, Global};

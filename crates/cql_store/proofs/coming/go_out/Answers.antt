@@ -5,7 +5,7 @@ use Rattle.std.specs.List.{remove, prefix_len}
 use Rattle.std.specs.Arc.{arc_value}
 use Rattle.cql_window.specs.Key.{key_of}
 use Rattle.cql_window.specs.Window.{count_part}
-use Rattle.cql_seq.specs.Seq.{row_in, IsDown}
+use Rattle.cql_chunks.specs.Seq.{row_in, IsDown}
 use Rattle.cql_store.specs.Parts.{is_before, AreNumbered, AreParted}
 use Rattle.cql_store.proofs.RowNumbers.{is_below, numbers_down, numbers_remove}
 use Rattle.cql_store.proofs.Staying.{between, stays_few, stays_many, none_past, oldest_leaves}

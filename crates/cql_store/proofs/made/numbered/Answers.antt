@@ -1,7 +1,7 @@
 use Rattle.std.proofs.Common.{rules, ◌≡◌, ◌+◌, map, length, [], ◌∷◌, ◌++◌, sym, ◌∙◌, ap, subst, arith, length-append}
 use Rattle.std.proofs.lemmas.List.{map-append}
-use Rattle.cql_seq.specs.Seq.{row_in}
-use Rattle.cql_seq.specs.declared.seq.Numbered.{Numbered}
+use Rattle.cql_chunks.specs.Seq.{row_in}
+use Rattle.cql_chunks.specs.declared.seq.Numbered.{Numbered}
 use Rattle.cql_store.specs.Parts.{AreNumbered}
 use Rattle.cql_store.proofs.RowNumbers.{numbers_more}
 use Rattle.cql_store.proofs.made.numbered.Goals as goal

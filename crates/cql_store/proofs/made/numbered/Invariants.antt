@@ -1,5 +1,5 @@
 use Rattle.std.proofs.Common.{◌≡◌, length, map}
-use Rattle.cql_seq.specs.Seq.{row_in}
+use Rattle.cql_chunks.specs.Seq.{row_in}
 use Rattle.cql_store.specs.Parts.{AreNumbered}
 use Rattle.cql_store.proofs.made.numbered.Given as goal
 

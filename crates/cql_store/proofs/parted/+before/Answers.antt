@@ -3,8 +3,8 @@ use Rattle.std.proofs.Common.{◌≡◌, ◌∷◌, length, true, false, ap, sub
 use Rattle.std.specs.List.{prefix_len}
 use Rattle.std.specs.Arc.{arc_value}
 use Rattle.cql_window.specs.Key.{key_of}
-use Rattle.cql_seq.specs.Seq.{IsDown}
-use Rattle.cql_seq.proofs.Trees.{down_left, down_right, down_false, down_true}
+use Rattle.cql_chunks.specs.Seq.{IsDown}
+use Rattle.cql_chunks.proofs.Trees.{down_left, down_right, down_false, down_true}
 use Rattle.cql_store.specs.Parts.{is_before}
 use Rattle.cql_store.proofs.parted.+before.Goals as goal
 

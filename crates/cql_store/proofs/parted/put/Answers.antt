@@ -3,7 +3,7 @@ use Rattle.std.specs.List.{insert, prefix_len}
 use Rattle.std.specs.Arc.{arc_value}
 use Rattle.std.proofs.lemmas.Result.{IfOk-weaker}
 use Rattle.cql_window.specs.Key.{key_of}
-use Rattle.cql_seq.specs.Seq.{IsDown}
+use Rattle.cql_chunks.specs.Seq.{IsDown}
 use Rattle.cql_store.specs.Parts.{key_in, is_before, AreParted}
 use Rattle.cql_store.proofs.OneMore.{more_parted}
 use Rattle.cql_store.proofs.parted.put.Goals as goal

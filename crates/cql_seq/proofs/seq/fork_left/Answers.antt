@@ -1,9 +1,0 @@
-use Rattle.std.proofs.lemmas.Grind.{common_steps}
-use Rattle.std.proofs.Common.{arith}
-use Rattle.cql_seq.proofs.seq.fork_left.Goals as goal
-
-pub returns-else-is_outer : goal.returns-else-is_outer
-returns-else-is_outer c = grind (arith, common_steps)
-
-pub returns-then-is_outer : goal.returns-then-is_outer
-returns-then-is_outer c = grind (arith, common_steps)

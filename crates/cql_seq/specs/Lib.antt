@@ -1,2 +1,0 @@
-pub mod Seq
-pub mod Taken

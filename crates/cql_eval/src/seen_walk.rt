@@ -1,13 +1,12 @@
 // Walks over windows of whole rows, seen through places.
 ghost use Rattle.std.specs.Prelude.{◌≡◌, ◌≤◌, ◌++◌, IfOk, IsTrue};
 ghost use Rattle.std.specs.List.Sorted.{IsPermutation};
-ghost use Rattle.cql_places.specs.Places.{at_places};
+ghost use Rattle.cql_window.specs.RowPlaces.{at_places};
 ghost use Rattle.cql_window.specs.Span.{rows_of, rows_in, IsWithin};
 ghost use Rattle.cql_eval.specs.Seen.{fresh, reached, content_seen, seen_by, IsMove};
 
-use cql_places::row_at;
 use cql_value::{Row, Timed, are_same};
-use cql_window::{Moved, Part, Span, Walk, WindowPin};
+use cql_window::{Moved, Part, Span, Walk, WindowPin, row_at};
 use std::alloc::{AllocError, Global};
 use std::marker::Model;
 
@@ -24,7 +23,7 @@ impl<'a> Drop for SeenWalk<'a> {
 }
 
 impl<'a> Model for SeenWalk<'a> {
-    ghost use Rattle.cql_places.specs.Windows.{narrowed_all};
+    ghost use Rattle.cql_window.specs.Through.{narrowed_all};
     ghost use Rattle.cql_eval.specs.Seen.{SeenWalked};
 
     ghost Value = { SeenWalked };

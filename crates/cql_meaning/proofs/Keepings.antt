@@ -3,7 +3,7 @@ use Rattle.std.proofs.Common.{◌≡◌, ℕ, Bool, true, false, List, [], ◌�
 use Rattle.std.specs.Prelude.{Option, Some, None, option_map, unwrap_or, nat_lt, if◌then◌else◌}
 use Rattle.cql_value.specs.Element.{Element}
 use Rattle.cql_window.specs.Window.{charge}
-use Rattle.cql_places.specs.Windows.{wide_window}
+use Rattle.cql_window.specs.Through.{wide_window}
 use Rattle.cql_plan.specs.declared.plan.Input.{Input}
 use Rattle.cql_tenants.specs.declared.home.Home.{Home}
 use Rattle.cql_tenants.specs.Named.{Named, each}

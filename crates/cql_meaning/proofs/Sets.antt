@@ -1,7 +1,7 @@
 -- A new query's stubs have the places that its plan sees all of.
 use Rattle.std.proofs.Common.{◌≡◌, ℕ, true, List, [], ◌∷◌, map, length, refl, ap, subst, ◌∙◌, sym}
 use Rattle.std.specs.Prelude.{Option, Some, None, option_map, Result, Ok, Err, is_some}
-use Rattle.cql_places.specs.Places.{all_places}
+use Rattle.cql_window.specs.RowPlaces.{all_places}
 use Rattle.cql_plan.specs.declared.plan.Input.{Input}
 use Rattle.cql_plan.specs.declared.plan.Planned.{Planned}
 use Rattle.cql_resolve.specs.Seen.{alone, seen_alone, widened_by, widened}

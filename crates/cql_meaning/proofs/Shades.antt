@@ -4,7 +4,7 @@ use Rattle.std.specs.Prelude.{Option, Some, None, option_map, Result, Ok, Err, i
 use Rattle.std.specs.List.{list_any}
 use Rattle.cql_value.specs.Element.{Element}
 use Rattle.cql_window.specs.declared.window.Window.{Window}
-use Rattle.cql_places.specs.Windows.{wide_window}
+use Rattle.cql_window.specs.Through.{wide_window}
 use Rattle.cql_store.specs.Held.{Held, opened, fed, advanced}
 use Rattle.cql_plan.specs.declared.plan.Input.{Input}
 use Rattle.cql_plan.specs.declared.plan.Planned.{Planned}

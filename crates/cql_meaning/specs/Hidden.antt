@@ -1,7 +1,7 @@
 -- Values that no grant to a tenant shows.
 use Rattle.std.specs.Prelude.{◌≡◌, ◌⊎◌, ℕ, false, ◌==◌, List, [], ◌∷◌}
 use Rattle.cql_value.specs.declared.value.Value.{Value}
-use Rattle.cql_places.specs.Places.{at_places}
+use Rattle.cql_window.specs.RowPlaces.{at_places}
 use Rattle.cql_tenants.specs.declared.home.Home.{Home}
 use Rattle.cql_tenants.specs.declared.tenants.Tenant.{Tenant}
 use Rattle.cql_tenants.specs.Home.{nothing_made}

@@ -8,7 +8,7 @@ use Rattle.cql_plan.specs.declared.plan.Input.{Input}
 use Rattle.cql_plan.specs.declared.plan.Planned.{Planned}
 use Rattle.cql_resolve.specs.Sources.{Readable}
 use Rattle.cql_resolve.specs.Seen.{seen_alone, widened_plan}
-use Rattle.cql_places.specs.Windows.{narrowed_all}
+use Rattle.cql_window.specs.Through.{narrowed_all}
 use Rattle.cql_out.specs.declared.told.Block.{Block}
 use Rattle.cql_eval.specs.Pin.{PinSeen}
 use Rattle.cql_meaning.specs.declared.refusal.Refusal.{Refusal}

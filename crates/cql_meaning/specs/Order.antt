@@ -8,7 +8,7 @@ use Rattle.cql_eval.specs.Pin.{PinSeen}
 use Rattle.cql_tenants.specs.declared.stream.Stream.{Stream as Clocked}
 use Rattle.cql_value.specs.declared.schema.Column.{Column}
 use Rattle.cql_tenants.specs.Named.{find_named}
-use Rattle.cql_places.specs.Chosen.{is_shown}
+use Rattle.cql_window.specs.Chosen.{is_shown}
 use Rattle.cql_meaning.specs.declared.command.ColumnText.{ColumnText}
 use Rattle.cql_meaning.specs.declared.command.Command.TheVariants.{Stream, Grant, Revoke, Put, Beat, Query, Fetch, Ack, Drop, List as Lists}
 use Rattle.cql_meaning.specs.declared.refusal.Refusal.{Refusal}

@@ -14,7 +14,7 @@ use Rattle.cql_tenants.specs.declared.stream.Stream.{Stream as stream}
 use Rattle.cql_tenants.specs.declared.tenants.Quotas.{Quotas}
 use Rattle.cql_tenants.specs.declared.tenants.Tenant.{Tenant}
 use Rattle.cql_tenants.specs.Named.{Named, same_name, find_named, change_named, remove_named, each}
-use Rattle.cql_places.specs.Chosen.{is_shown}
+use Rattle.cql_window.specs.Chosen.{is_shown}
 use Rattle.cql_tenants.specs.Home.{no_home}
 use Rattle.cql_tenants.specs.Checks.{put_refused, beat_refused}
 use Rattle.cql_tenants.specs.Directory.{opens}

@@ -3,7 +3,7 @@ use Rattle.std.specs.Prelude.{◌≡◌, ℕ, true, false, List, [], ◌∷◌, 
 use Rattle.cql_value.specs.Element.{Element}
 use Rattle.cql_window.specs.declared.window.Window.{Window}
 use Rattle.cql_window.specs.Window.{content, beyond, charge}
-use Rattle.cql_places.specs.Windows.{narrowed_all, wide_window}
+use Rattle.cql_window.specs.Through.{narrowed_all, wide_window}
 use Rattle.cql_store.specs.Held.{Held}
 use Rattle.cql_tenants.specs.Named.{Named}
 use Rattle.cql_meaning.specs.Source.{BoundInput}

@@ -3,8 +3,8 @@ use Rattle.std.specs.Prelude.{ℕ, Bool, false, ◌&&◌, ◌==◌, List, [], �
 use Rattle.cql_value.specs.Element.{Element}
 use Rattle.cql_tenants.specs.declared.home.Home.{Home}
 use Rattle.cql_tenants.specs.declared.stream.Stream.{Stream as stream}
-use Rattle.cql_places.specs.Places.{at_places}
-use Rattle.cql_places.specs.Chosen.{shown_places}
+use Rattle.cql_window.specs.RowPlaces.{at_places}
+use Rattle.cql_window.specs.Chosen.{shown_places}
 use Rattle.cql_tenants.specs.Home.{is_place, home_at, tenant_named, stream_at, grant_of}
 use Rattle.cql_tenants.specs.Readable.{StreamSeen}
 use Rattle.cql_meaning.specs.declared.command.Command.{Command}

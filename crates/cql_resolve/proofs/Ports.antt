@@ -15,8 +15,8 @@ use Rattle.cql_syntax.specs.declared.syntax.Second.{Second}
 use Rattle.cql_syntax.specs.declared.syntax.Query.{Query}
 use Rattle.cql_window.specs.declared.window.Window.{Window}
 use Rattle.cql_window.specs.declared.window.Window.TheVariants.{Range, Rows, All as all, Parts}
-use Rattle.cql_places.specs.Places.{at_places}
-use Rattle.cql_places.specs.Windows.{wide_window, PartsWithin}
+use Rattle.cql_window.specs.RowPlaces.{at_places}
+use Rattle.cql_window.specs.Through.{wide_window, PartsWithin}
 use Rattle.cql_plan.specs.declared.plan.Input.{Input}
 use Rattle.cql_plan.specs.declared.plan.OutputKind.{OutputKind}
 use Rattle.cql_plan.specs.declared.plan.Planned.{Planned}

@@ -10,9 +10,9 @@ use Rattle.cql_syntax.specs.declared.syntax.SelectBlock.{SelectBlock}
 use Rattle.cql_syntax.specs.declared.syntax.Second.{Second}
 use Rattle.cql_syntax.specs.declared.syntax.Query.{Query}
 use Rattle.cql_window.specs.declared.window.Window.{Window}
-use Rattle.cql_places.specs.Places.{all_places}
-use Rattle.cql_places.specs.Windows.{wide_window}
-use Rattle.cql_places.proofs.Laws.{wide_law}
+use Rattle.cql_window.specs.RowPlaces.{all_places}
+use Rattle.cql_window.specs.Through.{wide_window}
+use Rattle.cql_window.proofs.PlacesLaws.{wide_law}
 use Rattle.cql_plan.specs.declared.condition.Condition.{Condition}
 use Rattle.cql_resolve.specs.declared.error.PlanFault.TheVariants.{AmbiguousColumn, TypeMismatch}
 use Rattle.cql_plan.specs.declared.plan.Input.{Input}

@@ -1,8 +1,8 @@
 -- A caller who sees chosen columns of a stream is told the plan that one is told whose stream has these columns alone.
 use Rattle.std.specs.Prelude.{◌≡◌, length, map, Option, Some, None, Ok, option_map}
 use Rattle.cql_syntax.specs.declared.syntax.Query.{Query}
-use Rattle.cql_places.specs.Places.{all_places}
-use Rattle.cql_places.specs.Windows.{wide_window}
+use Rattle.cql_window.specs.RowPlaces.{all_places}
+use Rattle.cql_window.specs.Through.{wide_window}
 use Rattle.cql_plan.specs.declared.plan.Input.{Input}
 use Rattle.cql_plan.specs.declared.plan.Planned.{Planned}
 use Rattle.cql_resolve.specs.Outcome.{Outcome, ◌>>=◌}

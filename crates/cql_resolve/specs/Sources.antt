@@ -13,7 +13,7 @@ use Rattle.cql_plan.specs.declared.plan.Input.{Input}
 use Rattle.cql_resolve.specs.declared.row.Field.{Field}
 use Rattle.cql_resolve.specs.declared.source.Source.{Source}
 use Rattle.cql_resolve.specs.declared.source.Joined.{Joined}
-use Rattle.cql_places.specs.Windows.{wide_window}
+use Rattle.cql_window.specs.Through.{wide_window}
 use Rattle.cql_resolve.specs.Outcome.{Outcome, ◌>>=◌, each}
 use Rattle.cql_resolve.specs.Visible.{Visible}
 use Rattle.cql_resolve.specs.Columns.{fields_of, kinds_of, column_named}

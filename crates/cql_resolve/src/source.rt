@@ -10,11 +10,10 @@ ghost use Rattle.cql_resolve.specs.Visible.{visible_of};
 use crate::error::{PlanError, PlanFault};
 use crate::lookup::{Lookup, Readable};
 use crate::row::{Field, column_named, fields_of, kinds_of};
-use cql_places::wide_window;
 use cql_plan::Input;
 use cql_syntax::syntax;
 use cql_value::{ColumnType, Items, Name};
-use cql_window::{Count, Length, Window};
+use cql_window::{Count, Length, Window, wide_window};
 use std::alloc::{AllocError, Global};
 
 /// An input of a block: what the plan keeps of it, its alias and its columns.

@@ -1,6 +1,6 @@
 -- A list that is written item by item.
 use Rattle.std.proofs.Common.{◌≡◌, ℕ, ◌+◌, List, [], ◌∷◌, ◌++◌, map, take, slice_get, Some, refl, ap, ◌∙◌}
-use Rattle.cql_places.proofs.Picks.{take_one}
+use Rattle.cql_window.proofs.Picks.{take_one}
 
 map_push : {A B : Type 0} (f : A → B) (xs : List A) (x : A) → map f (xs ++ x ∷ []) ≡ map f xs ++ f x ∷ []
 map_push f [] x = refl

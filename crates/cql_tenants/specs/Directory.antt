@@ -5,8 +5,8 @@ use Rattle.cql_value.specs.declared.schema.Column.{Column}
 use Rattle.cql_tenants.specs.declared.refusal.StreamRefusal.{StreamRefusal}
 use Rattle.cql_tenants.specs.declared.refusal.StreamRefusal.TheVariants.{UnknownTenant}
 use Rattle.cql_tenants.specs.Named.{change_named, place_of}
-use Rattle.cql_places.specs.Places.{at_places}
-use Rattle.cql_places.specs.Chosen.{shown_places}
+use Rattle.cql_window.specs.RowPlaces.{at_places}
+use Rattle.cql_window.specs.Chosen.{shown_places}
 use Rattle.cql_tenants.specs.Home.{Home, Stream, Grant, is_place, home_at, change_home, tenant_named, stream_at, without_grant}
 use Rattle.cql_tenants.specs.Checks.{make_refused, grant_refused, revoke_refused, put_refused, beat_refused}
 

@@ -3,7 +3,7 @@ use Rattle.std.specs.Prelude.{◌≡◌, ◌<◌, ℕ, List, [], ◌∷◌, leng
 use Rattle.std.specs.List.{AllByRecursion}
 use Rattle.cql_tenants.specs.declared.tenants.Tenant.{Tenant}
 use Rattle.cql_tenants.specs.Named.{Named, find_named, place_of}
-use Rattle.cql_places.specs.Places.{at_places}
+use Rattle.cql_window.specs.RowPlaces.{at_places}
 use Rattle.cql_tenants.specs.Home.{Home, Stream, Grant, nothing_made, home_at, stream_at, grant_of}
 use Rattle.cql_tenants.specs.Directory.{StreamCommand, refused, done, directory_after}
 

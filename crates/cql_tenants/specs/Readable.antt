@@ -8,7 +8,7 @@ use Rattle.cql_tenants.specs.declared.readable.Found.{Found}
 use Rattle.cql_tenants.specs.declared.readable.OwnStream.{OwnStream}
 use Rattle.cql_tenants.specs.Named.{Named}
 pub use Rattle.cql_tenants.specs.Granted.{ReadStream, named_columns}
-use Rattle.cql_places.specs.Places.{all_places}
+use Rattle.cql_window.specs.RowPlaces.{all_places}
 use Rattle.cql_tenants.specs.Home.{Home, Stream, Grant, is_place, home_at, tenant_named, stream_at, opened_at, grant_of}
 
 -- a stream of the tenant's own goes by its name

@@ -4,8 +4,8 @@ ghost use Rattle.std.specs.Result.{result_err};
 ghost use Rattle.cql_order.specs.Clock.{time_fault};
 ghost use Rattle.cql_tenants.specs.Named.{place_of};
 ghost use Rattle.cql_tenants.specs.Home.{nothing_made, is_place, home_at, change_home, tenant_named, stream_at, grant_of};
-ghost use Rattle.cql_places.specs.Places.{at_places, AreWithin};
-ghost use Rattle.cql_places.specs.Chosen.{is_shown};
+ghost use Rattle.cql_window.specs.RowPlaces.{at_places, AreWithin};
+ghost use Rattle.cql_window.specs.Chosen.{is_shown};
 ghost use Rattle.cql_tenants.specs.Checks.{grantee_refused, taken_refused};
 ghost use Rattle.cql_tenants.specs.Directory.{Make, Share, Revoke, Put, Beat, with_time, refused, directory_after};
 ghost use Rattle.cql_tenants.specs.Readable.{readable_to, own_stream, read_stream, owner_meant, seen_of, own_found, granted_found, found, granted_places, places_seen};
@@ -18,8 +18,8 @@ use crate::readable::{
 };
 use crate::refusal::StreamRefusal;
 use crate::tenants::{Quotas, TenantId, TenantTable};
-use cql_places::{all_places, is_shown};
 use cql_value::{Items, Row, Schema, Text};
+use cql_window::{all_places, is_shown};
 use std::alloc::{AllocError, Global};
 use std::marker::Model;
 

@@ -1,6 +1,6 @@
 // A grant, and what lists share of it.
 ghost use Rattle.std.specs.Prelude.{◌≡◌, true, Some, IfOk, option_copied, slice_get};
-ghost use Rattle.cql_places.specs.Chosen.{is_shown};
+ghost use Rattle.cql_window.specs.Chosen.{is_shown};
 ghost use Rattle.cql_tenants.specs.Home.{is_of};
 ghost use Rattle.cql_tenants.specs.Directory.{grant_over};
 ghost use Rattle.cql_tenants.specs.Held.{shown_of};
@@ -8,8 +8,8 @@ ghost use Rattle.cql_tenants.specs.Held.{shown_of};
 use crate::held::Held;
 use crate::shared::Shared;
 use crate::tenants::TenantId;
-use cql_places::{schema_at, shown_places};
 use cql_value::{Items, Schema, Text};
+use cql_window::{schema_at, shown_places};
 use std::alloc::{AllocError, Global};
 use std::marker::Model;
 

@@ -14,8 +14,8 @@ use crate::shared::Shared;
 use crate::shelf::Shelf;
 use crate::stream::Stream;
 use crate::tenants::TenantId;
-use cql_places::all_places;
 use cql_value::{Column, Items, Name, Schema, Text};
+use cql_window::all_places;
 use std::alloc::{AllocError, Global};
 use std::marker::Model;
 

@@ -11,8 +11,8 @@ use Rattle.cql_value.specs.Schema.{type_of, HasTypes}
 use Rattle.cql_window.specs.declared.window.Window.{Window}
 use Rattle.cql_window.specs.declared.window.Window.TheVariants.{Range, Rows, All as all, Parts}
 use Rattle.cql_window.specs.Pin.{HasColumns, AreRows}
-use Rattle.cql_places.specs.Places.{at_places}
-use Rattle.cql_places.specs.Windows.{narrowed_all}
+use Rattle.cql_window.specs.RowPlaces.{at_places}
+use Rattle.cql_window.specs.Through.{narrowed_all}
 use Rattle.cql_plan.specs.Ports.{PartsAmong}
 use Rattle.cql_eval.specs.Pin.{AreOf}
 use Rattle.cql_tests.specs.Pins.{one_number, one_place, AreFit}

@@ -14,7 +14,6 @@ use cql_core::law::{
     query_law, refusal_law, relation_law, reply_law, rows_held_law, solo_law, stubs_law,
 };
 use cql_out::law::{blocks_are_unique, blocks_law, local_law};
-use cql_places::law::{all_places_law, chain_law, narrow_law, twice_law, wide_law};
 use cql_resolve::law::{
     column_law, first_fault_law, form_law, plain_law, ports_law, qualified_law, seen_law,
 };
@@ -24,6 +23,7 @@ use cql_tenants::law::{directory_law, grant_law, place_law};
 use cql_text::read_law;
 use cql_value::law::types_law;
 use cql_window::laws::{all_law, held_law, parts_law, range_law, rows_law};
+use cql_window::places_law::{all_places_law, chain_law, narrow_law, twice_law, wide_law};
 
 #[test]
 fn laws() {

@@ -1,6 +1,6 @@
 use Rattle.std.proofs.Common.{◌≡◌, ◌++◌, ◌∙◌, sym, subst}
 use Rattle.cql_window.specs.Pin.{AreRows}
-use Rattle.cql_places.specs.Windows.{narrowed_all}
+use Rattle.cql_window.specs.Through.{narrowed_all}
 use Rattle.cql_plan.specs.Ports.{PartsAmong}
 use Rattle.cql_eval.specs.Pin.{AreOf}
 use Rattle.cql_tests.specs.Pins.{one_number, one_place}

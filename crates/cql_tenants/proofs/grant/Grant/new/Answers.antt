@@ -1,8 +1,8 @@
 use Rattle.std.proofs.Common.{◌∙◌}
 use Rattle.std.specs.Prelude.{option_copied}
 use Rattle.cql_value.specs.Schema.{is_schema}
-use Rattle.cql_places.specs.Places.{at_places}
-use Rattle.cql_places.proofs.Choices.{shown_schema}
+use Rattle.cql_window.specs.RowPlaces.{at_places}
+use Rattle.cql_window.proofs.Choices.{shown_schema}
 use Rattle.cql_tenants.proofs.grant.Grant.new.Goals as goal
 
 pub schema_at-requires : goal.schema_at-requires

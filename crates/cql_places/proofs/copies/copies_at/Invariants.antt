@@ -1,7 +1,0 @@
-use Rattle.std.proofs.Common.{◌≡◌, take}
-use Rattle.cql_places.specs.Places.{at_places}
-use Rattle.cql_places.proofs.copies.copies_at.Given as goal
-
--- the values at the places so far
-abbrev pub invariant-loop-place : goal.invariant-loop-place
-invariant-loop-place g l = l.copies.items ≡ at_places l.values (take l.place-index l.places)

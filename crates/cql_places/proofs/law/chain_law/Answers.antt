@@ -1,5 +1,0 @@
-use Rattle.cql_places.proofs.Laws as laws
-use Rattle.cql_places.proofs.law.chain_law.Goals as goal
-
-pub returns : goal.returns
-returns c = laws.chain_law

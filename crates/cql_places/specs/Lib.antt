@@ -1,4 +1,0 @@
-pub mod Chosen
-pub mod Law
-pub mod Places
-pub mod Windows

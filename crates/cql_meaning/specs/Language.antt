@@ -9,7 +9,7 @@ use Rattle.cql_plan.specs.declared.plan.Planned.{Planned}
 use Rattle.cql_resolve.specs.Sources.{Readable}
 use Rattle.cql_resolve.specs.Seen.{seen_alone, widened_plan}
 use Rattle.cql_window.specs.Through.{narrowed_all}
-use Rattle.cql_out.specs.declared.told.Block.{Block}
+use Rattle.cql_algebra.specs.declared.told.Block.{Block}
 use Rattle.cql_eval.specs.Pin.{PinSeen}
 use Rattle.cql_meaning.specs.declared.refusal.Refusal.{Refusal}
 use Rattle.cql_meaning.specs.Source.{Source, Found, schemas, columns_at, BoundPlan, bound}

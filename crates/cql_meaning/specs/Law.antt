@@ -1,7 +1,7 @@
 -- The other laws of the machine and of the meaning.
 use Rattle.std.specs.Prelude.{◌≡◌, ◌≤◌, ◌⊎◌, ℕ, Bool, true, false, ◌==◌, ◌&&◌, ◌||◌, List, [], ◌∷◌, ◌++◌, Option, Some, None, Ok, unwrap_or, if◌then◌else◌}
 use Rattle.std.specs.List.{AllByRecursion, list_any}
-use Rattle.cql_out.specs.declared.told.Block.{Block}
+use Rattle.cql_algebra.specs.declared.told.Block.{Block}
 use Rattle.cql_tenants.specs.declared.tenants.Tenant.{Tenant}
 use Rattle.cql_tenants.specs.Named.{same_name, find_named}
 use Rattle.cql_tenants.specs.Home.{nothing_made}

@@ -1,7 +1,7 @@
 -- What the line of a reply shows, and what a step is.
 use Rattle.std.specs.Prelude.{ℕ, Bool, true, false, ◌==◌, List, Option, Some, None}
 use Rattle.cql_tenants.specs.declared.refusal.StreamRefusal.{StreamRefusal}
-use Rattle.cql_out.specs.declared.told.Block.{Block}
+use Rattle.cql_algebra.specs.declared.told.Block.{Block}
 use Rattle.cql_meaning.specs.declared.listing.Listing.{Listing}
 use Rattle.cql_meaning.specs.declared.refusal.Refusal.{Refusal}
 use Rattle.cql_meaning.specs.declared.refusal.Refusal.TheVariants.{NoMemory}

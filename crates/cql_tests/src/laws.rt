@@ -5,6 +5,7 @@ use cql_algebra::law::{
     joined_law, joined_types_law, key_law, keys_law, max_law, min_law, node_types_law,
     overflow_law, plain_items_law, plan_law, product_law, shape_examples, sum_law, whole_law,
 };
+use cql_algebra::output_law::{blocks_are_unique, blocks_law, local_law};
 use cql_bag::law::{
     bag_of_counts, distinct_counts, listing_counts, listing_size, minus_counts, own_entries,
     plus_counts, put_all_counts, same_counts, take_counts,
@@ -13,7 +14,6 @@ use cql_core::law::{
     alone_law, fetch_law, hidden_law, history_law, isolation_law, language_law, limit_law,
     query_law, refusal_law, relation_law, reply_law, rows_held_law, solo_law, stubs_law,
 };
-use cql_out::law::{blocks_are_unique, blocks_law, local_law};
 use cql_resolve::law::{
     column_law, first_fault_law, form_law, plain_law, ports_law, qualified_law, seen_law,
 };

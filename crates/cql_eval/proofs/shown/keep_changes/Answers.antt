@@ -1,6 +1,6 @@
 use Rattle.std.proofs.Common.{sym, subst}
 use Rattle.cql_bag.specs.Changes.{changed_by}
-use Rattle.cql_out.specs.declared.relation.Relation.TheVariants.{Bag}
+use Rattle.cql_algebra.specs.declared.relation.Relation.TheVariants.{Bag}
 use Rattle.cql_eval.specs.Shown.{StandsFor}
 use Rattle.cql_eval.proofs.Differences.{kept_other}
 use Rattle.cql_eval.proofs.shown.keep_changes.Goals as goal

@@ -1,6 +1,6 @@
 use Rattle.std.proofs.Common.{sym, subst}
 use Rattle.std.proofs.lemmas.Result.{IfOk-weaker}
-use Rattle.cql_out.specs.declared.relation.Relation.TheVariants.{Bag}
+use Rattle.cql_algebra.specs.declared.relation.Relation.TheVariants.{Bag}
 use Rattle.cql_eval.specs.Shown.{StandsFor, LeadsTo, Tells}
 use Rattle.cql_eval.proofs.shown.tell.Goals as goal
 

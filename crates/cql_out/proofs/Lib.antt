@@ -1,4 +1,0 @@
-mod Blocks
-mod Every
-mod Extend
-mod Instances

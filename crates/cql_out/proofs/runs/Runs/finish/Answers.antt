@@ -1,5 +1,0 @@
-use Rattle.std.proofs.Common.{rules}
-use Rattle.cql_out.proofs.runs.Runs.finish.Goals as goal
-
-pub returns : goal.returns
-returns c = search rules

@@ -1,4 +1,0 @@
-pub mod Blocks
-pub mod ByKind
-pub mod Output
-pub mod Runs

@@ -4,7 +4,7 @@ use Rattle.std.specs.Prelude.{Option, Some, None, option_map, Result, Ok, Err, i
 use Rattle.cql_window.specs.RowPlaces.{all_places}
 use Rattle.cql_plan.specs.declared.plan.Input.{Input}
 use Rattle.cql_plan.specs.declared.plan.Planned.{Planned}
-use Rattle.cql_resolve.specs.Seen.{alone, seen_alone, widened_by, widened}
+use Rattle.cql_plan.specs.Seen.{alone, seen_alone, widened_by, widened}
 use Rattle.cql_tenants.specs.declared.home.Home.{Home}
 use Rattle.cql_tenants.specs.Readable.{StreamSeen}
 use Rattle.cql_meaning.specs.declared.refusal.Refusal.{Refusal}

@@ -8,7 +8,7 @@ use Rattle.cql_window.specs.Through.{wide_window}
 use Rattle.cql_store.specs.Held.{Held, opened, fed, advanced}
 use Rattle.cql_plan.specs.declared.plan.Input.{Input}
 use Rattle.cql_plan.specs.declared.plan.Planned.{Planned}
-use Rattle.cql_resolve.specs.Seen.{alone, seen_alone, widened_by, widened, widened_plan}
+use Rattle.cql_plan.specs.Seen.{alone, seen_alone, widened_by, widened, widened_plan}
 use Rattle.cql_tenants.specs.declared.home.Home.{Home}
 use Rattle.cql_tenants.specs.Named.{Named, same_name, change_named, each}
 use Rattle.cql_tenants.specs.Readable.{StreamSeen}

@@ -6,8 +6,8 @@ use Rattle.cql_window.specs.Window.{content}
 use Rattle.cql_window.specs.Pin.{Pinned}
 use Rattle.cql_plan.specs.declared.plan.Input.{Input}
 use Rattle.cql_plan.specs.declared.plan.Planned.{Planned}
-use Rattle.cql_resolve.specs.Sources.{Readable}
-use Rattle.cql_resolve.specs.Seen.{seen_alone, widened_plan}
+use Rattle.cql_plan.specs.Sources.{Readable}
+use Rattle.cql_plan.specs.Seen.{seen_alone, widened_plan}
 use Rattle.cql_window.specs.Through.{narrowed_all}
 use Rattle.cql_algebra.specs.declared.told.Block.{Block}
 use Rattle.cql_eval.specs.Pin.{PinSeen}

@@ -1,2 +1,19 @@
 pub mod CrossTrees
 pub mod CrossQueries
+mod Finding
+mod Bounds
+mod Each
+mod Few
+mod Meant
+mod Firsts
+mod FitExpressions
+mod FitConditions
+mod Fits
+mod Joined
+mod Qualified
+mod Ports
+mod Seen
+mod PlainPlans
+pub mod CrossWrittenTrees
+pub mod CrossWritten
+mod Instances

@@ -4,3 +4,11 @@ pub mod Fit
 pub mod Node
 pub mod Ports
 pub mod Plan
+pub mod Outcome
+pub mod Visible
+pub mod Columns
+pub mod Sources
+pub mod Typing
+pub mod PortsRead
+pub mod Law
+pub mod Seen

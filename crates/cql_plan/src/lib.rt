@@ -1,15 +1,28 @@
-//! What is computed for a query: plans, and how their expressions and conditions are evaluated.
+//! What is computed for a query: plans, how their expressions and conditions are evaluated, and how a
+//! query is typed and planned.
 #![tactic(auto)]
 
+mod block;
 pub mod condition;
+pub mod error;
 pub mod expr;
 mod fault;
+mod item;
+pub mod law;
+pub mod lookup;
 pub mod node;
 pub mod plan;
+mod resolution;
+mod row;
 mod same;
+mod source;
+mod typed;
 
 pub use condition::{Condition, Operand, compares, meets};
+pub use error::{PlanError, PlanFault};
 pub use expr::{Expr, evaluate};
 pub use fault::Fault;
+pub use lookup::{Lookup, Readable};
 pub use node::{Item, Join, Node, OperatorKind, SetOp, Shape};
 pub use plan::{Branch, Combined, Input, OutputKind, Plan, Planned};
+pub use resolution::resolve;

@@ -14,7 +14,7 @@ use cql_core::law::{
     alone_law, fetch_law, hidden_law, history_law, isolation_law, language_law, limit_law,
     query_law, refusal_law, relation_law, reply_law, rows_held_law, solo_law, stubs_law,
 };
-use cql_resolve::law::{
+use cql_plan::law::{
     column_law, first_fault_law, form_law, plain_law, ports_law, qualified_law, seen_law,
 };
 use cql_store::streams_law::remove_law;

@@ -1,0 +1,12 @@
+use Rattle.std.proofs.lemmas.Grind.{common_steps}
+use Rattle.std.proofs.Common.{arith}
+use Rattle.cql_plan.specs.Typing.{all_items}
+use Rattle.cql_plan.proofs.item.all_items.Goals as goal
+
+pub loop-place-preserved : goal.loop-place-preserved
+unfolding all_items
+loop-place-preserved c = grind (arith, common_steps)
+
+pub returns : goal.returns
+unfolding all_items
+returns c = grind (arith, common_steps)

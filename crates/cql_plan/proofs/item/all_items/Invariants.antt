@@ -1,0 +1,7 @@
+use Rattle.std.proofs.Common.{◌≡◌, ◌++◌, drop}
+use Rattle.cql_plan.specs.Typing.{all_items}
+use Rattle.cql_plan.proofs.item.all_items.Given as goal
+
+-- all items are those so far and those of the columns left
+abbrev pub invariant-loop-place : goal.invariant-loop-place
+invariant-loop-place l = all_items 0 l.fields ≡ l.items.items ++ all_items l.place (drop l.place l.fields)

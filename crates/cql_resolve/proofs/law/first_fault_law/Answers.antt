@@ -1,5 +1,0 @@
-use Rattle.cql_resolve.proofs.Firsts.{first_fault_law}
-use Rattle.cql_resolve.proofs.law.first_fault_law.Goals as goal
-
-pub returns : goal.returns
-returns c = first_fault_law

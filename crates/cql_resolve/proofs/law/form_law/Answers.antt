@@ -1,5 +1,0 @@
-use Rattle.cql_resolve.proofs.Fits.{form_law}
-use Rattle.cql_resolve.proofs.law.form_law.Goals as goal
-
-pub returns : goal.returns
-returns c = form_law

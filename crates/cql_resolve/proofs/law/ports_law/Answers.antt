@@ -1,5 +1,0 @@
-use Rattle.cql_resolve.proofs.Ports.{ports_law}
-use Rattle.cql_resolve.proofs.law.ports_law.Goals as goal
-
-pub returns : goal.returns
-returns c = ports_law

@@ -12,7 +12,7 @@ use Rattle.serde_json.specs.Find.{get_member}
 use Rattle.serde_json.specs.Read.{of_json, number_of, converted}
 use Rattle.serde_json.proofs.Views.{get_member-put, get_member-put_other}
 use Rattle.cql_value.specs.declared.value.Value.{Value}
-use Rattle.cql_meaning.specs.declared.command.Command.{Command}
+use Rattle.cql_core.specs.declared.command.Command.{Command}
 use Rattle.cql_asked.specs.declared.put.NoPut.{NoPut}
 use Rattle.cql_asked.specs.declared.put.Put.{Put}
 use Rattle.cql_asked.specs.declared.command.Word.TheVariants as kinds

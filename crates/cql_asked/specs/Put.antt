@@ -6,7 +6,7 @@ use Rattle.serde_json.specs.Data.{Data, number, unsigned, string, object, Items,
 use Rattle.serde_json.specs.Find.{get_member, as_array}
 use Rattle.serde_json.specs.Read.{of_json, of_items, of_members, converted}
 use Rattle.cql_value.specs.declared.value.Value.{Value}
-use Rattle.cql_meaning.specs.declared.command.Command.{Command}
+use Rattle.cql_core.specs.declared.command.Command.{Command}
 use Rattle.cql_asked.specs.declared.put.Put.{Put}
 use Rattle.cql_asked.specs.declared.command.Word.TheVariants as kinds
 use Rattle.cql_asked.specs.Tree.{are_among, all_of}

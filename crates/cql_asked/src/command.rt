@@ -14,7 +14,7 @@ use crate::reading::{line_text, read_tree};
 use crate::tree::{
     Tree, array_at, has_only, optional_array, optional_text, optional_whole, text_at, whole_at,
 };
-use cql_meaning::{ColumnText, Command};
+use cql_core::{ColumnText, Command};
 use cql_value::{Items, Row, Text, Value};
 use json::Scratch;
 use std::alloc::{AllocError, Global};

@@ -12,8 +12,8 @@ ghost use Rattle.cql_asked.specs.Put.{Reads, ReadsValue, ReadsRow, ReadsItems, R
 use crate::named::Named;
 use crate::reading::read_number;
 use crate::tree::Number;
+use cql_core::Command;
 use cql_lines::{NotPlain, Reader};
-use cql_meaning::Command;
 use cql_value::{Row, Text, Value};
 use json::Token;
 use std::alloc::{AllocError, AllocFailed, Global};

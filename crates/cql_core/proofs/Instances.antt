@@ -5,16 +5,16 @@ use Rattle.cql_value.specs.Name as words
 use Rattle.cql_tenants.specs.declared.tenants.Tenant.{Tenant}
 use Rattle.cql_tenants.specs.Named.{same_name}
 use Rattle.cql_tenants.specs.Home.{nothing_made}
-use Rattle.cql_meaning.specs.declared.command.Command.{Command}
-use Rattle.cql_meaning.specs.declared.command.Command.TheVariants.{Stream}
-use Rattle.cql_meaning.specs.declared.refusal.Refusal.TheVariants.{NoMemory, StreamExists}
-use Rattle.cql_meaning.specs.Told.{Done, Refused}
-use Rattle.cql_meaning.specs.Machine.{opening}
-use Rattle.cql_meaning.specs.View.{view}
-use Rattle.cql_meaning.specs.Solo.{nothing_known, solo}
-use Rattle.cql_meaning.specs.Headline.{Made, IsLegal, IsHistoryLaw, sent}
+use Rattle.cql_core.specs.declared.command.Command.{Command}
+use Rattle.cql_core.specs.declared.command.Command.TheVariants.{Stream}
+use Rattle.cql_core.specs.declared.refusal.Refusal.TheVariants.{NoMemory, StreamExists}
+use Rattle.cql_core.specs.Told.{Done, Refused}
+use Rattle.cql_core.specs.Machine.{opening}
+use Rattle.cql_core.specs.View.{view}
+use Rattle.cql_core.specs.Solo.{nothing_known, solo}
+use Rattle.cql_core.specs.Headline.{Made, IsLegal, IsHistoryLaw, sent}
 use Rattle.cql_core.specs.declared.journal.Mark.TheVariants as mark
-use Rattle.cql_core.specs.Language.{cql}
+use Rattle.cql_core.specs.Cql.{cql}
 use Rattle.cql_core.specs.Journal.{Noted, IsJournal, IsTold, IsJournalLaw}
 
 abbrev table : List Tenant

@@ -1,7 +1,7 @@
 // How many rows the streams of a tenant hold.
 ghost use Rattle.std.specs.Prelude.{◌≡◌, All, Some, IfOk, OnOk};
-ghost use Rattle.cql_meaning.specs.Source.{source_of};
-ghost use Rattle.cql_meaning.specs.Rows.{rows_held};
+ghost use Rattle.cql_core.specs.Source.{source_of};
+ghost use Rattle.cql_core.specs.Rows.{rows_held};
 
 use crate::machine::Core;
 use cql_tenants::TenantId;

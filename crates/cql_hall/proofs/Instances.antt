@@ -4,11 +4,11 @@ use Rattle.std.specs.Prelude.{codes, All}
 use Rattle.cql_value.specs.Name as words
 use Rattle.cql_tenants.specs.declared.tenants.Tenant.{Tenant}
 use Rattle.cql_tenants.specs.Named.{same_name}
-use Rattle.cql_meaning.specs.declared.command.Command.{Command}
-use Rattle.cql_meaning.specs.declared.command.Command.TheVariants.{Stream}
-use Rattle.cql_meaning.specs.declared.refusal.Refusal.TheVariants.{StreamExists}
-use Rattle.cql_meaning.specs.Told.{Told, Done, Refused, Says}
-use Rattle.cql_meaning.specs.Machine.{opening}
+use Rattle.cql_core.specs.declared.command.Command.{Command}
+use Rattle.cql_core.specs.declared.command.Command.TheVariants.{Stream}
+use Rattle.cql_core.specs.declared.refusal.Refusal.TheVariants.{StreamExists}
+use Rattle.cql_core.specs.Told.{Told, Done, Refused, Says}
+use Rattle.cql_core.specs.Machine.{opening}
 use Rattle.cql_core.specs.declared.journal.Mark.TheVariants as mark
 use Rattle.cql_core.specs.Journal.{IsJournal}
 use Rattle.cql_hall.specs.Audit.{Journal, Heard, LeavesFree, Agrees, AllAgree, FirstFails}

@@ -7,8 +7,8 @@ use Rattle.std.proofs.lemmas.Bool.Decides.{nat_tests}
 use Rattle.std.proofs.lemmas.List.{append-nil, map-append, map-set, length-map, get_or-set_same, get_or-set_other}
 use Rattle.std.proofs.lemmas.List.Elements.{All-nil, All-cons, All-head, All-tail, All-append, All-push, All-weaker, All-contains, Contains-push, Contains-append_left, filter-append}
 use Rattle.std.proofs.lemmas.Option.{slice_get_within, get_or_from_slice_get}
-use Rattle.cql_meaning.specs.Told.{Stepped}
-use Rattle.cql_meaning.specs.Machine.{State, opening}
+use Rattle.cql_core.specs.Told.{Stepped}
+use Rattle.cql_core.specs.Machine.{State, opening}
 use Rattle.cql_core.specs.Journal.{Noted}
 use Rattle.cql_hall.specs.Audit.{Journal, Heard, is_want}
 use Rattle.cql_hall.specs.Alone.{IsToldAlone, alone_before, HoldsAlone, AgreesAlone, FirstFailsAlone}

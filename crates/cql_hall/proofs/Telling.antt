@@ -2,9 +2,9 @@
 use Rattle.std.proofs.Common.{◌≡◌, ℕ, Bool, true, false, ◌&&◌, ◌||◌, not, ◌==◌, List, [], ◌∷◌, ◌++◌, take, refl, ap, ◌∙◌, sym, subst, arith}
 use Rattle.std.specs.Prelude.{Some, None, IsSomeAnd, slice_get, if◌then◌else◌}
 use Rattle.std.proofs.lemmas.Bool.Decides.{nat_tests}
-use Rattle.cql_meaning.specs.Told.{Stepped}
-use Rattle.cql_meaning.specs.Machine.{State, opening, state_after}
-use Rattle.cql_core.specs.Language.{cql}
+use Rattle.cql_core.specs.Told.{Stepped}
+use Rattle.cql_core.specs.Machine.{State, opening, state_after}
+use Rattle.cql_core.specs.Cql.{cql}
 use Rattle.cql_core.specs.Prepared.{is_on_query}
 use Rattle.cql_core.specs.Journal.{Noted, is_unsent, after, replayed}
 use Rattle.cql_hall.specs.Audit.{Journal, told}

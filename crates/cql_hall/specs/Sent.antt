@@ -1,7 +1,7 @@
 -- What an audit of one tenant asks of its receipts, and the number of the first that fails.
 use Rattle.std.specs.Prelude.{◌≡◌, ℕ, ◌+◌, ◌<◌, Bool, true, ◌&&◌, ◌==◌, not, List, [], ◌∷◌, ◌++◌, map, filter, Option, Some, None, IfSome, IsSomeAnd, All, Contains, ◌⊎◌, slice_get, slice_index_or, if◌then◌else◌, nat_lt}
 use Rattle.std.specs.Borrow.{Bor}
-use Rattle.cql_meaning.specs.Told.{Stepped}
+use Rattle.cql_core.specs.Told.{Stepped}
 use Rattle.cql_core.specs.Steps.{answered_by}
 use Rattle.cql_hall.specs.declared.lobby.Receipt.{Receipt}
 use Rattle.cql_hall.specs.Audit.{Journal, Called, Heard, is_want}

@@ -2,7 +2,7 @@
 ghost use Rattle.std.specs.Prelude.{◌≡◌, ◌&&◌, map, option_map, length, false, Some, IfOk, IfErr, IfSome};
 ghost use Rattle.std.specs.Arc.{arc_value};
 ghost use Rattle.std.specs.Bool.{Decides};
-ghost use Rattle.cql_meaning.specs.Machine.{State};
+ghost use Rattle.cql_core.specs.Machine.{State};
 ghost use Rattle.cql_core.specs.Journal.{is_unsent, after};
 ghost use Rattle.cql_core.specs.Steps.{stepped_of, answered_by};
 ghost use Rattle.cql_hall.specs.Entering.{noted};

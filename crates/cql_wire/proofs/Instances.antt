@@ -4,9 +4,9 @@ use Rattle.std.specs.Prelude.{codes}
 use Rattle.cql_value.specs.Name as words
 use Rattle.cql_tenants.specs.declared.tenants.Tenant.{Tenant}
 use Rattle.cql_tenants.specs.Named.{same_name}
-use Rattle.cql_meaning.specs.declared.command.Command.{Command}
-use Rattle.cql_meaning.specs.declared.command.Command.TheVariants.{Stream}
-use Rattle.cql_meaning.specs.Told.{Done, no_memory}
+use Rattle.cql_core.specs.declared.command.Command.{Command}
+use Rattle.cql_core.specs.declared.command.Command.TheVariants.{Stream}
+use Rattle.cql_core.specs.Told.{Done, no_memory}
 use Rattle.cql_wire.specs.Asked.{Asked}
 use Rattle.cql_wire.specs.Line.{told_line}
 use Rattle.cql_wire.specs.Output.{IsOutput, StandsIn, output_from, OutputLaw}

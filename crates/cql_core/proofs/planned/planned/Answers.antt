@@ -1,6 +1,6 @@
 use Rattle.std.proofs.lemmas.Grind.{common_steps}
 use Rattle.std.proofs.Common.{arith}
-use Rattle.cql_core.specs.Language.{planned}
+use Rattle.cql_core.specs.Cql.{planned}
 use Rattle.cql_core.proofs.planned.planned.Goals as goal
 
 pub returns-in-Err-Refused : goal.returns-in-Err-Refused

@@ -3,7 +3,7 @@ use Rattle.std.specs.Prelude.{option_map}
 use Rattle.std.specs.List.{take-map}
 use Rattle.std.proofs.lemmas.List.{length-map}
 use Rattle.std.proofs.lemmas.List.Elements.{All-same}
-use Rattle.cql_meaning.specs.Machine.{opening}
+use Rattle.cql_core.specs.Machine.{opening}
 use Rattle.cql_core.specs.Steps.{stepped_of}
 use Rattle.cql_hall.specs.Entering.{noted}
 use Rattle.cql_hall.specs.Audit.{Journal}

@@ -1,5 +1,5 @@
 use Rattle.std.proofs.Common.{◌≡◌, map, take}
-use Rattle.cql_meaning.specs.Machine.{opening}
+use Rattle.cql_core.specs.Machine.{opening}
 use Rattle.cql_hall.specs.Entering.{noted}
 use Rattle.cql_hall.specs.Sent.{sent_as}
 use Rattle.cql_hall.specs.Tells.{replayed_alone}

@@ -1,7 +1,7 @@
 -- Each so far holds its rows.
 use Rattle.std.proofs.Common.{◌≡◌, All, Some}
-use Rattle.cql_meaning.specs.Source.{source_of}
-use Rattle.cql_meaning.specs.Rows.{rows_held}
+use Rattle.cql_core.specs.Source.{source_of}
+use Rattle.cql_core.specs.Rows.{rows_held}
 use Rattle.cql_core.proofs.machine.Core.held_streams.Given as goal
 
 abbrev pub invariant-loop-stream : goal.invariant-loop-stream

@@ -4,13 +4,15 @@
 ghost use Rattle.std.specs.Prelude.{All};
 ghost use Rattle.cql_ops.specs.Bench.{IsBench};
 
+mod files;
 mod operators;
+mod words;
 
 use clap::error::ErrorKind;
 use cql_core::{Operator, TenantTable};
 use cql_server::{Benches, Failure, Hub, Limits, Watch, benches_of, serve};
 use cql_wire::{Watched, given_table};
-use cql_words::{Config, JoinForm, callers_with_files, read_words};
+use files::callers_with_files;
 use operators::{Operators, keyed_operators, plain_operators};
 use std::alloc::Global;
 use std::net::{Net, TcpListener, TcpStream};
@@ -19,6 +21,7 @@ use std::sync::Wait;
 use std::thread::Threads;
 use std::time::Clock;
 use std::{env, io};
+use words::{Config, JoinForm, read_words};
 
 fn main(rt: HostRuntime) -> ExitCode {
     let config = match config_of(&rt) {

@@ -1,14 +1,8 @@
-//! What the words of the server's command line say, and how many callers the system's limit of open
-//! files lets in.
-#![tactic(auto)]
-
+// What the words of the command line say.
 ghost use Rattle.std.specs.Prelude.{◌≤◌, IfOk};
-
-mod files;
 
 use clap::builder::ValueParser;
 use clap::{Arg, ArgAction, Command, Error, value_parser};
-pub use files::callers_with_files;
 use std::alloc::Global;
 
 /// The version, which is that of the top entry of CHANGELOG.md that has a number.

@@ -66,7 +66,7 @@ goals steps edits answers:
 	@tools/$@ $(CRATE)
 
 # times puts, texts of two lengths, fetches over many rows, and many readers of one stream, through
-# the built cqlrun, and counts the instructions of fetches; appends to one store, through the built stores; and sessions of the
+# the built cqlrun, and counts the instructions of fetches; appends to one store, through the built worked; and sessions of the
 # built cqld, also of ten thousand callers, and of texts that ask for more than their rows are worth
 bench: build
 	bench/puts $(RUNNER)
@@ -76,8 +76,8 @@ bench: build
 	bench/rows $(RUNNER)
 	bench/rounds $(RUNNER) $(SERVER)
 	bench/joins $(SERVER)
-	@cd crates/stores && rt run > /dev/null
-	bench/stores crates/stores/out/stores
+	@cd crates/worked && rt run > /dev/null
+	bench/stores crates/worked/out/worked
 	bench/server $(SERVER)
 	bench/hall $(SERVER)
 	bench/callers $(SERVER)

@@ -4,7 +4,7 @@ use Rattle.cql_value.specs.declared.schema.ColumnType.TheVariants.{Number}
 use Rattle.cql_value.specs.Schema.{HasTypes}
 use Rattle.cql_store.specs.Held.{Held, Stubs, stub_of, Updates, CanAdvance, advanced}
 use Rattle.cql_store.specs.Next.{TakesFrom, IsNextLaw}
-use Rattle.stores.proofs.Fed.go.Goals as goal
+use Rattle.worked.proofs.stores.Fed.go.Goals as goal
 
 went : IsNextLaw → (n m : ℕ) (old new : Stubs) (id to : ℕ) (o : Option Held) → stub_of old id ≡ o → IsSomeAnd o (CanAdvance to) → IfSome o (λ h. Updates old new id (Some (advanced to h)))
     → TakesFrom (HasTypes (Number ∷ [])) n old → n ≤ m → to ≤ m → TakesFrom (HasTypes (Number ∷ [])) m new

@@ -1,7 +1,5 @@
-//! Runs each script that lies in its folder by benches of every make, which begin each answer anew
-//! or go on with the last one, and tells where its replies aren't the expected ones.
-#![tactic(auto)]
-
+// Runs each script that lies in the program's folder by benches of every make, which begin each answer
+// anew or go on with the last one, and tells where its replies aren't the expected ones.
 ghost use Rattle.cql_ops.specs.Bench.{IsBench};
 
 use cql_core::{Evaluator, Warm};
@@ -136,13 +134,14 @@ fn fault_of(rt: &HostRuntime, name: &str) -> io::Result<Option<String>> {
     Ok(None)
 }
 
-fn main(rt: HostRuntime) -> io::Result<ExitCode> {
-    let list = fs::read_to_string(&rt, "list")?;
+/// Runs the scripts that the file `list` names.
+pub fn run(rt: &HostRuntime) -> io::Result<ExitCode> {
+    let list = fs::read_to_string(rt, "list")?;
     let mut right = 0u64;
     let mut all = 0u64;
     for name in list.lines() {
         all = all.saturating_add(1);
-        match fault_of(&rt, name)? {
+        match fault_of(rt, name)? {
             Some(fault) => println!(rt; "{name} wrong, {fault}")?,
             None => {
                 println!(rt; "{name} right")?;

@@ -1,6 +1,6 @@
 use Rattle.std.proofs.Common.{[], ◌∷◌, arith}
 use Rattle.cql_value.specs.declared.schema.ColumnType.TheVariants.{Number}
-use Rattle.stores.proofs.Fed.put.Goals as goal
+use Rattle.worked.proofs.stores.Fed.put.Goals as goal
 
 pub invariant_of-self-then-at-le-GREATEST : goal.invariant_of-self-then-at-le-GREATEST
 invariant_of-self-then-at-le-GREATEST c =

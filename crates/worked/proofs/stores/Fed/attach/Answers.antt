@@ -1,6 +1,6 @@
 use Rattle.std.proofs.Common.{[], ◌∷◌, arith}
 use Rattle.cql_value.specs.declared.schema.ColumnType.TheVariants.{Number}
-use Rattle.stores.proofs.Fed.attach.Goals as goal
+use Rattle.worked.proofs.stores.Fed.attach.Goals as goal
 
 pub invariant_of-self-2 : goal.invariant_of-self-2
 invariant_of-self-2 c =

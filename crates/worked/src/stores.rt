@@ -1,22 +1,20 @@
-//! Works the store of one stream with some stubs on it, and tells how many rows it holds then. Its
-//! words are how many stubs, how many times, and at what:
-//!
-//! - `rows` (what it does without a word): a row comes, behind stubs that all lag alike.
-//! - `near`: a row comes that fills the last stub, which then goes on; the others lag.
-//! - `overrun`: a row comes, behind stubs of which all but the first are overrun.
-//! - `rounds`: a row comes, and then each stub, all of the last instant, goes on.
-//! - `pins`: a pin is taken of one stub, which has as many rows as there would be stubs.
-//! - `scans`: the same, and the pin's rows are looked at for changes of the first instant.
-//! - `walks`: the same, and a walk goes over all rows of the pin.
-//! - `parts`: one stub of a window of parts, which has a row of as many parts as there would be stubs;
-//!   then so many times some rows of them come, as many as the fourth word says, and the stub goes on.
-//! - `slides`: one stub of the last row at each slide of as many rows as there would be stubs, of which
-//!   half wait; then a row comes, and the stub goes on.
-//! - `detach`: a stub goes, and another comes; the stubs go in turn.
-//!
-//! Without words it is 1 stub and 1000 rows.
-#![tactic(auto)]
-
+// Works the store of one stream with some stubs on it, and tells how many rows it holds then. The
+// words behind the first are how many stubs, how many times, and at what:
+//
+// - `rows` (what it does without a word): a row comes, behind stubs that all lag alike.
+// - `near`: a row comes that fills the last stub, which then goes on; the others lag.
+// - `overrun`: a row comes, behind stubs of which all but the first are overrun.
+// - `rounds`: a row comes, and then each stub, all of the last instant, goes on.
+// - `pins`: a pin is taken of one stub, which has as many rows as there would be stubs.
+// - `scans`: the same, and the pin's rows are looked at for changes of the first instant.
+// - `walks`: the same, and a walk goes over all rows of the pin.
+// - `parts`: one stub of a window of parts, which has a row of as many parts as there would be stubs;
+//   then so many times some rows of them come, as many as a fourth word says, and the stub goes on.
+// - `slides`: one stub of the last row at each slide of as many rows as there would be stubs, of which
+//   half wait; then a row comes, and the stub goes on.
+// - `detach`: a stub goes, and another comes; the stubs go in turn.
+//
+// Without these words it is 1 stub and 1000 rows.
 ghost use Rattle.std.specs.Prelude.{[], ◌∷◌, IfOk};
 ghost use Rattle.cql_value.specs.Schema.{HasTypes};
 ghost use Rattle.cql_store.specs.Next.{FitsWindow};
@@ -28,9 +26,9 @@ use cql_value::{Items, Row, Timed, Value};
 use cql_window::{Count, Length, Walk, Window, changes};
 use std::alloc::{AllocError, Global};
 use std::collections::VecDeque;
+use std::io;
 use std::marker::Model;
 use std::process::ExitCode;
-use std::{env, io};
 
 /// The greatest instant, and a number of rows that no stub has.
 const GREATEST: u64 = 4_611_686_018_427_387_903;
@@ -372,22 +370,21 @@ fn number(words: &[String], place: usize, other: u64) -> u64 {
     }
 }
 
-fn main(rt: HostRuntime) -> io::Result<ExitCode> {
-    let alloc = rt.alloc();
-    let words = env::args(&rt)?.skip(1).collect::<Vec<String>>(alloc)?;
-    let stubs = number(&words, 0, 1);
-    let times = number(&words, 1, 1000);
-    let work = match words.get(2) {
+/// Does the work of the words, of which the first is `stores`.
+pub fn work(rt: &HostRuntime, words: &[String]) -> io::Result<ExitCode> {
+    let stubs = number(words, 1, 1);
+    let times = number(words, 2, 1000);
+    let work = match words.get(3) {
         Some(word) => work_of(word.as_str()),
         None => Some(Work::Rows),
     };
     let Some(work) = work else {
         eprintln!(rt;
-            "stores STUBS TIMES [rows|near|overrun|rounds|detach|pins|scans|walks|parts|slides] [ROWS]"
+            "worked stores STUBS TIMES [rows|near|overrun|rounds|detach|pins|scans|walks|parts|slides] [ROWS]"
         )?;
         return Ok(ExitCode::FAILURE);
     };
-    let held = held_after(alloc, work, stubs, times, number(&words, 3, 0))?;
+    let held = held_after(rt.alloc(), work, stubs, times, number(words, 4, 0))?;
     println!(rt; "{held}")?;
     Ok(ExitCode::SUCCESS)
 }

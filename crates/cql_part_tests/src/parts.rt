@@ -1,6 +1,5 @@
 // Calls of the crates below the core that no line reaches, and values that none brings there.
 use cql_bag::Bag;
-use cql_order::limit;
 use cql_value::{Items, Name, Row, Text, TryClone, Value};
 use std::alloc::Global;
 use std::test::Fail;
@@ -120,10 +119,4 @@ fn a_full_bag(rt: HostRuntime) -> Result<(), Fail> {
     assert!(rt; bag.add(row_of(alloc, 2)?).is_err());
     assert!(rt; has(alloc, &bag, &[(1, 9_223_372_036_854_775_807), (2, 0)])?);
     Ok(())
-}
-
-#[test]
-fn limits(rt: HostRuntime) {
-    assert_eq!(rt; limit(&[7, 3, 3, 9]), 3);
-    assert_eq!(rt; limit(&[8]), 8);
 }

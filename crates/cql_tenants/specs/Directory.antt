@@ -2,13 +2,14 @@
 use Rattle.std.specs.Prelude.{ℕ, ◌+◌, List, [], ◌∷◌, ◌++◌, Option, Some, None, option_map, unwrap_or, is_none, is_some, if◌then◌else◌}
 use Rattle.cql_value.specs.declared.value.Value.{Value}
 use Rattle.cql_value.specs.declared.schema.Column.{Column}
-use Rattle.cql_tenants.specs.declared.refusal.StreamRefusal.{StreamRefusal}
-use Rattle.cql_tenants.specs.declared.refusal.StreamRefusal.TheVariants.{UnknownTenant}
-use Rattle.cql_tenants.specs.Named.{change_named, place_of}
+use Rattle.cql_stream.specs.declared.refusal.StreamRefusal.{StreamRefusal}
+use Rattle.cql_stream.specs.declared.refusal.StreamRefusal.TheVariants.{UnknownTenant}
+use Rattle.cql_stream.specs.Named.{change_named, place_of}
 use Rattle.cql_window.specs.RowPlaces.{at_places}
 use Rattle.cql_window.specs.Chosen.{shown_places}
 use Rattle.cql_tenants.specs.Home.{Home, Stream, Grant, is_place, home_at, change_home, tenant_named, stream_at, without_grant}
-use Rattle.cql_tenants.specs.Checks.{make_refused, grant_refused, revoke_refused, put_refused, beat_refused}
+use Rattle.cql_tenants.specs.Checks.{make_refused, grant_refused, revoke_refused}
+use Rattle.cql_stream.specs.Taking.{put_refused, beat_refused, opens}
 
 -- a command on streams; the columns of a new stream are its schema where they have one, and those of a grant are names
 pub data StreamCommand : Type 0 where
@@ -33,10 +34,6 @@ refused homes user command = if is_place homes user then refused_at homes user c
 -- a new stream takes all times
 abbrev pub with_stream : List ℕ → List Column → Home → Home
 with_stream name schema home = record home { streams = home.streams ++ record { name = name; item = record { schema = schema; clock = 0 } } ∷ [] }
-
--- a stream takes nothing below a time any more
-abbrev pub opens : ℕ → Stream → Stream
-opens at s = record s { clock = at }
 
 abbrev pub with_time : List ℕ → ℕ → Home → Home
 with_time stream at home = record home { streams = change_named (opens at) stream home.streams }

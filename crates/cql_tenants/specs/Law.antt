@@ -1,8 +1,8 @@
 -- The directory after many commands is what the accepted ones among them make.
-use Rattle.std.specs.Prelude.{◌≡◌, ◌<◌, ℕ, List, [], ◌∷◌, length, Some, is_none, slice_get, if◌then◌else◌}
+use Rattle.std.specs.Prelude.{◌≡◌, ◌<◌, ℕ, List, [], ◌∷◌, length, Some, is_none, if◌then◌else◌}
 use Rattle.std.specs.List.{AllByRecursion}
 use Rattle.cql_tenants.specs.declared.tenants.Tenant.{Tenant}
-use Rattle.cql_tenants.specs.Named.{Named, find_named, place_of}
+use Rattle.cql_stream.specs.Named.{place_of}
 use Rattle.cql_window.specs.RowPlaces.{at_places}
 use Rattle.cql_tenants.specs.Home.{Home, Stream, Grant, nothing_made, home_at, stream_at, grant_of}
 use Rattle.cql_tenants.specs.Directory.{StreamCommand, refused, done, directory_after}
@@ -49,9 +49,3 @@ pub record AreHomes (homes : List Home) : Type 0 where
 
 abbrev pub IsGrantLaw : Type 0
 IsGrantLaw = (table : List Tenant) (calls : List (ℕ × StreamCommand)) → AreOfStreams (directory_from (nothing_made table) calls)
-
--- what stands at a name's place is what a look-up of the name finds, under that name
-abbrev pub IsPlaceLaw : Type 0
-IsPlaceLaw =
-    (streams : List (Named Stream)) (name : List ℕ) (place : ℕ) → place_of streams name ≡ Some place
-    → (s : Named Stream) × (slice_get streams place ≡ Some s) × (find_named streams name ≡ Some s.item) × (s.name ≡ name)

@@ -1,8 +1,8 @@
 // The directory of all streams and grants.
 ghost use Rattle.std.specs.Prelude.{◌≡◌, ℕ, ◌<◌, ◌≤◌, ◌^◌, true, List, IfOk, IfSome, OnOk, OnErr, None, Some, option_copied, option_map, length, map, slice_get};
 ghost use Rattle.std.specs.Result.{result_err};
-ghost use Rattle.cql_order.specs.Clock.{time_fault};
-ghost use Rattle.cql_tenants.specs.Named.{place_of};
+ghost use Rattle.cql_stream.specs.Clock.{time_fault};
+ghost use Rattle.cql_stream.specs.Named.{place_of};
 ghost use Rattle.cql_tenants.specs.Home.{nothing_made, is_place, home_at, change_home, tenant_named, stream_at, grant_of};
 ghost use Rattle.cql_window.specs.RowPlaces.{at_places, AreWithin};
 ghost use Rattle.cql_window.specs.Chosen.{is_shown};
@@ -16,8 +16,8 @@ use crate::homes::{home_at, opened_at, tenant_named};
 use crate::readable::{
     Found, OwnStream, ReadStream, Readable, granted_listed, granted_shown, own_listed, own_shown,
 };
-use crate::refusal::StreamRefusal;
 use crate::tenants::{Quotas, TenantId, TenantTable};
+use cql_stream::StreamRefusal;
 use cql_value::{Items, Row, Schema, Text};
 use cql_window::{all_places, is_shown};
 use std::alloc::{AllocError, Global};

@@ -8,12 +8,9 @@ ghost use Rattle.cql_tenants.specs.Directory.{with_stream};
 
 use crate::grant::Grant;
 use crate::granted::Granted;
-use crate::refusal::StreamRefusal;
 use crate::shared::Shared;
-use crate::shelf::Shelf;
-use crate::stream::Stream;
 use crate::tenants::{Quotas, Tenant};
-use cql_order::Clock;
+use cql_stream::{Clock, Shelf, Stream, StreamRefusal};
 use cql_value::name::is_name;
 use cql_value::{Name, Schema};
 use std::alloc::{AllocError, Global};

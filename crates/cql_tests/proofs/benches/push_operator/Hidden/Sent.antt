@@ -1,7 +1,7 @@
 use denote.Param.Send.{sendable}
 use denote.Param.Sent.{Sends}
 use Rattle.cql_plain.proofs.Crosses.{plain_join_send, plain_shape_send}
-use Rattle.cql_part_tests.proofs.benches.push_operator.Hides.{part-1-1, part-1-2}
+use Rattle.cql_tests.proofs.benches.push_operator.Hides.{part-1-1, part-1-2}
 
 pub sends-part-1-1 : Sends part-1-1
 sends-part-1-1 = search (sendable, plain_join_send) depth 20

@@ -16,7 +16,7 @@ use Rattle.cql_window.proofs.Law.{kept_le}
 use Rattle.cql_window.proofs.Newest.{parts_twice}
 use Rattle.cql_window.proofs.Coming.{more_come}
 use Rattle.cql_window.specs.Coming.{with_all, AreNewestOf}
-use Rattle.cql_window.proofs.Places.{range_between}
+use Rattle.cql_window.proofs.Between.{range_between}
 use Rattle.cql_store.proofs.Fit.{asc_take, fit_drop, fit_behind, fit_front, fit_newest}
 use Rattle.cql_store.proofs.Keeps.{whole}
 use Rattle.cql_store.specs.declared.stub.Stub.{Stub}

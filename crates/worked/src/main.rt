@@ -11,7 +11,7 @@ use std::{env, io};
 fn main(rt: HostRuntime) -> io::Result<ExitCode> {
     let words = env::args(&rt)?.skip(1).collect::<Vec<String>>(rt.alloc())?;
     match words.get(0) {
-        Some(word) if word.as_str() == "stores" => stores::work(&rt, &words),
+        Some(word) if word.as_str() == "stores" => stores::run(&rt, &words),
         _ => scripts::run(&rt),
     }
 }

@@ -371,7 +371,7 @@ fn number(words: &[String], place: usize, other: u64) -> u64 {
 }
 
 /// Does the work of the words, of which the first is `stores`.
-pub fn work(rt: &HostRuntime, words: &[String]) -> io::Result<ExitCode> {
+pub fn run(rt: &HostRuntime, words: &[String]) -> io::Result<ExitCode> {
     let stubs = number(words, 1, 1);
     let times = number(words, 2, 1000);
     let work = match words.get(3) {

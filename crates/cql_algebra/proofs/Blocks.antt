@@ -5,23 +5,23 @@ use Rattle.std.specs.List.{AllByRecursion}
 use Rattle.std.proofs.lemmas.Bool.{cases_lt}
 use Rattle.cql_algebra.specs.declared.told.Output.{Output}
 use Rattle.cql_algebra.specs.declared.told.Block.{Block}
-use Rattle.cql_algebra.specs.Output.{is_empty}
+use Rattle.cql_algebra.specs.Output.{tells_no_row}
 use Rattle.cql_algebra.specs.Blocks.{IsMaximalRun, IsTold, AreBlocks, AreUnique}
 
 -- from c on: nothing is told before the first block, which ends where its output does; then from its end on
 abbrev pub Follow : (ℕ → Output) → ℕ → ℕ → List Block → Type 0
-Follow O c l [] = (t : ℕ) → c ≤ t → t < l → is_empty (O t) ≡ true
+Follow O c l [] = (t : ℕ) → c ≤ t → t < l → tells_no_row (O t) ≡ true
 Follow O c l (b ∷ bs) =
-    ((c ≤ b.from) × (b.from ≤ b.to) × (b.to < l) × (is_empty b.output ≡ false))
-    × ((t : ℕ) → c ≤ t → t < b.from → is_empty (O t) ≡ true)
+    ((c ≤ b.from) × (b.from ≤ b.to) × (b.to < l) × (tells_no_row b.output ≡ false))
+    × ((t : ℕ) → c ≤ t → t < b.from → tells_no_row (O t) ≡ true)
     × ((t : ℕ) → b.from ≤ t → t ≤ b.to → O t ≡ b.output)
     × (b.to + 1 < l → O (b.to + 1) ≢ b.output)
     × Follow O (b.to + 1) l bs
 
 module _ (O : ℕ → Output) where
   -- what is empty isn't told
-  pub differ : (p q : Output) → is_empty p ≡ true → is_empty q ≡ false → p ≢ q
-  differ p q a b e = let h : is_empty p ≡ is_empty q = ap is_empty e in cc
+  pub differ : (p q : Output) → tells_no_row p ≡ true → tells_no_row q ≡ false → p ≢ q
+  differ p q a b e = let h : tells_no_row p ≡ tells_no_row q = ap tells_no_row e in cc
 
   later_blocks : (c l e : ℕ) (bs : List Block) → c ≤ e → AllByRecursion (λ d. e < d.from) bs → AllByRecursion (IsMaximalRun O c l) bs → AllByRecursion (IsMaximalRun O (e + 1) l) bs
   later_blocks c l e [] le order runs = tt
@@ -48,13 +48,13 @@ module _ (O : ℕ → Output) where
   told_before t b bs le lt order (inr h) = none_before b.to t bs order (omega arith) h
 
   pub follow_from : (c l : ℕ) (bs : List Block) → AreBlocks O c l bs → Follow O c l bs
-  follow_from c l [] are = λ t ge lt. not_false (is_empty (O t)) (λ h. are.all_told t ge lt h)
+  follow_from c l [] are = λ t ge lt. not_false (tells_no_row (O t)) (λ h. are.all_told t ge lt h)
   follow_from c l (b ∷ bs) are =
       let run = are.runs.0 in
       let start : c ≤ b.from = run.start in
       let forward : b.from ≤ b.to = run.forward in (
         (run.start, run.forward, run.end, run.some),
-        (λ t ge lt. not_false (is_empty (O t)) (λ h. told_before t b bs run.forward lt are.in_order.0 (are.all_told t ge (omega (arith, run.end)) h))),
+        (λ t ge lt. not_false (tells_no_row (O t)) (λ h. told_before t b bs run.forward lt are.in_order.0 (are.all_told t ge (omega (arith, run.end)) h))),
         run.same,
         run.after,
         follow_from (b.to + 1) l bs (record {

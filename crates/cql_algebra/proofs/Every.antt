@@ -11,8 +11,8 @@ use Rattle.cql_algebra.specs.declared.told.Output.TheVariants.{Rows, Signed, Fau
 use Rattle.cql_plan.specs.declared.fault.Fault.{Fault as TheFault}
 use Rattle.cql_plan.specs.declared.fault.Fault.TheVariants.{Oversize, Overflow}
 use Rattle.cql_algebra.specs.declared.told.Block.{Block}
-use Rattle.cql_algebra.specs.Output.{is_empty, same_rows, same_fault, same_output}
-use Rattle.cql_algebra.specs.Blocks.{AreBlocks, joined, extended, blocks_of_many, blocks_of, IsBlocksLaw, IsLocalLaw}
+use Rattle.cql_algebra.specs.Output.{tells_no_row, same_rows, same_fault, same_output}
+use Rattle.cql_algebra.specs.Blocks.{AreBlocks, with_stretch, extended, blocks_of_many, blocks_of, IsBlocksLaw, IsLocalLaw}
 use Rattle.cql_algebra.specs.Runs.{Extends, GoesOn}
 use Rattle.cql_algebra.proofs.Blocks.{blocks_from, are_unique}
 use Rattle.cql_value.proofs.Ties.{tied, ties_itself}
@@ -76,8 +76,8 @@ goes_on_later a d bs from o (x ∷ front, b, same, at, is) = (front, b, cc, at, 
 
 -- the last block goes on or a block begins
 data Joins (new : Block) (bs : List Block) : Type 0 where
-  longer : (front : List Block) (b : Block) → bs ≡ front ++ b ∷ [] → b.to + 1 ≡ new.from → b.output ≡ new.output → joined new bs ≡ front ++ record b { to = new.to } ∷ [] → Joins new bs
-  more : (GoesOn bs new.from new.output → ⊥) → joined new bs ≡ bs ++ new ∷ [] → Joins new bs
+  longer : (front : List Block) (b : Block) → bs ≡ front ++ b ∷ [] → b.to + 1 ≡ new.from → b.output ≡ new.output → with_stretch new bs ≡ front ++ record b { to = new.to } ∷ [] → Joins new bs
+  more : (GoesOn bs new.from new.output → ⊥) → with_stretch new bs ≡ bs ++ new ∷ [] → Joins new bs
 
 test_holds : (b : Block) (from : ℕ) (o : Output) → b.to + 1 ≡ from → b.output ≡ o → (b.to + 1 == from && same_output b.output o) ≡ true
 test_holds b from o at is =
@@ -104,7 +104,7 @@ joins new (b ∷ d ∷ bs) =
       | more ends e ↦ more (λ g. ends (goes_on_later b d bs new.from new.output g)) (ap (λ l. b ∷ l) e)
     ]
 
-joined_extends : (from to : ℕ) (o : Output) (bs : List Block) → from ≤ to → is_empty o ≡ false → Extends from to o bs (joined (record { from = from; to = to; output = o }) bs)
+joined_extends : (from to : ℕ) (o : Output) (bs : List Block) → from ≤ to → tells_no_row o ≡ false → Extends from to o bs (with_stretch (record { from = from; to = to; output = o }) bs)
 joined_extends from to o bs forward told =
     elim (joins (record { from = from; to = to; output = o }) bs) [
       | longer front b same at is e ↦
@@ -114,7 +114,7 @@ joined_extends from to o bs forward told =
 
 pub extended_extends : (from to : ℕ) (o : Output) (bs : List Block) → from ≤ to → Extends from to o bs (extended from to o bs)
 extended_extends from to o bs forward =
-    elim (is_empty o) as (λ t. is_empty o ≡ t → Extends from to o bs (if t then bs else joined (record { from = from; to = to; output = o }) bs)) [
+    elim (tells_no_row o) as (λ t. tells_no_row o ≡ t → Extends from to o bs (if t then bs else with_stretch (record { from = from; to = to; output = o }) bs)) [
       | true ↦ λ h. extends_empty from to o bs forward h
       | false ↦ λ h. joined_extends from to o bs forward h
     ] refl

@@ -4,7 +4,7 @@ use Rattle.std.proofs.lemmas.List.{set_at}
 use Rattle.std.proofs.lemmas.Bool.{cases_lt}
 use Rattle.cql_algebra.specs.declared.told.Output.{Output}
 use Rattle.cql_algebra.specs.declared.told.Block.{Block}
-use Rattle.cql_algebra.specs.Output.{is_empty}
+use Rattle.cql_algebra.specs.Output.{tells_no_row}
 use Rattle.cql_algebra.specs.Runs.{IsStretch, Extends, GoesOn, Adjoins}
 use Rattle.cql_algebra.specs.Blocks.{AreBlocks}
 use Rattle.cql_algebra.proofs.Blocks.{Follow, differ, follow_from, blocks_from}
@@ -29,9 +29,9 @@ module _ (O : ℕ → Output) (m e : ℕ) (o : Output) (forward : m ≤ e) (stre
         | inr ge ↦ let at : b.to + 1 ≡ m = omega arith in last at (sym is ∙ ap O at ∙ stretch m (omega arith) forward)
       ]
 
-  skip : (c : ℕ) (bs : List Block) → is_empty o ≡ true → Follow O c m bs → Follow O c (e + 1) bs
+  skip : (c : ℕ) (bs : List Block) → tells_no_row o ≡ true → Follow O c m bs → Follow O c (e + 1) bs
   skip c [] empty follow =
-      λ t ge lt. elim (cases_lt t m) [ inl lt' ↦ follow t ge lt' | inr ge' ↦ ap is_empty (stretch t ge' (omega arith)) ∙ empty ]
+      λ t ge lt. elim (cases_lt t m) [ inl lt' ↦ follow t ge lt' | inr ge' ↦ ap tells_no_row (stretch t ge' (omega arith)) ∙ empty ]
   skip c (b ∷ bs) empty follow =
       let end : b.to < m = follow.0.2 in (
         (follow.0.0, follow.0.1, omega arith, follow.0.3),
@@ -55,7 +55,7 @@ module _ (O : ℕ → Output) (m e : ℕ) (o : Output) (forward : m ≤ e) (stre
       let more : x.to + 1 < m = below_front (x.to + 1) front b follow.4 in
       ((follow.0.0, follow.0.1, omega arith, follow.0.3), follow.1, follow.2, (λ lt. follow.3 more), grow (x.to + 1) front b at is follow.4)
 
-  add : (c : ℕ) (bs : List Block) → c ≤ m → is_empty o ≡ false → ((front : List Block) (b : Block) → bs ≡ front ++ b ∷ [] → b.to + 1 ≡ m → b.output ≢ o) → Follow O c m bs → Follow O c (e + 1) (bs ++ record { from = m; to = e; output = o } ∷ [])
+  add : (c : ℕ) (bs : List Block) → c ≤ m → tells_no_row o ≡ false → ((front : List Block) (b : Block) → bs ≡ front ++ b ∷ [] → b.to + 1 ≡ m → b.output ≢ o) → Follow O c m bs → Follow O c (e + 1) (bs ++ record { from = m; to = e; output = o } ∷ [])
   add c [] le told ends follow =
       ((le, forward, omega arith, told), follow, stretch, (λ lt. absurd (omega arith)), (λ t ge lt. absurd (omega arith)))
   add c (b ∷ bs) le told ends follow =
@@ -72,7 +72,7 @@ module _ (O : ℕ → Output) (m e : ℕ) (o : Output) (forward : m ≤ e) (stre
       after_last b (d ∷ ds) ends follow end after = after (below (b.to + 1) d ds follow)
 
 -- nothing is told on the stretch
-pub extends_empty : (from to : ℕ) (o : Output) (bs : List Block) → from ≤ to → is_empty o ≡ true → Extends from to o bs bs
+pub extends_empty : (from to : ℕ) (o : Output) (bs : List Block) → from ≤ to → tells_no_row o ≡ true → Extends from to o bs bs
 extends_empty from to o bs forward empty O c le stretch are =
     blocks_from O c (to + 1) bs (skip O from to o forward stretch c bs empty (follow_from O c from bs are))
 
@@ -82,7 +82,7 @@ extends_last from to o front b forward at is O c le stretch are =
     blocks_from O c (to + 1) _ (grow O from to o forward stretch c front b at is (follow_from O c from _ are))
 
 -- a block begins
-pub extends_new : (from to : ℕ) (o : Output) (bs : List Block) → from ≤ to → is_empty o ≡ false → (GoesOn bs from o → ⊥) → Extends from to o bs (bs ++ record { from = from; to = to; output = o } ∷ [])
+pub extends_new : (from to : ℕ) (o : Output) (bs : List Block) → from ≤ to → tells_no_row o ≡ false → (GoesOn bs from o → ⊥) → Extends from to o bs (bs ++ record { from = from; to = to; output = o } ∷ [])
 extends_new from to o bs forward told ends O c le stretch are =
     blocks_from O c (to + 1) _ (add O from to o forward stretch c bs le told (λ front b same at is. ends (front, b, same, at, is)) (follow_from O c from bs are))
 
@@ -112,7 +112,7 @@ ends_with O c m [] b at follow =
 ends_with O c m (x ∷ front) b at follow = ends_with O (x.to + 1) m front b at follow.4
 
 -- where none ends there it is empty
-ends_without : (O : ℕ → Output) (c m : ℕ) (bs : List Block) → c < m → (Adjoins bs m → ⊥) → Follow O c m bs → is_empty (O (m - 1)) ≡ true
+ends_without : (O : ℕ → Output) (c m : ℕ) (bs : List Block) → c < m → (Adjoins bs m → ⊥) → Follow O c m bs → tells_no_row (O (m - 1)) ≡ true
 ends_without O c m [] lt ends follow = follow (m - 1) (omega arith) (omega arith)
 ends_without O c m (b ∷ []) lt ends follow =
     let end : b.to < m = follow.0.2 in

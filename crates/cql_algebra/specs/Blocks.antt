@@ -3,14 +3,14 @@ use Rattle.std.specs.Prelude.{◌≡◌, ◌≢◌, ℕ, zero, suc, ◌+◌, ◌
 use Rattle.std.specs.List.{AllByRecursion}
 use Rattle.cql_algebra.specs.declared.told.Output.{Output}
 use Rattle.cql_algebra.specs.declared.told.Block.{Block}
-use Rattle.cql_algebra.specs.Output.{is_empty, same_output}
+use Rattle.cql_algebra.specs.Output.{tells_no_row, same_output}
 
 -- a run of the outputs on [c, l): its instants have its output, which isn't empty, and neither neighbour on [c, l) has it
 pub record IsMaximalRun (O : ℕ → Output) (c l : ℕ) (b : Block) : Type 0 where
   pub start : c ≤ b.from
   pub forward : b.from ≤ b.to
   pub end : b.to < l
-  pub some : is_empty b.output ≡ false
+  pub some : tells_no_row b.output ≡ false
   pub same : (t : ℕ) → b.from ≤ t → t ≤ b.to → O t ≡ b.output
   pub before : (t : ℕ) → c ≤ t → t + 1 ≡ b.from → O t ≢ b.output
   pub after : b.to + 1 < l → O (b.to + 1) ≢ b.output
@@ -29,20 +29,20 @@ IsTold t (b ∷ bs) = ((b.from ≤ t) × (t ≤ b.to)) ⊎ IsTold t bs
 pub record AreBlocks (O : ℕ → Output) (c l : ℕ) (bs : List Block) : Type 0 where
   pub runs : AllByRecursion (IsMaximalRun O c l) bs
   pub in_order : AreInOrder bs
-  pub all_told : (t : ℕ) → c ≤ t → t < l → is_empty (O t) ≡ false → IsTold t bs
+  pub all_told : (t : ℕ) → c ≤ t → t < l → tells_no_row (O t) ≡ false → IsTold t bs
 
 -- outputs have one list of blocks
 abbrev pub AreUnique : Type 0
 AreUnique = (O : ℕ → Output) (c l : ℕ) (bs ds : List Block) → AreBlocks O c l bs → AreBlocks O c l ds → bs ≡ ds
 
 -- the blocks with one stretch more, whose output isn't empty
-abbrev pub joined : Block → List Block → List Block
-joined new [] = new ∷ []
-joined new (b ∷ []) = if b.to + 1 == new.from && same_output b.output new.output then record b { to = new.to } ∷ [] else b ∷ new ∷ []
-joined new (b ∷ d ∷ bs) = b ∷ joined new (d ∷ bs)
+abbrev pub with_stretch : Block → List Block → List Block
+with_stretch new [] = new ∷ []
+with_stretch new (b ∷ []) = if b.to + 1 == new.from && same_output b.output new.output then record b { to = new.to } ∷ [] else b ∷ new ∷ []
+with_stretch new (b ∷ d ∷ bs) = b ∷ with_stretch new (d ∷ bs)
 
 abbrev pub extended : ℕ → ℕ → Output → List Block → List Block
-extended from to output bs = if is_empty output then bs else joined (record { from = from; to = to; output = output }) bs
+extended from to output bs = if tells_no_row output then bs else with_stretch (record { from = from; to = to; output = output }) bs
 
 -- the blocks of n instants from c on; what they are is said by AreBlocks
 unfoldable pub blocks_of_many : (ℕ → Output) → ℕ → ℕ → List Block

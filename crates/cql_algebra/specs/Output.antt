@@ -26,10 +26,10 @@ is_nil [] = true
 is_nil (x ∷ xs) = false
 
 -- no row is told; a fault isn't empty
-abbrev pub is_empty : Output → Bool
-is_empty (Rows rows) = is_nil rows
-is_empty (Signed plus minus) = is_nil plus && is_nil minus
-is_empty (Fault fault) = false
+abbrev pub tells_no_row : Output → Bool
+tells_no_row (Rows rows) = is_nil rows
+tells_no_row (Signed plus minus) = is_nil plus && is_nil minus
+tells_no_row (Fault fault) = false
 
 -- whether two lists have the same rows
 abbrev pub same_rows : List (List Value) → List (List Value) → Bool

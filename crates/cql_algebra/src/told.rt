@@ -1,6 +1,6 @@
 // What a query tells at an instant.
 ghost use Rattle.std.specs.Prelude.{◌≡◌, ◌↔◌, IsTrue};
-ghost use Rattle.cql_algebra.specs.Output.{is_empty};
+ghost use Rattle.cql_algebra.specs.Output.{tells_no_row};
 
 use cql_plan::Fault;
 use cql_value::{Items, Row};
@@ -37,7 +37,7 @@ impl Drop for Output {
 impl Output {
     /// Whether no row is told. A fault isn't empty.
     pub fn is_empty(&self) -> bool
-        ensures { result ≡ is_empty self.now }
+        ensures { result ≡ tells_no_row self.now }
     {
         match self {
             Output::Rows(rows) => rows.is_empty(),

@@ -8,7 +8,7 @@ use std::marker::Model;
 
 /// Where the bytes of a name are.
 #[derive(Drop)]
-enum Kept<'a> {
+enum NameBytes<'a> {
     Line(&'a str),
     Copy(Text),
 }
@@ -16,7 +16,7 @@ enum Kept<'a> {
 /// A name as a line has it: the line's own bytes, or a copy of them. Contracts see the bytes.
 #[derive(Drop)]
 pub struct Named<'a> {
-    kept: Kept<'a>,
+    kept: NameBytes<'a>,
 }
 
 impl<'a> Model for Named<'a> {
@@ -34,7 +34,7 @@ impl<'a> Named<'a> {
         ensures { result ≡ text.now }
     {
         Named {
-            kept: Kept::Line(text),
+            kept: NameBytes::Line(text),
         }
     }
 
@@ -43,7 +43,7 @@ impl<'a> Named<'a> {
         ensures { result ≡ text }
     {
         Named {
-            kept: Kept::Copy(text),
+            kept: NameBytes::Copy(text),
         }
     }
 
@@ -52,8 +52,8 @@ impl<'a> Named<'a> {
         ensures { result.now ≡ self.now }
     {
         match &self.kept {
-            Kept::Line(text) => text,
-            Kept::Copy(text) => text.as_str(),
+            NameBytes::Line(text) => text,
+            NameBytes::Copy(text) => text.as_str(),
         }
     }
 
@@ -62,8 +62,8 @@ impl<'a> Named<'a> {
         ensures { IfOk result (λ t. t ≡ self.entry) }
     {
         match self.kept {
-            Kept::Line(text) => Text::new(alloc, text),
-            Kept::Copy(text) => Ok(text),
+            NameBytes::Line(text) => Text::new(alloc, text),
+            NameBytes::Copy(text) => Ok(text),
         }
     }
 }

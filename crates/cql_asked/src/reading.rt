@@ -17,38 +17,38 @@ const MAX_DEPTH: usize = 127;
 
 // Why there is no tree.
 #[derive(Clone, Copy, Drop, PartialEq, Eq)]
-enum Fault {
+enum TreeError {
     Refused,
     NoMemory,
 }
 
-impl From<Invalid> for Fault {
-    ghost use Rattle.cql_asked.specs.declared.reading.Fault.TheVariants.{Refused};
+impl From<Invalid> for TreeError {
+    ghost use Rattle.cql_asked.specs.declared.reading.TreeError.TheVariants.{Refused};
 
     ghost from_gives = { λ _ e. e ≡ Refused };
 
-    fn from(_invalid: Invalid) -> Fault {
-        Fault::Refused
+    fn from(_invalid: Invalid) -> TreeError {
+        TreeError::Refused
     }
 }
 
-impl From<AllocError> for Fault {
-    ghost use Rattle.cql_asked.specs.declared.reading.Fault.TheVariants.{NoMemory};
+impl From<AllocError> for TreeError {
+    ghost use Rattle.cql_asked.specs.declared.reading.TreeError.TheVariants.{NoMemory};
 
     ghost from_gives = { λ _ e. e ≡ NoMemory };
 
-    fn from(_error: AllocError) -> Fault {
-        Fault::NoMemory
+    fn from(_error: AllocError) -> TreeError {
+        TreeError::NoMemory
     }
 }
 
-impl<T: Drop> From<AllocFailed<T>> for Fault {
-    ghost use Rattle.cql_asked.specs.declared.reading.Fault.TheVariants.{NoMemory};
+impl<T: Drop> From<AllocFailed<T>> for TreeError {
+    ghost use Rattle.cql_asked.specs.declared.reading.TreeError.TheVariants.{NoMemory};
 
     ghost from_gives = { λ _ e. e ≡ NoMemory };
 
-    fn from(_error: AllocFailed<T>) -> Fault {
-        Fault::NoMemory
+    fn from(_error: AllocFailed<T>) -> TreeError {
+        TreeError::NoMemory
     }
 }
 
@@ -132,30 +132,30 @@ pub(crate) fn read_number(text: &str) -> Option<Number>
 
 #[cycle(read)]
 #[inline(always)]
-fn read<'a>(alloc: Global, reader: &mut Reader<'a>, depth: usize) -> Result<Tree<'a>, Fault>
+fn read<'a>(alloc: Global, reader: &mut Reader<'a>, depth: usize) -> Result<Tree<'a>, TreeError>
     ensures ok { IfOk result (λ v. converted of_json (value depth reader.old) ≡ Some (view v, reader.new)) }
     ensures shorter { OnOk result (length reader.new < length reader.old) }
     ensures err { IsRefusal result → converted of_json (value depth reader.old) ≡ None }
 {
-    let token = reader.next().ok_or(Fault::Refused)?;
+    let token = reader.next().ok_or(TreeError::Refused)?;
     match token {
         Token::String(text) => Ok(Tree::Text(text)),
         Token::Number(text) => match read_number(text) {
             Some(number) => Ok(Tree::Number(number)),
-            None => Err(Fault::Refused),
+            None => Err(TreeError::Refused),
         },
         Token::Bool(b) => Ok(Tree::Bool(b)),
         Token::Null => Ok(Tree::Null),
-        Token::EndObject | Token::EndArray | Token::Key(_) | Token::Bad => Err(Fault::Refused),
+        Token::EndObject | Token::EndArray | Token::Key(_) | Token::Bad => Err(TreeError::Refused),
         Token::BeginArray => {
             if depth == 0 {
-                return Err(Fault::Refused);
+                return Err(TreeError::Refused);
             }
             Ok(Tree::List(read_items(alloc, reader, depth - 1)?))
         }
         Token::BeginObject => {
             if depth == 0 {
-                return Err(Fault::Refused);
+                return Err(TreeError::Refused);
             }
             Ok(Tree::Object(read_members(alloc, reader, depth - 1)?))
         }
@@ -168,7 +168,7 @@ fn read_items<'a>(
     alloc: Global,
     reader: &mut Reader<'a>,
     depth: usize,
-) -> Result<Vec<Tree<'a>>, Fault>
+) -> Result<Vec<Tree<'a>>, TreeError>
     ensures ok { IfOk result
         (λ v. converted of_items (items (value depth) (length reader.old) reader.old)
         ≡ Some (items_view v.items, reader.new)) }
@@ -202,7 +202,7 @@ fn read_members<'a>(
     alloc: Global,
     reader: &mut Reader<'a>,
     depth: usize,
-) -> Result<Vec<(&'a str, Tree<'a>)>, Fault>
+) -> Result<Vec<(&'a str, Tree<'a>)>, TreeError>
     ensures ok { IfOk result
         (λ v. converted (λ ms. of_members ms no_members)
         (members (value depth) (length reader.old) reader.old)
@@ -221,14 +221,18 @@ fn read_members<'a>(
 }
 
 // The tree of a whole text.
-fn read_all<'a>(alloc: Global, text: &'a str, scratch: &'a mut Scratch) -> Result<Tree<'a>, Fault>
+fn read_all<'a>(
+    alloc: Global,
+    text: &'a str,
+    scratch: &'a mut Scratch,
+) -> Result<Tree<'a>, TreeError>
     ensures ok { IfOk result (λ v. read_text text.now ≡ Some (view v)) }
     ensures err { IsRefusal result → read_text text.now ≡ None }
 {
     let mut reader = Reader::new(text, scratch)?;
     let tree = read(alloc, &mut reader, MAX_DEPTH)?;
     if reader.next().is_some() {
-        return Err(Fault::Refused);
+        return Err(TreeError::Refused);
     }
     Ok(tree)
 }
@@ -254,7 +258,7 @@ pub(crate) fn read_tree<'a>(
 {
     match read_all(alloc, text, scratch) {
         Ok(tree) => Ok(Some(tree)),
-        Err(Fault::Refused) => Ok(None),
-        Err(Fault::NoMemory) => Err(AllocError),
+        Err(TreeError::Refused) => Ok(None),
+        Err(TreeError::NoMemory) => Err(AllocError),
     }
 }

@@ -4,16 +4,16 @@ use Rattle.std.specs.List.{AllByRecursion}
 use Rattle.std.specs.Arc.{arc_value}
 use Rattle.cql_value.specs.Element.{Element}
 use Rattle.cql_chunks.specs.declared.seq.Numbered.{Numbered}
-use Rattle.cql_chunks.specs.declared.seq.Node.{Node}
-use Rattle.cql_chunks.specs.declared.seq.Node.TheVariants.{Leaf, Fork}
+use Rattle.cql_chunks.specs.declared.seq.SeqNode.{SeqNode}
+use Rattle.cql_chunks.specs.declared.seq.SeqNode.TheVariants.{Leaf, Fork}
 
 -- from left to right
-abbrev pub listed : Node → List Numbered
+abbrev pub listed : SeqNode → List Numbered
 listed Leaf = []
 listed (Fork l x count height r) = arc_value l ++ x ∷ arc_value r
 
 -- the count is right
-abbrev pub IsCounted : Node → Type 0
+abbrev pub IsCounted : SeqNode → Type 0
 IsCounted Leaf = Unit {0}
 IsCounted (Fork l x count height r) = count ≡ length (arc_value l ++ x ∷ arc_value r)
 

@@ -8,7 +8,7 @@ use crate::run::Run;
 use crate::same::are_joined_same;
 use crate::seq::Seq;
 use crate::stretch::Stretch;
-use crate::tree::Tree;
+use crate::tree::TreeRows;
 use cql_value::{Same, Timed};
 use std::alloc::{AllocError, Global};
 use std::marker::Model;
@@ -29,7 +29,7 @@ impl Drop for Chunks {
 #[derive(Drop)]
 enum Form {
     Plain(Plain),
-    Tree(Tree),
+    Tree(TreeRows),
 }
 
 impl Same for Chunks {
@@ -193,7 +193,7 @@ impl Chunks {
     pub fn of_tree(tree: Arc<Seq>) -> Result<Chunks, AllocError>
         ensures { IfOk result (λ r. r ≡ map row_in (arc_value tree)) }
     {
-        let form = Form::Tree(Tree::of(tree)?);
+        let form = Form::Tree(TreeRows::of(tree)?);
         Ok(Chunks { form })
     }
 

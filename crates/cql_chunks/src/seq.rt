@@ -41,12 +41,12 @@ impl Numbered {
 #[cycle(seq)]
 #[derive(Drop)]
 pub struct Seq {
-    node: Node,
+    node: SeqNode,
 }
 
 #[cycle(seq)]
 #[derive(Drop)]
-enum Node {
+enum SeqNode {
     Leaf,
     // Left, a row, how many there are in all, the height, right.
     Fork(Arc<Seq>, Numbered, usize, u8, Arc<Seq>),
@@ -76,7 +76,12 @@ impl Seq {
     pub fn new(alloc: Global) -> Result<Arc<Seq>, AllocError>
         ensures { IfOk result (λ s. arc_value s ≡ []) }
     {
-        Ok(Arc::new(alloc, Seq { node: Node::Leaf })?)
+        Ok(Arc::new(
+            alloc,
+            Seq {
+                node: SeqNode::Leaf,
+            },
+        )?)
     }
 
     /// These rows.
@@ -110,16 +115,16 @@ impl Seq {
         ensures { result ≡ length self.now }
     {
         match &self.node {
-            Node::Leaf => 0,
-            Node::Fork(_, _, count, _, _) => *count,
+            SeqNode::Leaf => 0,
+            SeqNode::Fork(_, _, count, _, _) => *count,
         }
     }
 
     // How high the tree is. This is for speed alone: nothing is said of it.
     fn height(&self) -> u8 {
         match &self.node {
-            Node::Leaf => 0,
-            Node::Fork(_, _, _, height, _) => *height,
+            SeqNode::Leaf => 0,
+            SeqNode::Fork(_, _, _, height, _) => *height,
         }
     }
 
@@ -128,8 +133,8 @@ impl Seq {
         ensures { option_map (λ n. n.now) result ≡ slice_get self.now place }
     {
         match &self.node {
-            Node::Leaf => None,
-            Node::Fork(left, entry, _, _, right) => {
+            SeqNode::Leaf => None,
+            SeqNode::Fork(left, entry, _, _, right) => {
                 let here = left.len();
                 if place < here {
                     left.get(place)
@@ -155,8 +160,8 @@ impl Seq {
         ensures { IfOk result (λ s. arc_value s ≡ insert (arc_value tree) place entry) }
     {
         match cut(tree)? {
-            Taken::Leaf(_) => alone(alloc, leaf, entry),
-            Taken::Fork(
+            TakenTree::Leaf(_) => alone(alloc, leaf, entry),
+            TakenTree::Fork(
                 Parts {
                     shell,
                     left,
@@ -184,8 +189,8 @@ impl Seq {
         ensures { IfOk result (λ s. arc_value s ≡ remove (arc_value tree) place) }
     {
         match cut(tree)? {
-            Taken::Leaf(_) => unreachable!(),
-            Taken::Fork(
+            TakenTree::Leaf(_) => unreachable!(),
+            TakenTree::Fork(
                 Parts {
                     shell,
                     left,
@@ -221,8 +226,8 @@ impl Seq {
         ensures { OnOk result (rows.new.items ≡ rows.old.items ++ map row_in self.now) }
     {
         match &self.node {
-            Node::Leaf => Ok(()),
-            Node::Fork(left, own, _, _, right) => {
+            SeqNode::Leaf => Ok(()),
+            SeqNode::Fork(left, own, _, _, right) => {
                 left.push_rows(rows)?;
                 rows.push(own.row.try_clone()?)?;
                 right.push_rows(rows)
@@ -236,8 +241,8 @@ impl Seq {
         ensures within { result ≤ length self.now }
     {
         match &self.node {
-            Node::Leaf => 0,
-            Node::Fork(left, own, _, _, right) => {
+            SeqNode::Leaf => 0,
+            SeqNode::Fork(left, own, _, _, right) => {
                 if own.number < number {
                     let here = self.len() - right.len();
                     here + right.below(number)
@@ -254,16 +259,16 @@ impl Seq {
         ensures none { IfNone result (self.now ≡ []) }
     {
         match &self.node {
-            Node::Leaf => None,
-            Node::Fork(left, own, _, _, right) => Some((left, own, right)),
+            SeqNode::Leaf => None,
+            SeqNode::Fork(left, own, _, _, right) => Some((left, own, right)),
         }
     }
 
     /// The same lists, of a tree that nobody else holds: the row in its midst is let go.
     pub(crate) fn into_halves(self) -> Option<(Arc<Seq>, Arc<Seq>)> {
         match self.node {
-            Node::Leaf => None,
-            Node::Fork(left, _, _, _, right) => Some((left, right)),
+            SeqNode::Leaf => None,
+            SeqNode::Fork(left, _, _, _, right) => Some((left, right)),
         }
     }
 }
@@ -370,7 +375,7 @@ fn fork(alloc: Global, parts: Parts) -> Result<Arc<Seq>, AllocError>
         right,
     } = parts;
     let height = left.height().max(right.height()).saturating_add(1);
-    let node = Node::Fork(left, own, count, height, right);
+    let node = SeqNode::Fork(left, own, count, height, right);
     put_in(alloc, shell, Seq { node })
 }
 
@@ -408,26 +413,26 @@ fn put_in(alloc: Global, shell: Option<Arc<Seq>>, seq: Seq) -> Result<Arc<Seq>, 
 
 // A tree as it stands, with its shell where nobody else holds that.
 #[derive(Drop)]
-enum Taken {
+enum TakenTree {
     Leaf(Arc<Seq>),
     Fork(Parts),
 }
 
 // Takes a tree apart; where another holds it too, shares of its parts are taken.
-fn cut(tree: Arc<Seq>) -> Result<Taken, AllocError>
+fn cut(tree: Arc<Seq>) -> Result<TakenTree, AllocError>
     ensures list { IfOk result (λ taken. listed_of taken ≡ arc_value tree) }
     ensures bare { IfOk result IsBare }
 {
     if tree.len() == 0 {
-        return Ok(Taken::Leaf(tree));
+        return Ok(TakenTree::Leaf(tree));
     }
     let mut tree = tree;
     if let Some(seq) = Arc::get_mut(&mut tree) {
-        return match mem::replace(&mut seq.node, Node::Leaf) {
-            Node::Leaf => unreachable!(),
-            Node::Fork(left, own, _, _, right) => {
+        return match mem::replace(&mut seq.node, SeqNode::Leaf) {
+            SeqNode::Leaf => unreachable!(),
+            SeqNode::Fork(left, own, _, _, right) => {
                 let shell = Some(tree);
-                Ok(Taken::Fork(Parts {
+                Ok(TakenTree::Fork(Parts {
                     shell,
                     left,
                     own,
@@ -437,8 +442,8 @@ fn cut(tree: Arc<Seq>) -> Result<Taken, AllocError>
         };
     }
     match &tree.node {
-        Node::Leaf => unreachable!(),
-        Node::Fork(left, own, _, _, right) => Ok(Taken::Fork(shared(left, own, right)?)),
+        SeqNode::Leaf => unreachable!(),
+        SeqNode::Fork(left, own, _, _, right) => Ok(TakenTree::Fork(shared(left, own, right)?)),
     }
 }
 
@@ -463,8 +468,8 @@ fn fork_left(alloc: Global, left: Arc<Seq>, high: Side) -> Result<Arc<Seq>, Allo
     ensures { IfOk result (λ s. arc_value s ≡ arc_value left ++ high.own ∷ arc_value high.list) }
 {
     match cut(left)? {
-        Taken::Leaf(left) => fork(alloc, high.behind(left)),
-        Taken::Fork(
+        TakenTree::Leaf(left) => fork(alloc, high.behind(left)),
+        TakenTree::Fork(
             Parts {
                 shell,
                 left,
@@ -488,8 +493,8 @@ fn fork_right(alloc: Global, low: Side, right: Arc<Seq>) -> Result<Arc<Seq>, All
     ensures { IfOk result (λ s. arc_value s ≡ arc_value low.list ++ low.own ∷ arc_value right) }
 {
     match cut(right)? {
-        Taken::Leaf(right) => fork(alloc, low.before(right)),
-        Taken::Fork(
+        TakenTree::Leaf(right) => fork(alloc, low.before(right)),
+        TakenTree::Fork(
             Parts {
                 shell,
                 left,
@@ -513,11 +518,11 @@ fn fork_midst(alloc: Global, low: Side, midst: Arc<Seq>, high: Side) -> Result<A
     ensures { IfOk result (λ s. arc_value s ≡ arc_value low.list ++ low.own ∷ (arc_value midst ++ high.own ∷ arc_value high.list)) }
 {
     match cut(midst)? {
-        Taken::Leaf(midst) => {
+        TakenTree::Leaf(midst) => {
             let right = fork(alloc, high.behind(midst))?;
             fork(alloc, low.before(right))
         }
-        Taken::Fork(
+        TakenTree::Fork(
             Parts {
                 shell,
                 left,

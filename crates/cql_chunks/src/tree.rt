@@ -14,13 +14,13 @@ use std::sync::Arc;
 
 /// The rows of a tree from a place on. The tree is shared.
 #[derive(Drop)]
-pub(crate) struct Tree {
+pub(crate) struct TreeRows {
     rows: Arc<Seq>,
     // So many rows at the front are gone.
     gone: usize,
 }
 
-impl Model for Tree {
+impl Model for TreeRows {
     ghost use Rattle.std.specs.Prelude.{◌≤◌, ◌<◌, ◌^◌, List, drop, length, map};
     ghost use Rattle.std.specs.Arc.{arc_value};
     ghost use Rattle.cql_value.specs.Element.{Element};
@@ -33,15 +33,15 @@ impl Model for Tree {
     ghost invariant = { λ t. (t.gone ≤ length (arc_value t.rows)) × (length (arc_value t.rows) < 2 ^ 63) };
 }
 
-impl Tree {
+impl TreeRows {
     /// All rows of a tree. No list has 2^63 rows: such a tree is refused as for want of memory.
-    pub(crate) fn of(rows: Arc<Seq>) -> Result<Tree, AllocError>
+    pub(crate) fn of(rows: Arc<Seq>) -> Result<TreeRows, AllocError>
         ensures { IfOk result (λ t. t ≡ map row_in (arc_value rows)) }
     {
         if rows.len() > LIMIT {
             return Err(AllocError);
         }
-        Ok(Tree { rows, gone: 0 })
+        Ok(TreeRows { rows, gone: 0 })
     }
 
     /// How many rows there are.
@@ -81,11 +81,11 @@ impl Tree {
     }
 
     /// The same rows with one more holder.
-    pub(crate) fn share(&self) -> Result<Tree, AllocError>
+    pub(crate) fn share(&self) -> Result<TreeRows, AllocError>
         ensures { IfOk result (λ t. t ≡ self.now) }
     {
         let rows = Arc::try_clone(&self.rows)?;
         let gone = self.gone;
-        Ok(Tree { rows, gone })
+        Ok(TreeRows { rows, gone })
     }
 }

@@ -12,7 +12,7 @@ use Rattle.cql_tenants.specs.declared.home.Home.{Home}
 use Rattle.cql_stream.specs.declared.refusal.StreamRefusal.{StreamRefusal}
 use Rattle.cql_stream.specs.declared.refusal.StreamRefusal.TheVariants as refused
 use Rattle.cql_stream.specs.declared.stream.Stream.{Stream as stream}
-use Rattle.cql_stream.specs.Refusal.{refusal_of}
+use Rattle.cql_stream.specs.Refusal.{clock_refusal}
 use Rattle.cql_stream.specs.Named.{same_name, find_named}
 use Rattle.cql_tenants.specs.Home.{is_place, home_at, change_home, tenant_named, stream_at, opened_at, is_of, grant_of, without_grant}
 use Rattle.cql_stream.specs.Taking.{time_refused, put_refused, beat_refused, opens}
@@ -21,7 +21,7 @@ use Rattle.cql_tenants.specs.Readable.{StreamSeen, own_found, granted_found}
 use Rattle.cql_core.specs.declared.command.Command.{Command}
 use Rattle.cql_core.specs.declared.command.Command.TheVariants.{Stream, Grant, Revoke, Put, Beat, Query, Fetch, Ack, Drop, List as Lists}
 use Rattle.cql_core.specs.Source.{Source, source_of, same_source}
-use Rattle.cql_core.specs.Told.{told_of, is_accepted}
+use Rattle.cql_core.specs.Told.{done_unless, is_accepted}
 use Rattle.cql_core.specs.Directory.{directory_after, readable_to, opened_in}
 use Rattle.cql_core.specs.View.{is_tenant}
 use Rattle.cql_core.proofs.Keys.{source_eq, turned}
@@ -47,23 +47,23 @@ takes_more None at h = h
 takes_more (Some s) at h = omega (arith, h)
 
 -- WHAT IS ACCEPTED
-pub time_taken : (s : stream) (at : ℕ) → is_accepted (told_of (time_refused s at)) ≡ true → s.clock ≤ at
+pub time_taken : (s : stream) (at : ℕ) → is_accepted (done_unless (time_refused s at)) ≡ true → s.clock ≤ at
 time_taken s at h = by (nat_lt greatest at) (nat_lt at s.clock) refl h
   where
-    by : (a b : Bool) → nat_lt at s.clock ≡ b → is_accepted (told_of (option_map refusal_of (if a then Some clock.AtTooLarge else (if b then Some clock.Late else None)))) ≡ true → s.clock ≤ at
+    by : (a b : Bool) → nat_lt at s.clock ≡ b → is_accepted (done_unless (option_map clock_refusal (if a then Some clock.AtTooLarge else (if b then Some clock.Late else None)))) ≡ true → s.clock ≤ at
     by true b is h = absurd cc
     by false true is h = absurd cc
     by false false is h = grind (arith, nat_tests)
 
-pub put_takes : (o : Option stream) (at : ℕ) (row : List Value) → is_accepted (told_of (put_refused o at row)) ≡ true → Takes o at
+pub put_takes : (o : Option stream) (at : ℕ) (row : List Value) → is_accepted (done_unless (put_refused o at row)) ≡ true → Takes o at
 put_takes None at row h = absurd cc
 put_takes (Some s) at row h = by (is_row_of s.schema row) h
   where
-    by : (b : Bool) → is_accepted (told_of (if b then time_refused s at else Some refused.WrongRow)) ≡ true → s.clock ≤ at
+    by : (b : Bool) → is_accepted (done_unless (if b then time_refused s at else Some refused.WrongRow)) ≡ true → s.clock ≤ at
     by true h = time_taken s at h
     by false h = absurd cc
 
-pub beat_takes : (o : Option stream) (at : ℕ) → is_accepted (told_of (beat_refused o at)) ≡ true → Takes o at
+pub beat_takes : (o : Option stream) (at : ℕ) → is_accepted (done_unless (beat_refused o at)) ≡ true → Takes o at
 beat_takes None at h = absurd cc
 beat_takes (Some s) at h = time_taken s at h
 
@@ -124,7 +124,7 @@ stays_time d u n at here takes =
     (λ o m h. h)
     (λ o m. subst (λ (n : ℕ). opened_at d o m ≤ n) (sym (opened_time d u n at here some.0 o m)) (later_by d u n at o m some.1 _ refl))
 
-stays_if : (b : Bool) (r : Option StreamRefusal) (d d' : List Home) → (b ≡ true → is_accepted (told_of r) ≡ true → Stays d d') → Stays d (if is_none (if b then r else Some refused.UnknownTenant) then d' else d)
+stays_if : (b : Bool) (r : Option StreamRefusal) (d d' : List Home) → (b ≡ true → is_accepted (done_unless r) ≡ true → Stays d d') → Stays d (if is_none (if b then r else Some refused.UnknownTenant) then d' else d)
 stays_if true None d d' stays = stays refl refl
 stays_if true (Some x) d d' stays = stays_same d
 stays_if false r d d' stays = stays_same d

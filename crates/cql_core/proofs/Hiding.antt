@@ -10,7 +10,7 @@ use Rattle.cql_tenants.specs.Directory.{Put as put, refused_at, done}
 use Rattle.cql_core.specs.declared.command.Command.{Command}
 use Rattle.cql_core.specs.declared.command.Command.TheVariants.{Put}
 use Rattle.cql_core.specs.Source.{source_of}
-use Rattle.cql_core.specs.Told.{told_of, is_accepted}
+use Rattle.cql_core.specs.Told.{done_unless, is_accepted}
 use Rattle.cql_core.specs.Directory.{reply_to_put, directory_after}
 use Rattle.cql_core.specs.View.{Own, Comes, is_granted, seen_of_other, seen, view}
 use Rattle.cql_core.specs.Solo.{nothing_known, solo}
@@ -19,7 +19,7 @@ use Rattle.cql_core.specs.Hidden.{HiddenPut, IsHiddenIn, AreHiddenIn, IsHiddenLa
 use Rattle.cql_core.proofs.Replies.{isolation_law}
 use Rattle.cql_core.proofs.Histories.{history_law}
 
-accepted_none : (o : Option StreamRefusal) → is_accepted (told_of o) ≡ is_none o
+accepted_none : (o : Option StreamRefusal) → is_accepted (done_unless o) ≡ is_none o
 accepted_none None = refl
 accepted_none (Some r) = refl
 

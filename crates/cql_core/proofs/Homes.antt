@@ -29,7 +29,7 @@ use Rattle.cql_core.specs.declared.command.Command.{Command}
 use Rattle.cql_core.specs.declared.command.Command.TheVariants.{Stream, Grant, Revoke, Put, Beat, Query, Fetch, Ack, Drop, List as Lists}
 use Rattle.cql_core.specs.Columns.{schema_of}
 use Rattle.cql_core.specs.Source.{Source, source_of, same_source}
-use Rattle.cql_core.specs.Told.{told_of, is_accepted}
+use Rattle.cql_core.specs.Told.{done_unless, is_accepted}
 use Rattle.cql_core.specs.Language.{Language}
 use Rattle.cql_core.specs.Directory.{reply_to_revoke, reply_to_stream, reply_to_grant, reply_to_put, reply_to_beat, directory_after, found_by, readable_to, opened_in}
 use Rattle.cql_core.specs.View.{Gone, Comes, Beats, appears, is_tenant, is_granted, seen_of_other}
@@ -149,7 +149,7 @@ module _ (t : ℕ) (d : List Home) (k : Known) (tied : TiedHomes t d k) where
       else Some refused.BadName
 
   pub same_stream : (name : List ℕ) (columns : List ColumnText) → reply_to_stream d t name columns ≡ meaning_of_stream k name columns
-  same_stream name columns = ap told_of (stream_by name (schema_of columns))
+  same_stream name columns = ap done_unless (stream_by name (schema_of columns))
 
   grantee_same : (n : List ℕ) (schema : List Column) (columns : Option (List (List ℕ))) (o : Option ℕ) → grantee_refused d t n schema columns o ≡ reader_refused t k n schema columns o
   grantee_same n schema columns None = refl
@@ -162,7 +162,7 @@ module _ (t : ℕ) (d : List Home) (k : Known) (tied : TiedHomes t d k) where
 
   pub same_grant : (n to : List ℕ) (columns : Option (List (List ℕ))) → reply_to_grant d t n to columns ≡ meaning_of_grant t k n to columns
   same_grant n to columns =
-      ap told_of (grant_same n to columns (stream_at d t n)) ∙ (λ i. told_of (given_refused t k n (find_named (tied.streams i) n) columns (tenant_in t k to)))
+      ap done_unless (grant_same n to columns (stream_at d t n)) ∙ (λ i. done_unless (given_refused t k n (find_named (tied.streams i) n) columns (tenant_in t k to)))
 
   taken_same : (n : List ℕ) (o : Option ℕ) → taken_refused d t n o ≡ loser_refused t k n o
   taken_same n None = refl
@@ -170,13 +170,13 @@ module _ (t : ℕ) (d : List Home) (k : Known) (tied : TiedHomes t d k) where
 
   pub same_revoke : (n to : List ℕ) → reply_to_revoke d t n to ≡ meaning_of_revoke t k n to
   same_revoke n to =
-      λ i. told_of (if is_some (find_named (tied.streams i) n) then (taken_same n (tenant_named d t to) ∙ ap (loser_refused t k n) (same_tenant to)) i else Some refused.UnknownStream)
+      λ i. done_unless (if is_some (find_named (tied.streams i) n) then (taken_same n (tenant_named d t to) ∙ ap (loser_refused t k n) (same_tenant to)) i else Some refused.UnknownStream)
 
   pub same_put : (n : List ℕ) (at : ℕ) (row : List Value) → reply_to_put d t n at row ≡ meaning_of_put k n at row
-  same_put n at row = λ i. told_of (put_refused (find_named (tied.streams i) n) at row)
+  same_put n at row = λ i. done_unless (put_refused (find_named (tied.streams i) n) at row)
 
   pub same_beat : (n : List ℕ) (at : ℕ) → reply_to_beat d t n at ≡ meaning_of_beat k n at
-  same_beat n at = λ i. told_of (beat_refused (find_named (tied.streams i) n) at)
+  same_beat n at = λ i. done_unless (beat_refused (find_named (tied.streams i) n) at)
 
 -- the time of a stream that is read
 own_time : (t : ℕ) (o : Option stream) → unwrap_or (option_map (λ s. s.clock) o) 0 ≡ unwrap_or (option_map (λ s. s.opened) (option_map (own_seen t) o)) 0
@@ -240,7 +240,7 @@ unread d t u n other none = (λ i. if other i then own_found d t n else granted_
 
 -- WHAT A COMMAND LEAVES
 -- what is refused to a tenant of the table is told so
-pub is_done : (b : Bool) (r : Option StreamRefusal) → b ≡ true → is_none (if b then r else Some refused.UnknownTenant) ≡ is_accepted (told_of r)
+pub is_done : (b : Bool) (r : Option StreamRefusal) → b ≡ true → is_none (if b then r else Some refused.UnknownTenant) ≡ is_accepted (done_unless r)
 is_done true None here = refl
 is_done true (Some x) here = refl
 is_done false r here = absurd cc
@@ -296,30 +296,30 @@ pub named_place : (d : List Home) (u : ℕ) (name : List ℕ) (place : ℕ) → 
 named_place d u name place here is = named_by d u name place (same_name name (home_at d u).name) here is
 
 -- what an accepted command says
-put_there : (o : Option stream) (at : ℕ) (row : List Value) → is_accepted (told_of (put_refused o at row)) ≡ true → is_some o ≡ true
+put_there : (o : Option stream) (at : ℕ) (row : List Value) → is_accepted (done_unless (put_refused o at row)) ≡ true → is_some o ≡ true
 put_there None at row fine = absurd cc
 put_there (Some s) at row fine = refl
 
-beat_there : (o : Option stream) (at : ℕ) → is_accepted (told_of (beat_refused o at)) ≡ true → is_some o ≡ true
+beat_there : (o : Option stream) (at : ℕ) → is_accepted (done_unless (beat_refused o at)) ≡ true → is_some o ≡ true
 beat_there None at fine = absurd cc
 beat_there (Some s) at fine = refl
 
-reader_parts : (same fine given : Bool) → is_accepted (told_of (if same then Some refused.SelfGrant else if fine then (if given then Some refused.AlreadyGranted else None) else Some refused.BadGrantColumns)) ≡ true → same ≡ false
+reader_parts : (same fine given : Bool) → is_accepted (done_unless (if same then Some refused.SelfGrant else if fine then (if given then Some refused.AlreadyGranted else None) else Some refused.BadGrantColumns)) ≡ true → same ≡ false
 reader_parts true fine given h = absurd cc
 reader_parts false fine given h = refl
 
 -- an accepted grant is of a stream that is there
-grant_parts : (d : List Home) (u : ℕ) (n : List ℕ) (columns : Option (List (List ℕ))) (to : List ℕ) (o : Option stream) → is_accepted (told_of (grant_refused d u n o columns to)) ≡ true
-    → (v : stream) × (o ≡ Some v) × (is_accepted (told_of (grantee_refused d u n v.schema columns (tenant_named d u to))) ≡ true)
+grant_parts : (d : List Home) (u : ℕ) (n : List ℕ) (columns : Option (List (List ℕ))) (to : List ℕ) (o : Option stream) → is_accepted (done_unless (grant_refused d u n o columns to)) ≡ true
+    → (v : stream) × (o ≡ Some v) × (is_accepted (done_unless (grantee_refused d u n v.schema columns (tenant_named d u to))) ≡ true)
 grant_parts d u n columns to None fine = absurd cc
 grant_parts d u n columns to (Some v) fine = (v, refl, fine)
 
 -- an accepted revoke is of another's grant
-pub revoke_parts : (own : Bool) (r : Option StreamRefusal) → is_accepted (told_of (if own then r else Some refused.UnknownStream)) ≡ true → is_accepted (told_of r) ≡ true
+pub revoke_parts : (own : Bool) (r : Option StreamRefusal) → is_accepted (done_unless (if own then r else Some refused.UnknownStream)) ≡ true → is_accepted (done_unless r) ≡ true
 revoke_parts true r fine = fine
 revoke_parts false r fine = absurd cc
 
-pub loser_parts : (same given : Bool) → is_accepted (told_of (if same then Some refused.NotGranted else (if given then None else Some refused.NotGranted))) ≡ true → same ≡ false
+pub loser_parts : (same given : Bool) → is_accepted (done_unless (if same then Some refused.NotGranted else (if given then None else Some refused.NotGranted))) ≡ true → same ≡ false
 loser_parts true given h = absurd cc
 loser_parts false given h = refl
 
@@ -450,7 +450,7 @@ module _ (language : Language) (t : ℕ) (d : List Home) (k : Known) (tied : Tie
         given = own_given n columns place lt;
       }
 
-  own_grant : (n to : List ℕ) (schema : List Column) (columns : Option (List (List ℕ))) (o : Option ℕ) → tenant_named d t to ≡ o → is_accepted (told_of (grantee_refused d t n schema columns o)) ≡ true
+  own_grant : (n to : List ℕ) (schema : List Column) (columns : Option (List (List ℕ))) (o : Option ℕ) → tenant_named d t to ≡ o → is_accepted (done_unless (grantee_refused d t n schema columns o)) ≡ true
       → TiedHomes t (grant_to d (new_grant d t n columns) o) (record k { given = with_given n o k.given })
   own_grant n to schema columns None is fine = absurd cc
   own_grant n to schema columns (Some place) is fine = own_grant_at n columns place (named_place d t to place here is) (reader_parts _ _ _ fine)
@@ -476,13 +476,13 @@ module _ (language : Language) (t : ℕ) (d : List Home) (k : Known) (tied : Tie
         given = own_untaken n place lt;
       }
 
-  own_revoke : (n to : List ℕ) (o : Option ℕ) → tenant_named d t to ≡ o → is_accepted (told_of (taken_refused d t n o)) ≡ true
+  own_revoke : (n to : List ℕ) (o : Option ℕ) → tenant_named d t to ≡ o → is_accepted (done_unless (taken_refused d t n o)) ≡ true
       → TiedHomes t (revoke_from d t n o) (record k { given = without_given n o k.given })
   own_revoke n to None is fine = absurd cc
   own_revoke n to (Some place) is fine = own_revoke_at n place (named_place d t to place here is) (loser_parts _ _ fine)
 
   -- the directory does what is told to be done
-  own_by : (r : Option StreamRefusal) (c : Bool) → is_accepted (told_of r) ≡ c → (d' : List Home) (k' : Known) → (c ≡ true → TiedHomes t d' k')
+  own_by : (r : Option StreamRefusal) (c : Bool) → is_accepted (done_unless r) ≡ c → (d' : List Home) (k' : Known) → (c ≡ true → TiedHomes t d' k')
       → TiedHomes t (if is_none (if is_place d t then r else Some refused.UnknownTenant) then d' else d) (if c then k' else k)
   own_by r c same d' k' then_it = choose t _ c (is_done (is_place d t) r (in_place d t here) ∙ same) d' d k' k then_it tied
 
@@ -623,12 +623,12 @@ module _ (language : Language) (t : ℕ) (d : List Home) (k : Known) (tied : Tie
       let stays : (home_at (change_home (with_grant (new_grant d u n columns)) d place) t).granted ≡ (home_at d t).granted = ap (λ h. h.granted) (home_other d place t _ (turned place t false far)) in
       granted_at n columns place lt k.readable (ap (map (grant_seen d)) stays ∙ tied.readable) (subst (AreOthers t) (sym stays) tied.apart)
 
-  grant_named : (n to : List ℕ) (schema : List Column) (columns : Option (List (List ℕ))) (o : Option ℕ) → is_some (stream_at d u n) ≡ true → tenant_named d u to ≡ o → is_accepted (told_of (grantee_refused d u n schema columns o)) ≡ true
+  grant_named : (n to : List ℕ) (schema : List Column) (columns : Option (List (List ℕ))) (o : Option ℕ) → is_some (stream_at d u n) ≡ true → tenant_named d u to ≡ o → is_accepted (done_unless (grantee_refused d u n schema columns o)) ≡ true
       → TiedHomes t (grant_to d (new_grant d u n columns) o) (known_from language t k (if is_tenant t o then appears u n columns (stream_at d u n) else []))
   grant_named n to schema columns None there is fine = absurd cc
   grant_named n to schema columns (Some place) there is fine = grant_by n columns place (named_place d u to place here is) there _ refl
 
-  other_grant : (n to : List ℕ) (columns : Option (List (List ℕ))) (b : Bool) → is_accepted (told_of (grant_refused d u n (stream_at d u n) columns to)) ≡ b
+  other_grant : (n to : List ℕ) (columns : Option (List (List ℕ))) (b : Bool) → is_accepted (done_unless (grant_refused d u n (stream_at d u n) columns to)) ≡ b
       → TiedHomes t (if b then grant_to d (new_grant d u n columns) (tenant_named d u to) else d) (known_from language t k (if b && is_tenant t (tenant_named d u to) then appears u n columns (stream_at d u n) else []))
   other_grant n to columns false fine = tied
   other_grant n to columns true fine =
@@ -668,7 +668,7 @@ module _ (language : Language) (t : ℕ) (d : List Home) (k : Known) (tied : Tie
       let stays : (home_at (change_home (without_grant u n) d place) t).granted ≡ (home_at d t).granted = ap (λ h. h.granted) (home_other d place t _ (turned place t false far)) in
       revoked_at n place lt k.readable (ap (map (grant_seen d)) stays ∙ tied.readable) (subst (AreOthers t) (sym stays) tied.apart)
 
-  revoke_named : (n to : List ℕ) (o : Option ℕ) → tenant_named d u to ≡ o → is_accepted (told_of (taken_refused d u n o)) ≡ true
+  revoke_named : (n to : List ℕ) (o : Option ℕ) → tenant_named d u to ≡ o → is_accepted (done_unless (taken_refused d u n o)) ≡ true
       → TiedHomes t (revoke_from d u n o) (known_from language t k (if is_tenant t o then Gone (source_of u n) ∷ [] else []))
   revoke_named n to None is fine = absurd cc
   revoke_named n to (Some place) is fine = revoke_by n place (named_place d u to place here is) _ refl
@@ -679,7 +679,7 @@ module _ (language : Language) (t : ℕ) (d : List Home) (k : Known) (tied : Tie
   other_revoke n to true fine = revoke_named n to (tenant_named d u to) refl (revoke_parts _ _ fine)
 
   -- the directory does what is told to be done
-  other_by : (r : Option StreamRefusal) (d' : List Home) (k' : Known) → TiedHomes t (if is_accepted (told_of r) then d' else d) k' → TiedHomes t (if is_none (if is_place d u then r else Some refused.UnknownTenant) then d' else d) k'
+  other_by : (r : Option StreamRefusal) (d' : List Home) (k' : Known) → TiedHomes t (if is_accepted (done_unless r) then d' else d) k' → TiedHomes t (if is_none (if is_place d u then r else Some refused.UnknownTenant) then d' else d) k'
   other_by r d' k' h = subst (λ (b : Bool). TiedHomes t (if b then d' else d) k') (sym (is_done (is_place d u) r (in_place d u here))) h
 
   made_by : (name : List ℕ) (schema : List Column) (b : Bool) → TiedHomes t (if b then change_home (with_stream name schema) d u else d) k

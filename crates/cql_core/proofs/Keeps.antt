@@ -20,7 +20,7 @@ use Rattle.cql_window.proofs.Picks.{read_at, at_all}
 use Rattle.cql_stream.specs.Taking.{put_refused, time_refused}
 use Rattle.cql_tenants.specs.Home.{home_at, opened_at, change_home, tenant_named, stream_at, is_of, grant_of, without_grant, nothing_made}
 use Rattle.cql_tenants.specs.Directory.{StreamCommand, Make as make, Share as share, Revoke as revoke, Put as put, Beat as beat, refused, done, with_grant, new_grant, grant_to, revoke_from}
-use Rattle.cql_tenants.specs.Directory.{directory_after as streams_after}
+use Rattle.cql_tenants.specs.Directory.{streams_after}
 use Rattle.cql_tenants.specs.Law.{AreOfStreams, directory_from}
 use Rattle.cql_tenants.specs.Readable.{StreamSeen, own_places, granted_places, own_found, granted_found}
 use Rattle.cql_window.proofs.Choices.{shown_within}
@@ -30,7 +30,7 @@ use Rattle.cql_core.specs.declared.command.Command.{Command}
 use Rattle.cql_core.specs.declared.command.Command.TheVariants.{Stream, Grant, Revoke, Put, Beat, Query, Fetch, Ack, Drop, List as Lists}
 use Rattle.cql_core.specs.Columns.{schema_of}
 use Rattle.cql_core.specs.Source.{Source, source_of}
-use Rattle.cql_core.specs.Told.{told_of, is_accepted}
+use Rattle.cql_core.specs.Told.{done_unless, is_accepted}
 use Rattle.cql_core.specs.Directory.{directory_after, readable_to, places_in}
 use Rattle.cql_core.proofs.Keys.{same_place, place_same, turned}
 use Rattle.cql_core.proofs.Look.{home_same, home_other, part_kept, some_is, some_map}
@@ -158,11 +158,11 @@ of_streams d r = subst AreOfStreams (sym r.is) (all_of_streams r.table r.calls)
 
 -- A ROW THAT IS ACCEPTED
 -- it has as many values as the stream has columns
-pub put_row : (o : Option stream) (at : ℕ) (row : List Value) → is_accepted (told_of (put_refused o at row)) ≡ true → (s : stream) × (o ≡ Some s) × (length row ≡ length s.schema)
+pub put_row : (o : Option stream) (at : ℕ) (row : List Value) → is_accepted (done_unless (put_refused o at row)) ≡ true → (s : stream) × (o ≡ Some s) × (length row ≡ length s.schema)
 put_row None at row h = absurd cc
 put_row (Some s) at row h = (s, refl, by (is_row_of s.schema row) refl h)
   where
-    by : (b : Bool) → is_row_of s.schema row ≡ b → is_accepted (told_of (if b then time_refused s at else Some refusal.WrongRow)) ≡ true → length row ≡ length s.schema
+    by : (b : Bool) → is_row_of s.schema row ≡ b → is_accepted (done_unless (if b then time_refused s at else Some refusal.WrongRow)) ≡ true → length row ≡ length s.schema
     by true is h = same_place (length row) (length s.schema) (and_parts (eqb (length row) (length s.schema)) _ is).0
     by false is h = absurd cc
 
@@ -185,11 +185,11 @@ put_has_by d r t u n s x there size true is =
 put_has_by d r t u n s x there size false is = has_granted d r t u n s x there size _ refl
 
 -- an accepted row has the places of each tenant that reads it
-pub put_has : (d : List Home) → Reached d → (t u : ℕ) (n : List ℕ) (x : Element) → is_accepted (told_of (put_refused (stream_at d u n) x.at x.row)) ≡ true → HasPlaces (places_in d t (source_of u n)) x
+pub put_has : (d : List Home) → Reached d → (t u : ℕ) (n : List ℕ) (x : Element) → is_accepted (done_unless (put_refused (stream_at d u n) x.at x.row)) ≡ true → HasPlaces (places_in d t (source_of u n)) x
 put_has d r t u n x fine = let row = put_row (stream_at d u n) x.at x.row fine in put_has_by d r t u n row.0 x row.1 row.2 _ refl
 
 -- its owner sees it whole
-pub put_whole : (d : List Home) (t : ℕ) (n : List ℕ) (x : Element) → is_accepted (told_of (put_refused (stream_at d t n) x.at x.row)) ≡ true → narrowed (places_in d t (source_of t n)) x ≡ x
+pub put_whole : (d : List Home) (t : ℕ) (n : List ℕ) (x : Element) → is_accepted (done_unless (put_refused (stream_at d t n) x.at x.row)) ≡ true → narrowed (places_in d t (source_of t n)) x ≡ x
 put_whole d t n x fine =
     let row = put_row (stream_at d t n) x.at x.row fine in
     let all_of : places_in d t (source_of t n) ≡ all_places (length x.row) =

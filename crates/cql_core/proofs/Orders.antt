@@ -13,13 +13,13 @@ use Rattle.cql_stream.specs.declared.refusal.StreamRefusal.TheVariants as refuse
 use Rattle.cql_stream.specs.Named.{find_named}
 use Rattle.cql_window.specs.Chosen.{is_shown}
 use Rattle.cql_stream.specs.Taking.{put_refused, beat_refused}
-use Rattle.cql_stream.specs.Refusal.{refusal_of}
+use Rattle.cql_stream.specs.Refusal.{clock_refusal}
 use Rattle.cql_core.specs.declared.command.Command.TheVariants.{Query}
 use Rattle.cql_core.specs.declared.refusal.Refusal.{Refusal}
 use Rattle.cql_core.specs.declared.refusal.Refusal.TheVariants.{StreamExists, BadName, BadColumns, TooManyStreams, UnknownStream, UnknownTenant, AlreadyGranted, SelfGrant, BadGrantColumns, NotGranted, WrongRow, Late, AtTooLarge, BadQuery, TooManyQueries, QueryExists, UnknownQuery, Overrun, Ahead, Behind, Revoked}
 use Rattle.cql_core.specs.Columns.{schema_of}
 use Rattle.cql_core.specs.Source.{BoundInput, BoundPlan}
-use Rattle.cql_core.specs.Told.{Told, Done, Based, Blocks, Refused, told_of}
+use Rattle.cql_core.specs.Told.{Told, Done, Based, Blocks, Refused, done_unless}
 use Rattle.cql_core.specs.Language.{Language, through_places, contents_at, content_of, AreAlike, IsLanguage}
 use Rattle.cql_core.specs.Checks.{check_query, check_fetch, check_ack, check_drop}
 use Rattle.cql_core.specs.Solo.{Asked, Known, tenant_in, is_given, plan_in, base_to, limit_to, passes, rows_on, whole, blocks_over, told_unless, stream_refused, given_refused, loser_refused, meaning_of_list, meaning_of_fetch, meaning_of_ack, meaning}
@@ -48,7 +48,7 @@ there_first false cs otherwise told e = refl
 
 -- STREAMS
 stream_checked : (named : Bool) (schema : Option (List Column)) (exists room : Bool)
-    → told_of (if named then (if is_none schema then Some refused.BadColumns else (if exists then Some refused.StreamExists else (if room then None else Some refused.TooManyStreams))) else Some refused.BadName)
+    → done_unless (if named then (if is_none schema then Some refused.BadColumns else (if exists then Some refused.StreamExists else (if room then None else Some refused.TooManyStreams))) else Some refused.BadName)
     ≡ first (check (not named) BadName ∷ check (is_none schema) BadColumns ∷ check exists StreamExists ∷ check (not room) TooManyStreams ∷ []) Done
 stream_checked false schema exists room = refl
 stream_checked true None exists room = refl
@@ -68,7 +68,7 @@ schema_first k name named e (Some columns) =
     ap (λ b. if b then (if is_some (find_named k.streams name) then Some refused.StreamExists else (if nat_lt (length k.streams) k.quotas.streams then None else Some refused.TooManyStreams)) else Some refused.BadName) e
 
 grant_checked : (own : Option Clocked) (tenant : ℕ) (k : Known) (name : List ℕ) (columns : Option (List (List ℕ))) (place : Option ℕ)
-    → told_of (given_refused tenant k name own columns place)
+    → done_unless (given_refused tenant k name own columns place)
     ≡ first (check (is_none own) UnknownStream ∷ check (is_none place) UnknownTenant ∷ check (is_itself tenant place) SelfGrant
     ∷ check (not (is_shown (unwrap_or (option_map (λ (s : Clocked). s.schema) own) []) columns)) BadGrantColumns ∷ check (is_given_to k name place) AlreadyGranted ∷ []) Done
 grant_checked None tenant k name columns place = refl
@@ -76,7 +76,7 @@ grant_checked (Some s) tenant k name columns None = refl
 grant_checked (Some s) tenant k name columns (Some place) = by (place == tenant) (is_shown s.schema columns) (is_given k place name)
   where
     by : (itself fine given : Bool)
-        → told_of (if itself then Some refused.SelfGrant else if fine then (if given then Some refused.AlreadyGranted else None) else Some refused.BadGrantColumns)
+        → done_unless (if itself then Some refused.SelfGrant else if fine then (if given then Some refused.AlreadyGranted else None) else Some refused.BadGrantColumns)
         ≡ (if itself then Refused SelfGrant else (if not fine then Refused BadGrantColumns else (if given then Refused AlreadyGranted else Done)))
     by true fine given = refl
     by false true true = refl
@@ -84,24 +84,24 @@ grant_checked (Some s) tenant k name columns (Some place) = by (place == tenant)
     by false false given = refl
 
 revoke_checked : (own : Option Clocked) (tenant : ℕ) (k : Known) (name : List ℕ) (place : Option ℕ)
-    → told_of (if is_some own then loser_refused tenant k name place else Some refused.UnknownStream)
+    → done_unless (if is_some own then loser_refused tenant k name place else Some refused.UnknownStream)
     ≡ first (check (is_none own) UnknownStream ∷ check (is_none place) UnknownTenant ∷ check (is_itself tenant place) NotGranted ∷ check (not (is_given_to k name place)) NotGranted ∷ []) Done
 revoke_checked None tenant k name place = refl
 revoke_checked (Some s) tenant k name None = refl
 revoke_checked (Some s) tenant k name (Some place) = by (place == tenant) (is_given k place name)
   where
-    by : (itself given : Bool) → told_of (if itself then Some refused.NotGranted else (if given then None else Some refused.NotGranted)) ≡ (if itself then Refused NotGranted else (if not given then Refused NotGranted else Done))
+    by : (itself given : Bool) → done_unless (if itself then Some refused.NotGranted else (if given then None else Some refused.NotGranted)) ≡ (if itself then Refused NotGranted else (if not given then Refused NotGranted else Done))
     by true given = refl
     by false true = refl
     by false false = refl
 
-time_checked : (large late : Bool) → told_of (option_map refusal_of (if large then Some clock.AtTooLarge else (if late then Some clock.Late else None))) ≡ first (check large AtTooLarge ∷ check late Late ∷ []) Done
+time_checked : (large late : Bool) → done_unless (option_map clock_refusal (if large then Some clock.AtTooLarge else (if late then Some clock.Late else None))) ≡ first (check large AtTooLarge ∷ check late Late ∷ []) Done
 time_checked true late = refl
 time_checked false true = refl
 time_checked false false = refl
 
 put_checked : (fits large late : Bool)
-    → told_of (if fits then option_map refusal_of (if large then Some clock.AtTooLarge else (if late then Some clock.Late else None)) else Some refused.WrongRow)
+    → done_unless (if fits then option_map clock_refusal (if large then Some clock.AtTooLarge else (if late then Some clock.Late else None)) else Some refused.WrongRow)
     ≡ first (check (not fits) WrongRow ∷ check large AtTooLarge ∷ check late Late ∷ []) Done
 put_checked true large late = time_checked large late
 put_checked false large late = refl
@@ -190,13 +190,13 @@ module _ (language : Language) (is : IsLanguage language) (t : ℕ) (k : Known) 
   order = record {
     make = λ name columns.
         told_by (stream_checks k name columns) Done _
-        (ap told_of (schema_first k name (is_name name) refl (schema_of columns)) ∙ stream_checked (is_name name) (schema_of columns) (is_some (find_named k.streams name)) (nat_lt (length k.streams) k.quotas.streams));
+        (ap done_unless (schema_first k name (is_name name) refl (schema_of columns)) ∙ stream_checked (is_name name) (schema_of columns) (is_some (find_named k.streams name)) (nat_lt (length k.streams) k.quotas.streams));
     grant = λ name to columns. told_by (grant_checks t k name columns (tenant_in t k to)) Done _ (grant_checked (find_named k.streams name) t k name columns (tenant_in t k to));
     revoke = λ name to. told_by (revoke_checks t k name (tenant_in t k to)) Done _ (revoke_checked (find_named k.streams name) t k name (tenant_in t k to));
-    put_nowhere = λ name at row e. told_by no_stream Done _ (ap (λ s. told_of (put_refused s at row)) e);
-    put = λ name at row s e. told_by (row_checks s at row) Done _ (ap (λ s. told_of (put_refused s at row)) e ∙ put_checked (is_row_of s.schema row) (nat_lt (2 ^ 62 - 1) at) (nat_lt at s.clock));
-    beat_nowhere = λ name at e. told_by no_stream Done _ (ap (λ s. told_of (beat_refused s at)) e);
-    beat = λ name at s e. told_by (time_checks s at) Done _ (ap (λ s. told_of (beat_refused s at)) e ∙ time_checked (nat_lt (2 ^ 62 - 1) at) (nat_lt at s.clock));
+    put_nowhere = λ name at row e. told_by no_stream Done _ (ap (λ s. done_unless (put_refused s at row)) e);
+    put = λ name at row s e. told_by (row_checks s at row) Done _ (ap (λ s. done_unless (put_refused s at row)) e ∙ put_checked (is_row_of s.schema row) (nat_lt (2 ^ 62 - 1) at) (nat_lt at s.clock));
+    beat_nowhere = λ name at e. told_by no_stream Done _ (ap (λ s. done_unless (beat_refused s at)) e);
+    beat = λ name at s e. told_by (time_checks s at) Done _ (ap (λ s. done_unless (beat_refused s at)) e ∙ time_checked (nat_lt (2 ^ 62 - 1) at) (nat_lt at s.clock));
     query_refused = λ name text refusal e. query_same name text (Refused refusal) (ap (λ r. check_query true None false true r (base_to t k)) e);
     query = λ name text plan e. query_same name text (Based (base_to t k plan)) (ap (λ r. check_query true None false true r (base_to t k)) e);
     fetch_nothing = λ name until e. told_by no_query Done _ (ap (λ q. meaning_of_fetch language t k q until) e);

@@ -8,14 +8,14 @@ use Rattle.cql_stream.specs.declared.refusal.StreamRefusal.TheVariants as refuse
 use Rattle.cql_stream.specs.Named.{find_named}
 use Rattle.cql_tenants.specs.Home.{is_place, home_at}
 use Rattle.cql_tenants.specs.Directory.{StreamCommand, Make as make, Share as share, Revoke as revoke, Put as put, Beat as beat, refused_at, done}
-use Rattle.cql_tenants.specs.Directory.{directory_after as streams_after}
+use Rattle.cql_tenants.specs.Directory.{streams_after}
 use Rattle.cql_core.specs.declared.command.Command.{Command}
 use Rattle.cql_core.specs.declared.command.Command.TheVariants.{Stream, Grant, Revoke, Put, Beat, Query, Fetch, Ack, Drop, List as Lists}
 use Rattle.cql_core.specs.declared.refusal.Refusal.{Refusal}
 use Rattle.cql_core.specs.declared.refusal.Refusal.TheVariants.{UnknownTenant}
 use Rattle.cql_core.specs.Columns.{schema_of}
 use Rattle.cql_core.specs.Source.{BoundPlan}
-use Rattle.cql_core.specs.Told.{Told, Done, Based, Blocks, Listed, Refused, told_of, is_accepted, Says}
+use Rattle.cql_core.specs.Told.{Told, Done, Based, Blocks, Listed, Refused, done_unless, is_accepted, Says}
 use Rattle.cql_core.specs.Language.{Language}
 use Rattle.cql_core.specs.Checks.{check_query, check_ack, check_drop}
 use Rattle.cql_core.specs.Directory.{directory_after}
@@ -23,12 +23,12 @@ use Rattle.cql_core.specs.Machine.{Live, State, queries_at, plan_for, base_in, i
 use Rattle.cql_core.specs.Law.{AreRefusalLaws}
 
 -- the directory stays where the command is refused in it
-refused_by : (place : Bool) (o : Option StreamRefusal) → (place ≡ true → is_accepted (told_of o) ≡ false) → is_none (if place then o else Some refused.UnknownTenant) ≡ false
+refused_by : (place : Bool) (o : Option StreamRefusal) → (place ≡ true → is_accepted (done_unless o) ≡ false) → is_none (if place then o else Some refused.UnknownTenant) ≡ false
 refused_by true None h = h refl
 refused_by true (Some r) h = refl
 refused_by false o h = refl
 
-directory_stays : (homes : List Home) (u : ℕ) (c : StreamCommand) → (is_place homes u ≡ true → is_accepted (told_of (refused_at homes u c)) ≡ false) → streams_after homes u c ≡ homes
+directory_stays : (homes : List Home) (u : ℕ) (c : StreamCommand) → (is_place homes u ≡ true → is_accepted (done_unless (refused_at homes u c)) ≡ false) → streams_after homes u c ≡ homes
 directory_stays homes u c h = ap (λ b. if b then done homes u c else homes) (refused_by (is_place homes u) (refused_at homes u c) h)
 
 module _ (language : Language) (s : State) (u : ℕ) where
@@ -82,7 +82,7 @@ are_blocks (Blocks blocks next) = true
 are_blocks (Listed listing) = false
 are_blocks (Refused refusal) = false
 
-unblocked_stream : (o : Option StreamRefusal) → are_blocks (told_of o) ≡ false
+unblocked_stream : (o : Option StreamRefusal) → are_blocks (done_unless o) ≡ false
 unblocked_stream None = refl
 unblocked_stream (Some r) = refl
 

@@ -16,7 +16,7 @@ use Rattle.cql_core.specs.declared.command.Command.TheVariants.{Stream, Grant, R
 use Rattle.cql_core.specs.declared.refusal.Refusal.{Refusal}
 use Rattle.cql_core.specs.declared.refusal.Refusal.TheVariants.{UnknownTenant}
 use Rattle.cql_core.specs.Source.{Source, source_of, same_source, BoundPlan}
-use Rattle.cql_core.specs.Told.{told_of, Refused, is_accepted}
+use Rattle.cql_core.specs.Told.{done_unless, Refused, is_accepted}
 use Rattle.cql_core.specs.Language.{Language, IsLanguage}
 use Rattle.cql_core.specs.Checks.{check_ack, check_drop}
 use Rattle.cql_core.specs.Directory.{readable_to, reply_to_put, reply_to_revoke, directory_after, opened_in, places_in}
@@ -333,7 +333,7 @@ module _ (language : Language) (is : IsLanguage language) (t : ℕ) (s : State) 
         revoke_by to here (λ b. known_from language t k (if b && is_tenant t (tenant_named s.homes u to) then Gone lost ∷ [] else []))
         (λ fine. revoke_seen_by (tenant_named s.homes u to) (λ place e. named_place s.homes u to place here e) _ refl) tied.asked
 
-  taken_far : (n : List ℕ) (o : Option ℕ) → is_accepted (told_of (taken_refused s.homes t n o)) ≡ true → is_tenant t o ≡ false
+  taken_far : (n : List ℕ) (o : Option ℕ) → is_accepted (done_unless (taken_refused s.homes t n o)) ≡ true → is_tenant t o ≡ false
   taken_far n None fine = refl
   taken_far n (Some place) fine = loser_parts _ _ fine
 

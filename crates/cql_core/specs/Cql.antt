@@ -11,7 +11,7 @@ use Rattle.cql_plan.specs.Typing.{typing}
 use Rattle.cql_tenants.specs.declared.home.Home.{Home}
 use Rattle.cql_tenants.specs.Readable.{found}
 use Rattle.cql_algebra.specs.declared.told.Block.{Block}
-use Rattle.cql_algebra.specs.Blocks.{blocks_of as runs_of}
+use Rattle.cql_algebra.specs.Blocks.{blocks_of}
 use Rattle.cql_eval.specs.Pin.{PinSeen}
 use Rattle.cql_eval.specs.Relation.{output_at}
 use Rattle.cql_core.specs.declared.refusal.Refusal.{Refusal}
@@ -21,14 +21,14 @@ use Rattle.cql_core.specs.Directory.{places_in}
 use Rattle.cql_core.specs.Language.{Language}
 
 -- the refusal that a fault of the typing is
-abbrev pub refusal_of : PlanFault → Refusal
-refusal_of fault.UnknownStream = UnknownStream
-refusal_of fault.UnknownColumn = UnknownColumn
-refusal_of fault.AmbiguousColumn = AmbiguousColumn
-refusal_of fault.TypeMismatch = TypeMismatch
+abbrev pub plan_refusal : PlanFault → Refusal
+plan_refusal fault.UnknownStream = UnknownStream
+plan_refusal fault.UnknownColumn = UnknownColumn
+plan_refusal fault.AmbiguousColumn = AmbiguousColumn
+plan_refusal fault.TypeMismatch = TypeMismatch
 
 abbrev pub or_refusal : Result Planned PlanFault → Result Planned Refusal
-or_refusal (Err error) = Err (refusal_of error)
+or_refusal (Err error) = Err (plan_refusal error)
 or_refusal (Ok plan) = Ok plan
 
 -- the plan of a query, or the refusal that the first fault of its typing is
@@ -66,8 +66,8 @@ unfoldable pub spelled : List ℕ → List ℕ
 spelled text = spelled_from (read_of text)
 
 -- the maximal runs of a pin's outputs
-unfoldable pub blocks_of : PinSeen → List Block
-blocks_of p = runs_of (output_at p) p.from p.next
+unfoldable pub pin_blocks : PinSeen → List Block
+pin_blocks p = blocks_of (output_at p) p.from p.next
 
 abbrev pub cql : Language
-cql = record { bad_byte = bad_byte; plan_of = plan_of; spelled = spelled; blocks_of = blocks_of }
+cql = record { bad_byte = bad_byte; plan_of = plan_of; spelled = spelled; blocks_of = pin_blocks }

@@ -4,29 +4,29 @@ use Rattle.cql_value.specs.declared.value.Value.{Value}
 use Rattle.cql_tenants.specs.declared.home.Home.{Home}
 use Rattle.cql_tenants.specs.Home.{opened_at}
 use Rattle.cql_tenants.specs.Directory.{Make as make, Share as share, Revoke as revoke, Put as put, Beat as beat, refused_at}
-use Rattle.cql_tenants.specs.Directory.{directory_after as streams_after}
+use Rattle.cql_tenants.specs.Directory.{streams_after}
 use Rattle.cql_tenants.specs.Readable.{StreamSeen, owner_meant, found_of, places_seen}
 use Rattle.cql_core.specs.declared.command.ColumnText.{ColumnText}
 use Rattle.cql_core.specs.declared.command.Command.{Command}
 use Rattle.cql_core.specs.declared.command.Command.TheVariants.{Stream, Grant, Revoke, Put, Beat, Query, Fetch, Ack, Drop, List as Lists}
 use Rattle.cql_core.specs.Columns.{schema_of}
 use Rattle.cql_core.specs.Source.{Source, Found}
-use Rattle.cql_core.specs.Told.{Told, told_of}
+use Rattle.cql_core.specs.Told.{Told, done_unless}
 
 abbrev pub reply_to_stream : List Home → ℕ → List ℕ → List ColumnText → Told
-reply_to_stream homes user name columns = told_of (refused_at homes user (make name (schema_of columns)))
+reply_to_stream homes user name columns = done_unless (refused_at homes user (make name (schema_of columns)))
 
 abbrev pub reply_to_grant : List Home → ℕ → List ℕ → List ℕ → Option (List (List ℕ)) → Told
-reply_to_grant homes user stream to columns = told_of (refused_at homes user (share stream to columns))
+reply_to_grant homes user stream to columns = done_unless (refused_at homes user (share stream to columns))
 
 abbrev pub reply_to_revoke : List Home → ℕ → List ℕ → List ℕ → Told
-reply_to_revoke homes user stream to = told_of (refused_at homes user (revoke stream to))
+reply_to_revoke homes user stream to = done_unless (refused_at homes user (revoke stream to))
 
 abbrev pub reply_to_put : List Home → ℕ → List ℕ → ℕ → List Value → Told
-reply_to_put homes user stream at row = told_of (refused_at homes user (put stream at row))
+reply_to_put homes user stream at row = done_unless (refused_at homes user (put stream at row))
 
 abbrev pub reply_to_beat : List Home → ℕ → List ℕ → ℕ → Told
-reply_to_beat homes user stream at = told_of (refused_at homes user (beat stream at))
+reply_to_beat homes user stream at = done_unless (refused_at homes user (beat stream at))
 
 abbrev pub directory_after : List Home → ℕ → Command → List Home
 directory_after homes user (Stream name columns) = streams_after homes user (make name (schema_of columns))

@@ -26,7 +26,7 @@ use Rattle.cql_core.specs.declared.refusal.Refusal.{Refusal}
 use Rattle.cql_core.specs.declared.refusal.Refusal.TheVariants.{UnknownTenant, UnknownQuery}
 use Rattle.cql_core.specs.Columns.{schema_of}
 use Rattle.cql_core.specs.Source.{Source, source_of, same_source, Found, BoundInput, BoundPlan}
-use Rattle.cql_core.specs.Told.{Told, told_of, Listed, Refused, is_accepted}
+use Rattle.cql_core.specs.Told.{Told, done_unless, Listed, Refused, is_accepted}
 use Rattle.cql_core.specs.Language.{Language, plan_over, told_of_pin}
 use Rattle.cql_core.specs.Checks.{check_query, check_fetch, check_ack, check_drop, limit_over, next_of, is_behind}
 use Rattle.cql_core.specs.View.{Seen, Own, Appears, Gone, Comes, Beats}
@@ -125,7 +125,7 @@ stream_refused k name (Some schema) =
     if is_name name then (if is_some (find_named k.streams name) then Some refused.StreamExists else (if nat_lt (length k.streams) k.quotas.streams then None else Some refused.TooManyStreams)) else Some refused.BadName
 
 abbrev pub meaning_of_stream : Known → List ℕ → List ColumnText → Told
-meaning_of_stream k name columns = told_of (stream_refused k name (schema_of columns))
+meaning_of_stream k name columns = done_unless (stream_refused k name (schema_of columns))
 
 -- the stream was given to the tenant at that place
 abbrev pub is_given : Known → ℕ → List ℕ → Bool
@@ -143,7 +143,7 @@ given_refused tenant k stream None columns to = Some refused.UnknownStream
 given_refused tenant k stream (Some s) columns to = reader_refused tenant k stream s.schema columns to
 
 abbrev pub meaning_of_grant : ℕ → Known → List ℕ → List ℕ → Option (List (List ℕ)) → Told
-meaning_of_grant tenant k stream to columns = told_of (given_refused tenant k stream (find_named k.streams stream) columns (tenant_in tenant k to))
+meaning_of_grant tenant k stream to columns = done_unless (given_refused tenant k stream (find_named k.streams stream) columns (tenant_in tenant k to))
 
 -- a tenant of that name, to which the stream is granted
 abbrev pub loser_refused : ℕ → Known → List ℕ → Option ℕ → Option StreamRefusal
@@ -151,13 +151,13 @@ loser_refused tenant k stream None = Some refused.UnknownTenant
 loser_refused tenant k stream (Some to) = if to == tenant then Some refused.NotGranted else (if is_given k to stream then None else Some refused.NotGranted)
 
 abbrev pub meaning_of_revoke : ℕ → Known → List ℕ → List ℕ → Told
-meaning_of_revoke tenant k stream to = told_of (if is_some (find_named k.streams stream) then loser_refused tenant k stream (tenant_in tenant k to) else Some refused.UnknownStream)
+meaning_of_revoke tenant k stream to = done_unless (if is_some (find_named k.streams stream) then loser_refused tenant k stream (tenant_in tenant k to) else Some refused.UnknownStream)
 
 abbrev pub meaning_of_put : Known → List ℕ → ℕ → List Value → Told
-meaning_of_put k stream at row = told_of (put_refused (find_named k.streams stream) at row)
+meaning_of_put k stream at row = done_unless (put_refused (find_named k.streams stream) at row)
 
 abbrev pub meaning_of_beat : Known → List ℕ → ℕ → Told
-meaning_of_beat k stream at = told_of (beat_refused (find_named k.streams stream) at)
+meaning_of_beat k stream at = done_unless (beat_refused (find_named k.streams stream) at)
 
 abbrev pub plan_in : Language → ℕ → Known → List ℕ → Result BoundPlan Refusal
 plan_in language tenant k text = plan_over language (found_in tenant k) text

@@ -16,9 +16,9 @@ pub data Told : Type 0 where
   Refused : Refusal → Told
 
 -- done, unless the directory refuses it
-abbrev pub told_of : Option StreamRefusal → Told
-told_of None = Done
-told_of (Some refused) = Refused (refusal_of refused)
+abbrev pub done_unless : Option StreamRefusal → Told
+done_unless None = Done
+done_unless (Some refused) = Refused (refusal_of refused)
 
 -- the command did what it asks for
 abbrev pub is_accepted : Told → Bool

@@ -14,8 +14,8 @@ ghost use Rattle.cql_eval.specs.Warm.{IsKept, StandsBehind};
 use crate::answered::Answer;
 use crate::bags::Room;
 use crate::pin::Pin;
-use crate::shown::{LastTold, Shown, nothing_shown, open, same_output, step};
-use crate::warm::{Kept, remember, resume};
+use crate::shown::{LastTold, WalkState, nothing_shown, open, same_output, step};
+use crate::warm::{LastAnswer, remember, resume};
 use cql_algebra::{Block, Output, Runs};
 use cql_ops::{BenchOf, Operator};
 use cql_plan::OutputKind;
@@ -61,7 +61,7 @@ pub(crate) fn evaluate<O: Operator>(
     alloc: Global,
     bench: &mut BenchOf<O>,
     pin: &Pin,
-    kept: Option<Kept>,
+    kept: Option<LastAnswer>,
 ) -> Result<(Vec<Block>, u64, bool, Option<LastTold>), AllocError>
     requires bench { IsBench O.seen_in bench.old }
     requires kept { IfSome kept (λ k. StandsBehind k (bench_seen O.seen_in bench.old)) }
@@ -210,11 +210,11 @@ fn change<'a, O: Operator>(
     alloc: Global,
     bench: &mut BenchOf<O>,
     pin: &'a Pin,
-    shown: Shown<'a>,
+    shown: WalkState<'a>,
     runs: &mut Runs,
     rows: &mut Room,
     until: u64,
-) -> Result<Shown<'a>, AllocError>
+) -> Result<WalkState<'a>, AllocError>
     requires bench { IsBench O.seen_in bench.old }
     requires based { pin.now.base ≤ runs.old.next }
     requires forward { runs.old.next < until }
@@ -241,11 +241,11 @@ fn begin<'a, O: Operator>(
     alloc: Global,
     bench: &mut BenchOf<O>,
     pin: &'a Pin,
-    kept: Option<Kept>,
+    kept: Option<LastAnswer>,
     runs: &mut Runs,
     rows: &mut Room,
     until: u64,
-) -> Result<(Shown<'a>, bool), AllocError>
+) -> Result<(WalkState<'a>, bool), AllocError>
     requires bench { IsBench O.seen_in bench.old }
     requires kept { IfSome kept (λ k. StandsBehind k (bench_seen O.seen_in bench.old)) }
     requires next { runs.old.next ≡ pin.now.from }

@@ -18,4 +18,4 @@ pub use evaluate::answer;
 pub use evaluator::Evaluator;
 pub use pin::Pin;
 pub use pool::{Lender, Pool, Pooled};
-pub use warm::{Kept, MOST, Warm};
+pub use warm::{LastAnswer, MOST, Warm};

@@ -46,23 +46,23 @@ impl LastTold {
 }
 
 /// Walks over the windows, and what is kept of the relation.
-pub(crate) struct Shown<'a> {
+pub(crate) struct WalkState<'a> {
     pub(crate) walks: Vec<SeenWalk<'a>>,
     pub(crate) last: LastTold,
 }
 
-impl<'a> Drop for Shown<'a> {
+impl<'a> Drop for WalkState<'a> {
     fn drop(self) {
-        let Shown { walks: _, last: _ } = self;
+        let WalkState { walks: _, last: _ } = self;
     }
 }
 
-impl<'a> Shown<'a> {
+impl<'a> WalkState<'a> {
     pub(crate) fn into_parts(self) -> (Vec<SeenWalk<'a>>, LastTold)
         ensures walks { result.0.items ≡ self.entry.walks.items }
         ensures last { result.1 ≡ self.entry.last }
     {
-        let Shown { walks, last } = self;
+        let WalkState { walks, last } = self;
         (walks, last)
     }
 }
@@ -72,7 +72,7 @@ pub(crate) fn nothing_shown<'a, O: Operator>(
     alloc: Global,
     bench: &mut BenchOf<O>,
     pin: &'a Pin,
-) -> Result<Shown<'a>, AllocError>
+) -> Result<WalkState<'a>, AllocError>
     requires { IsBench O.seen_in bench.old }
     ensures bench { IsBench O.seen_in bench.new }
     ensures shown { IfOk result (λ s. (c : ℕ) → c ≤ pin.now.base → IsShown pin.now c s.walks.items s.last (bench_seen O.seen_in bench.new)) }
@@ -82,7 +82,7 @@ pub(crate) fn nothing_shown<'a, O: Operator>(
         bag: Bag::new(alloc),
         fault: None,
     };
-    Ok(Shown { walks, last })
+    Ok(WalkState { walks, last })
 }
 
 // What Rstream keeps and tells after changes. Here and in what calls it `rows` is room, of which nothing
@@ -304,9 +304,9 @@ pub(crate) fn open<'a, O: Operator>(
     alloc: Global,
     bench: &mut BenchOf<O>,
     pin: &'a Pin,
-    shown: Shown<'a>,
+    shown: WalkState<'a>,
     cursor: u64,
-) -> Result<Shown<'a>, AllocError>
+) -> Result<WalkState<'a>, AllocError>
     requires bench { IsBench O.seen_in bench.old }
     requires based { pin.now.base < cursor }
     requires shown { (c : ℕ) × (c ≤ cursor) × IsShown pin.now c shown.walks.items shown.last (bench_seen O.seen_in bench.old) }
@@ -316,7 +316,7 @@ pub(crate) fn open<'a, O: Operator>(
     let (walks, last) = shown.into_parts();
     let (walks, outcome) = reach(alloc, bench, pin, walks, cursor)?;
     let last = keep(alloc, pin.plan().output(), last, outcome)?;
-    Ok(Shown { walks, last })
+    Ok(WalkState { walks, last })
 }
 
 /// What is shown at a later cursor, and the output from the one to the other, or none where the
@@ -325,10 +325,10 @@ pub(crate) fn step<'a, O: Operator>(
     alloc: Global,
     bench: &mut BenchOf<O>,
     pin: &'a Pin,
-    shown: Shown<'a>,
+    shown: WalkState<'a>,
     cursor: u64,
     rows: &mut Room,
-) -> Result<(Shown<'a>, Option<Output>), AllocError>
+) -> Result<(WalkState<'a>, Option<Output>), AllocError>
     requires bench { IsBench O.seen_in bench.old }
     requires based { pin.now.base < cursor }
     requires shown { (c : ℕ) × (c ≤ cursor) × IsShown pin.now c shown.walks.items shown.last (bench_seen O.seen_in bench.old) }
@@ -339,7 +339,7 @@ pub(crate) fn step<'a, O: Operator>(
     let (walks, last) = shown.into_parts();
     let (walks, outcome) = reach(alloc, bench, pin, walks, cursor)?;
     let (last, told) = tell(alloc, pin.plan().output(), last, outcome, rows)?;
-    Ok((Shown { walks, last }, told))
+    Ok((WalkState { walks, last }, told))
 }
 
 /// The output where nothing changed since the instant before.

@@ -10,7 +10,7 @@ use crate::answered::Answer;
 use crate::evaluate::{evaluate, nothing_asked};
 use crate::pin::Pin;
 use crate::seen_walk::SeenWalk;
-use crate::shown::{LastTold, Shown, ask, keep};
+use crate::shown::{LastTold, WalkState, ask, keep};
 use crate::walks::{advance, retreat};
 use cql_ops::{BenchOf, Cancellation, Operator};
 use cql_value::Items;
@@ -29,18 +29,18 @@ const FEW_BACK: usize = 64;
 
 /// What is kept of an answer: its pin, which the answer shares, and what is kept of the relation at
 /// the pin's end.
-pub struct Kept {
+pub struct LastAnswer {
     pin: Arc<Pin>,
     last: LastTold,
 }
 
-impl Drop for Kept {
+impl Drop for LastAnswer {
     fn drop(self) {
-        let Kept { pin: _, last: _ } = self;
+        let LastAnswer { pin: _, last: _ } = self;
     }
 }
 
-impl Model for Kept {
+impl Model for LastAnswer {
     ghost use Rattle.cql_plan.specs.contracts.expr.Expr as expr;
     ghost use Rattle.cql_plan.specs.contracts.condition.Condition as condition;
     ghost use Rattle.std.specs.Coded.{codes};
@@ -54,11 +54,11 @@ impl Model for Kept {
     ghost view = { λ k. record { pin = arc_value k.pin; last = k.last } };
 }
 
-impl Kept {
-    pub(crate) fn new(pin: Arc<Pin>, last: LastTold) -> Kept
+impl LastAnswer {
+    pub(crate) fn new(pin: Arc<Pin>, last: LastTold) -> LastAnswer
         ensures { result ≡ record { pin = arc_value pin; last = last } }
     {
-        Kept { pin, last }
+        LastAnswer { pin, last }
     }
 
     fn pin(&self) -> &Pin
@@ -79,7 +79,7 @@ impl Kept {
     fn into_last(self) -> LastTold
         ensures { result ≡ self.last }
     {
-        let Kept { pin: _, last } = self;
+        let LastAnswer { pin: _, last } = self;
         last
     }
 }
@@ -91,7 +91,7 @@ impl Kept {
 #[derive(Drop)]
 pub struct Warm<O> {
     pub bench: BenchOf<O>,
-    pub kept: Option<Kept>,
+    pub kept: Option<LastAnswer>,
     // No more rows were pushed since the operators were started.
     pushed: usize,
     // When it was put back, in seconds.
@@ -241,7 +241,7 @@ impl<O: Operator> Warm<O> {
 // What is kept of a pin and the relation at its end, where no window is one of parts, with which no
 // pin goes on, where its windows have no more rows than `MOST`, and where no more were pushed than a start over these would be worth: operators may keep
 // a change for each.
-fn kept_of(pin: &Arc<Pin>, last: Option<LastTold>, pushed: usize) -> Option<Kept>
+fn kept_of(pin: &Arc<Pin>, last: Option<LastTold>, pushed: usize) -> Option<LastAnswer>
     ensures { IfSome result (λ k. (o : BenchSeen) → IfSome last (λ r. IsKept (arc_value pin.now) r o) → StandsBehind k o) }
 {
     let last = last?;
@@ -253,7 +253,7 @@ fn kept_of(pin: &Arc<Pin>, last: Option<LastTold>, pushed: usize) -> Option<Kept
         return None;
     }
     match Arc::try_clone(pin) {
-        Ok(pin) => Some(Kept::new(pin, last)),
+        Ok(pin) => Some(LastAnswer::new(pin, last)),
         Err(AllocError) => None,
     }
 }
@@ -292,7 +292,7 @@ fn are_held_same<'a, 'b>(first: &[SeenWalk<'a>], second: &[SeenWalk<'b>]) -> boo
 }
 
 // Whether the kept pin seems to hold at a cursor what a pin holds where it begins.
-fn seem_same(alloc: Global, pin: &Pin, kept: &Kept, cursor: u64) -> Result<bool, AllocError> {
+fn seem_same(alloc: Global, pin: &Pin, kept: &LastAnswer, cursor: u64) -> Result<bool, AllocError> {
     let before = kept.pin();
     if !before.has_plan_of(pin) {
         return Ok(false);
@@ -312,7 +312,7 @@ fn seem_same(alloc: Global, pin: &Pin, kept: &Kept, cursor: u64) -> Result<bool,
 fn walks_from<'a>(
     alloc: Global,
     pin: &'a Pin,
-    kept: &Kept,
+    kept: &LastAnswer,
 ) -> Result<Option<Vec<SeenWalk<'a>>>, AllocError>
     ensures meets { IfOk result (λ r. IfSome r (λ walks. Meets kept.now pin.now)) }
     ensures walks { IfOk result (λ r. IfSome r (λ walks. walks.items ≡ map (reached pin.now.from) (windows_seen pin.now))) }
@@ -338,7 +338,7 @@ fn go_back<O: Operator>(
     bench: &mut BenchOf<O>,
     pin: &Pin,
     walks: &[SeenWalk<'_>],
-    kept: Kept,
+    kept: LastAnswer,
 ) -> Result<LastTold, AllocError>
     requires bench { IsBench O.seen_in bench.old }
     requires kept { StandsBehind kept (bench_seen O.seen_in bench.old) }
@@ -364,8 +364,8 @@ pub(crate) fn resume<'a, O: Operator>(
     alloc: Global,
     bench: &mut BenchOf<O>,
     pin: &'a Pin,
-    kept: Kept,
-) -> Result<Option<Shown<'a>>, AllocError>
+    kept: LastAnswer,
+) -> Result<Option<WalkState<'a>>, AllocError>
     requires bench { IsBench O.seen_in bench.old }
     requires kept { StandsBehind kept (bench_seen O.seen_in bench.old) }
     ensures bench { IsBench O.seen_in bench.new }
@@ -376,7 +376,7 @@ pub(crate) fn resume<'a, O: Operator>(
         return Ok(None);
     };
     let last = go_back(alloc, bench, pin, &walks, kept)?;
-    Ok(Some(Shown { walks, last }))
+    Ok(Some(WalkState { walks, last }))
 }
 
 /// What is kept of the relation, once all instants of a pin were gone through: the walks go on to
@@ -385,7 +385,7 @@ pub(crate) fn remember<O: Operator>(
     alloc: Global,
     bench: &mut BenchOf<O>,
     pin: &Pin,
-    shown: Shown<'_>,
+    shown: WalkState<'_>,
 ) -> Option<LastTold>
     requires bench { IsBench O.seen_in bench.old }
     requires based { pin.now.base < pin.now.next }

@@ -1,13 +1,13 @@
 -- The operator of shapes that keeps groups may go to another thread.
 use denote.Param.Send.{IsSend, sendable}
 use Rattle.std.proofs.alloc.Global.TheSendSync as heap
-use Rattle.cql_groups.proofs.keyed_shape.Kept.TheSendSync as kept
+use Rattle.cql_groups.proofs.keyed_shape.ShapeState.TheSendSync as kept
 use Rattle.sqlite_items.proofs.items.Items.TheSendSync as items
-use Rattle.cql_groups.proofs.part.Asked.TheSendSync as asked
-use Rattle.cql_groups.proofs.layout.Source.TheSendSync as source
+use Rattle.cql_groups.proofs.part.AccumulatorKind.TheSendSync as asked
+use Rattle.cql_groups.proofs.layout.ItemSource.TheSendSync as source
 use Rattle.cql_groups.specs.contracts.layout.Layout as layout
 use Rattle.cql_groups.specs.contracts.keyed_shape.KeyedShape as keyed_shape
-use Rattle.cql_groups.specs.contracts.group_shape.Way as way
+use Rattle.cql_groups.specs.contracts.group_shape.EitherShape as way
 use Rattle.cql_groups.specs.contracts.group_shape.GroupShape as group_shape
 use Rattle.cql_ops.proofs.meter.Meter.TheSendSync as meter
 use Rattle.cql_ops.proofs.cancellation.Cancellation.TheSendSync as cancellation

@@ -29,7 +29,7 @@ use Rattle.cql_ops.specs.Linear.{with_entry, with_change}
 use Rattle.cql_ops.specs.Settle.{is_among}
 use Rattle.cql_groups.specs.declared.grouped.Group.{Group}
 use Rattle.cql_groups.specs.declared.layout.Layout.{Layout}
-use Rattle.cql_groups.specs.declared.part.Asked.{Asked}
+use Rattle.cql_groups.specs.declared.part.AccumulatorKind.{AccumulatorKind}
 use Rattle.cql_groups.proofs.PartLaws.{group_after, group_types, row_is, lacks_is}
 use Rattle.cql_groups.proofs.GroupKeys.{among_lacking}
 use Rattle.cql_groups.proofs.Changes.{group_changed, group_stays, can_change}
@@ -419,7 +419,7 @@ some_rows laws layout port told es left c key g is_key was types can taken =
     enough a b n h i = omega (arith, h, i)
 
 -- a group changed where it stands
-pub changed_some : (asked : List Asked) (c : Change) (key : Row) (es now : Groups) (left more : List Row) (old_count new_count : ℕ) (g new : Group) → Some g ≡ at_key key es → IsChangedGroup c (record g { pushed = true }) new
+pub changed_some : (asked : List AccumulatorKind) (c : Change) (key : Row) (es now : Groups) (left more : List Row) (old_count new_count : ℕ) (g new : Group) → Some g ≡ at_key key es → IsChangedGroup c (record g { pushed = true }) new
     → now ≡ set_value (λ k. is_eq (row_cmp key k)) es new → ((q : Row) → at_key q now ≡ cond (is_eq (row_cmp key q)) (Some new) (at_key q es)) → more ≡ waiting g.pushed left key → new_count + one_if g.lacks ≡ old_count + one_if new.lacks → IsChangedAt asked c key es now left more old_count new_count
 changed_some asked c key es now left more old_count new_count g new there turned is looks waits counts = record {
   was = g;
@@ -433,7 +433,7 @@ changed_some asked c key es now left more old_count new_count g new there turned
 }
 
 -- and one that is put in
-pub changed_none : (asked : List Asked) (c : Change) (key : Row) (es now : Groups) (left more : List Row) (old_count new_count : ℕ) (g new : Group) → None ≡ at_key key es → IsNew asked c.row g → IsChangedGroup c (record g { pushed = true }) new
+pub changed_none : (asked : List AccumulatorKind) (c : Change) (key : Row) (es now : Groups) (left more : List Row) (old_count new_count : ℕ) (g new : Group) → None ≡ at_key key es → IsNew asked c.row g → IsChangedGroup c (record g { pushed = true }) new
     → now ≡ insert_entry row_cmp es key new → ((q : Row) → at_key q now ≡ cond (is_eq (row_cmp key q)) (Some new) (at_key q es)) → more ≡ waiting g.pushed left key → new_count + one_if g.lacks ≡ old_count + one_if new.lacks → IsChangedAt asked c key es now left more old_count new_count
 changed_none asked c key es now left more old_count new_count g new none is_new turned is looks waits counts = record {
   was = g;

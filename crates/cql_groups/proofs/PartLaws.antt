@@ -28,12 +28,12 @@ use Rattle.cql_groups.specs.Parts.{part_of, part_changed, is_outside}
 use Rattle.cql_groups.specs.Layouts.{place_step, place_in, asks, IsAskedIn, IsSourceOf, IsLayout, sum_in, values_in, source_value, row_of_parts}
 use Rattle.cql_groups.specs.GroupLaws.{Laws}
 use Rattle.cql_groups.specs.Grouped.{IsGroupOf, IsChangedGroup, one_if}
-use Rattle.cql_groups.specs.declared.part.Asked.{Asked}
-use Rattle.cql_groups.specs.declared.part.Asked.TheVariants as ask
-use Rattle.cql_groups.specs.declared.part.Part.{Part}
-use Rattle.cql_groups.specs.declared.part.Part.TheVariants as part
-use Rattle.cql_groups.specs.declared.layout.Source.{Source}
-use Rattle.cql_groups.specs.declared.layout.Source.TheVariants as s
+use Rattle.cql_groups.specs.declared.part.AccumulatorKind.{AccumulatorKind}
+use Rattle.cql_groups.specs.declared.part.AccumulatorKind.TheVariants as ask
+use Rattle.cql_groups.specs.declared.part.Accumulator.{Accumulator}
+use Rattle.cql_groups.specs.declared.part.Accumulator.TheVariants as part
+use Rattle.cql_groups.specs.declared.layout.ItemSource.{ItemSource}
+use Rattle.cql_groups.specs.declared.layout.ItemSource.TheVariants as s
 use Rattle.cql_groups.specs.declared.layout.Layout.{Layout}
 use Rattle.cql_groups.specs.declared.grouped.Group.{Group}
 use Rattle.cql_groups.proofs.Changes.{size_changed, total_changed, keys_changed}
@@ -44,11 +44,11 @@ Row = List Value
 -- ---- changes
 
 module _ (laws : Laws) (c : Change) (rows : Counts) (is : IsBag rows) (can : CanChange c rows) where
-  part_law : (x : Asked) → part_changed c (part_of rows x) ≡ part_of (changed c rows) x
+  part_law : (x : AccumulatorKind) → part_changed c (part_of rows x) ≡ part_of (changed c rows) x
   part_law (ask.Sum at) = ap (λ z. part.Sum at z) (total_changed laws c rows is can at)
   part_law (ask.Values at) = ap (λ b. part.Values at b) (keys_changed laws c rows is can (at ∷ []))
 
-  parts_law : (asked : List Asked) → map (part_changed c) (map (part_of rows) asked) ≡ map (part_of (changed c rows)) asked
+  parts_law : (asked : List AccumulatorKind) → map (part_changed c) (map (part_of rows) asked) ≡ map (part_of (changed c rows)) asked
   parts_law [] = refl
   parts_law (x ∷ xs) = ap (λ y. y ∷ map (part_changed c) (map (part_of rows) xs)) (part_law x) ∙ ap (λ l. part_of (changed c rows) x ∷ l) (parts_law xs)
 
@@ -148,7 +148,7 @@ filled (e ∷ es) is = inr (more e.1 (size_of es) is.0, refl)
     more n m h = omega (arith, h)
 
 -- what is asked at a place is kept at that place
-kept_at : (rows : Counts) (asked : List Asked) (place : ℕ) (a : Asked) → slice_get asked place ≡ Some a → slice_get (map (part_of rows) asked) place ≡ Some (part_of rows a)
+kept_at : (rows : Counts) (asked : List AccumulatorKind) (place : ℕ) (a : AccumulatorKind) → slice_get asked place ≡ Some a → slice_get (map (part_of rows) asked) place ≡ Some (part_of rows a)
 kept_at rows asked place a h = slice_get-map (part_of rows) asked place ∙ ap (option_map (part_of rows)) h
 
 -- a value of a column that there is
@@ -183,10 +183,10 @@ module _ (laws : Laws) (l : Layout) (is_layout : IsLayout l) (port : Counts) (is
         let zip_sample : AllZip (λ at v. slice_get sample at ≡ Some v) l.shape.groups key = subst (AllZip (λ at v. slice_get sample at ≡ Some v) l.shape.groups) has_key (laws.keys l.shape.columns l.shape.groups sample types keyed.groups) in
         same_at l.shape.groups key sample f.0.0 at zip_sample zip_row c ∙ sym (laws.column l.shape.columns l.shape.groups port key at typed keyed.groups c f.0 f.1)
 
-    abbrev parts : List Part
+    abbrev parts : List Accumulator
     parts = map (part_of rows) l.asked
 
-    value_is : (x : Item) (source : Source) → IsKeyedItem l.shape.columns l.shape.groups x → IsSourceOf l.asked x source → source_value (size_of rows) sample parts source ≡ item_over rows x
+    value_is : (x : Item) (source : ItemSource) → IsKeyedItem l.shape.columns l.shape.groups x → IsSourceOf l.asked x source → source_value (size_of rows) sample parts source ≡ item_over rows x
     value_is (i.Value x) (s.Column place) fits of =
         let at = fits.0 in
         ap (slice_get sample) of ∙ ap (λ y. slice_get sample (place_in y)) fits.1 ∙ ap (slice_get sample) (place_is at) ∙ on_sample at fits.2 ∙ ap (λ y. item_over rows (i.Value y)) (sym fits.1)
@@ -215,10 +215,10 @@ module _ (laws : Laws) (l : Layout) (is_layout : IsLayout l) (port : Counts) (is
     value_is (i.Max at) (s.Least p) fits of = absurd of
     value_is (i.Max at) (s.Greatest p) fits of = ap (λ o. last_of (values_in o)) (kept_at rows l.asked p (ask.Values at) of) ∙ sym (laws.ends l.shape.columns at rows rows_bag (group_types port typed) fits).greatest
 
-    values_are : (items : List Item) (sources : List Source) → AllByRecursion (IsKeyedItem l.shape.columns l.shape.groups) items → AllZip (IsSourceOf l.asked) items sources → row_of_parts sources (size_of rows) sample parts ≡ items_over items rows
+    values_are : (items : List Item) (sources : List ItemSource) → AllByRecursion (IsKeyedItem l.shape.columns l.shape.groups) items → AllZip (IsSourceOf l.asked) items sources → row_of_parts sources (size_of rows) sample parts ≡ items_over items rows
     values_are items sources all of = ap all_of (mapped items sources all of)
       where
-        mapped : (items : List Item) (sources : List Source) → AllByRecursion (IsKeyedItem l.shape.columns l.shape.groups) items → AllZip (IsSourceOf l.asked) items sources → map (source_value (size_of rows) sample parts) sources ≡ map (item_over rows) items
+        mapped : (items : List Item) (sources : List ItemSource) → AllByRecursion (IsKeyedItem l.shape.columns l.shape.groups) items → AllZip (IsSourceOf l.asked) items sources → map (source_value (size_of rows) sample parts) sources ≡ map (item_over rows) items
         mapped [] [] all of = refl
         mapped [] (t ∷ ts) all of = absurd of
         mapped (x ∷ xs) [] all of = absurd of
@@ -237,7 +237,7 @@ module _ (laws : Laws) (l : Layout) (is_layout : IsLayout l) (port : Counts) (is
     is_there o v a b = absurd cc
 
     -- only a SUM may have no value
-    outside : (x : Item) → IsKeyedItem l.shape.columns l.shape.groups x → item_over rows x ≡ None → (a : Asked) × (asks x ≡ Some a) × (is_outside (part_of rows a) ≡ true)
+    outside : (x : Item) → IsKeyedItem l.shape.columns l.shape.groups x → item_over rows x ≡ None → (a : AccumulatorKind) × (asks x ≡ Some a) × (is_outside (part_of rows a) ≡ true)
     outside (i.Value x) fits none =
         let at = fits.0 in
         let zip : AllZip (λ at v. slice_get sample at ≡ Some v) (at ∷ []) (key_of (at ∷ []) sample) = laws.keys l.shape.columns (at ∷ []) sample types (each (HasColumn l.shape.columns) l.shape.groups keyed.groups at fits.2, tt) in
@@ -249,7 +249,7 @@ module _ (laws : Laws) (l : Layout) (is_layout : IsLayout l) (port : Counts) (is
     outside (i.Max at) fits none = (let v = has_value at fits in absurd ((laws.greatest at rows).none none v.0 v.1))
 
     -- what an item asks is asked
-    is_asked : (x : Item) (source : Source) (a : Asked) → asks x ≡ Some a → IsSourceOf l.asked x source → (p : ℕ) × (slice_get l.asked p ≡ Some a)
+    is_asked : (x : Item) (source : ItemSource) (a : AccumulatorKind) → asks x ≡ Some a → IsSourceOf l.asked x source → (p : ℕ) × (slice_get l.asked p ≡ Some a)
     is_asked (i.Value x) source a e of = absurd cc
     is_asked i.Count source a e of = absurd cc
     is_asked (i.Sum at) (s.Column c) a e of = absurd of
@@ -269,7 +269,7 @@ module _ (laws : Laws) (l : Layout) (is_layout : IsLayout l) (port : Counts) (is
     is_asked (i.Max at) (s.Greatest p) a e of = (p, of ∙ e)
 
     -- and a sum outside i64 is no value
-    no_value : (x : Item) (a : Asked) → asks x ≡ Some a → is_outside (part_of rows a) ≡ true → item_over rows x ≡ None
+    no_value : (x : Item) (a : AccumulatorKind) → asks x ≡ Some a → is_outside (part_of rows a) ≡ true → item_over rows x ≡ None
     no_value (i.Value x) a e out = absurd cc
     no_value i.Count a e out = absurd cc
     no_value (i.Sum at) (ask.Sum c) e out = (let same : at ≡ c = cc in ap (λ n. item_over rows (i.Sum n)) same ∙ from_none (item_over rows (i.Sum c)) out)

@@ -4,11 +4,11 @@ use Rattle.cql_plan.specs.declared.fault.Fault.{Fault}
 use Rattle.cql_plan.specs.declared.node.OperatorKind.TheVariants.{Shape}
 use Rattle.cql_ops.specs.Clauses.{value_seen, fault_in}
 use Rattle.cql_ops.specs.Seen.{Seen}
-use Rattle.cql_groups.specs.declared.group_shape.Way.{Way}
-use Rattle.cql_groups.specs.declared.group_shape.Way.TheVariants.{Plain, Keyed}
+use Rattle.cql_groups.specs.declared.group_shape.EitherShape.{EitherShape}
+use Rattle.cql_groups.specs.declared.group_shape.EitherShape.TheVariants.{Plain, Keyed}
 
 -- it is seen as the one that it is
-abbrev pub seen_of_way : Way → Seen
+abbrev pub seen_of_way : EitherShape → Seen
 seen_of_way (Plain s) = record s { kind = Shape }
 seen_of_way (Keyed s) = record s { kind = Shape }
 
@@ -17,6 +17,6 @@ abbrev pub known_fault : Seen → Option Fault
 known_fault s = if s.running then fault_in (value_seen s) else None
 
 -- of kept groups just that fault is known
-abbrev pub KnowsFault : Way → Option Fault → Type 0
+abbrev pub KnowsFault : EitherShape → Option Fault → Type 0
 KnowsFault (Plain s) f = Unit {0}
 KnowsFault (Keyed s) f = f ≡ known_fault s

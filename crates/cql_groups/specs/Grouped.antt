@@ -22,8 +22,8 @@ use Rattle.cql_ops.specs.Linear.{with_entry}
 use Rattle.cql_ops.specs.Settle.{is_among}
 use Rattle.cql_groups.specs.declared.grouped.Group.{Group}
 use Rattle.cql_groups.specs.declared.layout.Layout.{Layout}
-use Rattle.cql_groups.specs.declared.layout.Source.{Source}
-use Rattle.cql_groups.specs.declared.part.Asked.{Asked}
+use Rattle.cql_groups.specs.declared.layout.ItemSource.{ItemSource}
+use Rattle.cql_groups.specs.declared.part.AccumulatorKind.{AccumulatorKind}
 
 -- what is kept of the rows of a key: how many there are, one row that has the key, and what is asked of columns
 pub record IsGroupOf (l : Layout) (key : List Value) (rows : Counts) (g : Group) : Type 0 where
@@ -44,12 +44,12 @@ pub record IsChangedGroup (c : Change) (old new : Group) : Type 0 where
   pub pushed : new.pushed ≡ old.pushed
 
 -- the row of a group that has rows; one without rows has none
-abbrev pub IsDue : List Source → Group → Option (List Value) → Type 0
+abbrev pub IsDue : List ItemSource → Group → Option (List Value) → Type 0
 IsDue sources g None = g.size ≡ 0
 IsDue sources g (Some row) = (1 ≤ g.size) × (row_of_parts sources g.size g.sample g.parts.items ≡ Some row)
 
 -- some item has no value
-abbrev pub IsLacking : List Source → Group → Type 0
+abbrev pub IsLacking : List ItemSource → Group → Type 0
 IsLacking sources g = (1 ≤ g.size) × (row_of_parts sources g.size g.sample g.parts.items ≡ None)
 
 -- 1 of one that is so
@@ -72,7 +72,7 @@ abbrev pub at_key : List Value → List (List Value × Group) → Option Group
 at_key key groups = lookup (λ k. is_eq (row_cmp key k)) groups
 
 -- the group that was at a key, or one without a row, none of which was told
-pub record IsNew (asked : List Asked) (row : List Value) (g : Group) : Type 0 where
+pub record IsNew (asked : List AccumulatorKind) (row : List Value) (g : Group) : Type 0 where
   pub size : g.size ≡ 0
   pub sample : g.sample ≡ row
   pub parts : g.parts.items ≡ map (part_of []) asked
@@ -80,7 +80,7 @@ pub record IsNew (asked : List Asked) (row : List Value) (g : Group) : Type 0 wh
   pub told : g.told ≡ None
   pub pushed : g.pushed ≡ false
 
-abbrev pub IsTaken : List Asked → List Value → Option Group → Group → Type 0
+abbrev pub IsTaken : List AccumulatorKind → List Value → Option Group → Group → Type 0
 IsTaken asked row None g = IsNew asked row g
 IsTaken asked row (Some h) g = g ≡ h
 
@@ -94,17 +94,17 @@ abbrev pub told_of : List (List Value × Group) → Counts
 told_of groups = put_all (told_rows groups) []
 
 -- a group that told its row, in the place of the one told before, and whether it has one
-pub record IsSettled (sources : List Source) (old new : Group) (some : Bool) : Type 0 where
+pub record IsSettled (sources : List ItemSource) (old new : Group) (some : Bool) : Type 0 where
   pub due : IsDue sources old new.told
   pub same : new ≡ record old { told = new.told; pushed = false }
   pub is : some ≡ is_some new.told
 
 -- a row may come or go where such a group is, or where there is none; one that lacks a value is among as many
-abbrev pub CanChangeAt : List Asked → Change → Option Group → ℕ → Type 0
+abbrev pub CanChangeAt : List AccumulatorKind → Change → Option Group → ℕ → Type 0
 CanChangeAt asked c at lacking = (g : Group) → IsTaken asked c.row at g → (g.size < 2 ^ 63) × (c.plus ≡ false → 1 ≤ g.size) × (g.lacks ≡ true → 1 ≤ lacking)
 
 -- a row came or went in the group of its key, which waits: the groups of other keys, and what was told of each, are as they were
-pub record IsChangedAt (asked : List Asked) (c : Change) (key : List Value) (old new : List (List Value × Group)) (left more : List (List Value)) (before after : ℕ) : Type 0 where
+pub record IsChangedAt (asked : List AccumulatorKind) (c : Change) (key : List Value) (old new : List (List Value × Group)) (left more : List (List Value)) (before after : ℕ) : Type 0 where
   pub was : Group
   pub now : Group
   pub taken : IsTaken asked c.row (at_key key old) was

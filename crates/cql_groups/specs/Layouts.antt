@@ -12,12 +12,12 @@ use Rattle.cql_plan.specs.Expr.{within}
 use Rattle.cql_algebra.specs.Shape.{all_of}
 use Rattle.cql_algebra.specs.GroupChanges.{first_of, last_of}
 use Rattle.cql_groups.specs.Keyed.{IsKeyed}
-use Rattle.cql_groups.specs.declared.part.Asked.{Asked}
-use Rattle.cql_groups.specs.declared.part.Asked.TheVariants as ask
-use Rattle.cql_groups.specs.declared.part.Part.{Part}
-use Rattle.cql_groups.specs.declared.part.Part.TheVariants as part
-use Rattle.cql_groups.specs.declared.layout.Source.{Source}
-use Rattle.cql_groups.specs.declared.layout.Source.TheVariants as s
+use Rattle.cql_groups.specs.declared.part.AccumulatorKind.{AccumulatorKind}
+use Rattle.cql_groups.specs.declared.part.AccumulatorKind.TheVariants as ask
+use Rattle.cql_groups.specs.declared.part.Accumulator.{Accumulator}
+use Rattle.cql_groups.specs.declared.part.Accumulator.TheVariants as part
+use Rattle.cql_groups.specs.declared.layout.ItemSource.{ItemSource}
+use Rattle.cql_groups.specs.declared.layout.ItemSource.TheVariants as s
 use Rattle.cql_groups.specs.declared.layout.Layout.{Layout}
 
 -- ---- what items ask
@@ -32,32 +32,32 @@ unfoldable pub place_in : Expr → ℕ
 place_in = fold-Expr ℕ place_step
 
 -- SUM asks the sum of its column, MIN and MAX its values
-abbrev pub asks : Item → Option Asked
+abbrev pub asks : Item → Option AccumulatorKind
 asks (i.Value x) = None
 asks i.Count = None
 asks (i.Sum at) = Some (ask.Sum at)
 asks (i.Min at) = Some (ask.Values at)
 asks (i.Max at) = Some (ask.Values at)
 
-abbrev pub IsOther : Asked → Asked → Type 0
+abbrev pub IsOther : AccumulatorKind → AccumulatorKind → Type 0
 IsOther one other = other ≢ one
 
 -- one more is asked, which may be asked already
-abbrev pub IsGrownBy : Option Asked → List Asked → List Asked → Type 0
+abbrev pub IsGrownBy : Option AccumulatorKind → List AccumulatorKind → List AccumulatorKind → Type 0
 IsGrownBy None before after = after ≡ before
 IsGrownBy (Some one) before after = (after ≡ before) ⊎ ((after ≡ before ++ one ∷ []) × AllByRecursion (IsOther one) before)
 
 -- no two are the same
-abbrev pub AreApart : List Asked → Type 0
+abbrev pub AreApart : List AccumulatorKind → Type 0
 AreApart [] = Unit {0}
 AreApart (x ∷ xs) = AllByRecursion (λ y. y ≢ x) xs × AreApart xs
 
 -- some item asks it
-abbrev pub IsAskedIn : List Item → Asked → Type 0
+abbrev pub IsAskedIn : List Item → AccumulatorKind → Type 0
 IsAskedIn items one = (x : Item) × Contains items x × (asks x ≡ Some one)
 
 -- the source of an item: the place of its column, or that of what it asks
-abbrev pub IsSourceOf : List Asked → Item → Source → Type 0
+abbrev pub IsSourceOf : List AccumulatorKind → Item → ItemSource → Type 0
 IsSourceOf asked (i.Value x) (s.Column at) = at ≡ place_in x
 IsSourceOf asked i.Count s.Count = Unit {0}
 IsSourceOf asked (i.Sum at) (s.Sum place) = slice_get asked place ≡ asks (i.Sum at)
@@ -66,7 +66,7 @@ IsSourceOf asked (i.Max at) (s.Greatest place) = slice_get asked place ≡ asks 
 IsSourceOf asked x source = ⊥
 
 -- the sources of some of the items, and what these ask: nothing twice, and nothing that no item asks
-pub record AreSources (items seen : List Item) (asked : List Asked) (sources : List Source) : Type 0 where
+pub record AreSources (items seen : List Item) (asked : List AccumulatorKind) (sources : List ItemSource) : Type 0 where
   pub each : AllZip (IsSourceOf asked) seen sources
   pub wanted : AllByRecursion (IsAskedIn items) asked
   pub apart : AreApart asked
@@ -78,22 +78,22 @@ pub record IsLayout (l : Layout) : Type 0 where
 -- ---- the values
 
 -- of a part the sum, if it is one and in i64
-abbrev pub sum_in : Option Part → Option Value
+abbrev pub sum_in : Option Accumulator → Option Value
 sum_in (Some (part.Sum at sum)) = within sum
 sum_in _ = None
 
 -- of a part the values, if it is of them
-abbrev pub values_in : Option Part → Counts
+abbrev pub values_in : Option Accumulator → Counts
 values_in (Some (part.Values at values)) = values
 values_in _ = []
 
 -- the item's value, by how many rows there are, one row of the key and what is kept
-abbrev pub source_value : ℕ → List Value → List Part → Source → Option Value
+abbrev pub source_value : ℕ → List Value → List Accumulator → ItemSource → Option Value
 source_value size sample parts (s.Column at) = slice_get sample at
 source_value size sample parts s.Count = Some (Number (pos size))
 source_value size sample parts (s.Sum place) = sum_in (slice_get parts place)
 source_value size sample parts (s.Least place) = first_of (values_in (slice_get parts place))
 source_value size sample parts (s.Greatest place) = last_of (values_in (slice_get parts place))
 
-abbrev pub row_of_parts : List Source → ℕ → List Value → List Part → Option (List Value)
+abbrev pub row_of_parts : List ItemSource → ℕ → List Value → List Accumulator → Option (List Value)
 row_of_parts sources size sample parts = all_of (map (source_value size sample parts) sources)

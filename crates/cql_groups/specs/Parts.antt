@@ -8,18 +8,18 @@ use Rattle.cql_plan.specs.Expr.{within}
 use Rattle.cql_algebra.specs.Shape.{total, key_of}
 use Rattle.cql_algebra.specs.ShapeLaws.{number_in}
 use Rattle.cql_algebra.specs.GroupChanges.{column_bag}
-use Rattle.cql_groups.specs.declared.part.Asked.{Asked}
-use Rattle.cql_groups.specs.declared.part.Asked.TheVariants as ask
-use Rattle.cql_groups.specs.declared.part.Part.{Part}
-use Rattle.cql_groups.specs.declared.part.Part.TheVariants.{Sum, Values}
+use Rattle.cql_groups.specs.declared.part.AccumulatorKind.{AccumulatorKind}
+use Rattle.cql_groups.specs.declared.part.AccumulatorKind.TheVariants as ask
+use Rattle.cql_groups.specs.declared.part.Accumulator.{Accumulator}
+use Rattle.cql_groups.specs.declared.part.Accumulator.TheVariants.{Sum, Values}
 
 -- what is asked of a column, over the rows of a group: the exact total, or the bag of the values
-abbrev pub part_of : Counts → Asked → Part
+abbrev pub part_of : Counts → AccumulatorKind → Accumulator
 part_of rows (ask.Sum at) = Sum at (total at rows)
 part_of rows (ask.Values at) = Values at (column_bag at rows)
 
 -- the column that a part is of
-abbrev pub column_of : Part → ℕ
+abbrev pub column_of : Accumulator → ℕ
 column_of (Sum at sum) = at
 column_of (Values at values) = at
 
@@ -33,11 +33,11 @@ abbrev pub value_change : ℕ → Change → Change
 value_change at c = change_of c.plus (key_of (at ∷ []) c.row)
 
 -- after a change of the group
-abbrev pub part_changed : Change → Part → Part
+abbrev pub part_changed : Change → Accumulator → Accumulator
 part_changed c (Sum at sum) = Sum at (moved c.plus sum (number_in (slice_get c.row at)))
 part_changed c (Values at values) = Values at (changed (value_change at c) values)
 
 -- whether it is a sum that is no value
-abbrev pub is_outside : Part → Bool
+abbrev pub is_outside : Accumulator → Bool
 is_outside (Sum at sum) = is_none (within sum)
 is_outside (Values at values) = false

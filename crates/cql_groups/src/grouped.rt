@@ -10,8 +10,8 @@ ghost use Rattle.cql_ops.specs.Linear.{with_change};
 ghost use Rattle.cql_ops.specs.declared.error.OpError.TheVariants.{NoMemory, Overflow};
 ghost use Rattle.cql_plain.specs.Shaped.{TellsShape, FailsToShape};
 
-use crate::layout::{Layout, Source};
-use crate::part::{Asked, Part, change_parts, new_parts, some_outside};
+use crate::layout::{ItemSource, Layout};
+use crate::part::{Accumulator, AccumulatorKind, change_parts, new_parts, some_outside};
 use crate::row::row_of_parts;
 use cql_algebra::law::{
     change_types_law, group_law, group_types_law, grouped_column_law, key_law, max_law, min_law,
@@ -36,7 +36,7 @@ const MAX_SIZE: u64 = 9_223_372_036_854_775_807;
 pub(crate) struct Group {
     pub size: u64,
     pub sample: Row,
-    pub parts: Vec<Part>,
+    pub parts: Vec<Accumulator>,
     pub lacks: bool,
     pub told: Option<Row>,
     pub pushed: bool,
@@ -81,7 +81,7 @@ pub(crate) fn group_laws()
 
 impl Group {
     // Without a row, and none was told.
-    fn new(alloc: Global, asked: &[Asked], sample: &Row) -> Result<Group, AllocError>
+    fn new(alloc: Global, asked: &[AccumulatorKind], sample: &Row) -> Result<Group, AllocError>
         ensures { IfOk result (IsNew asked.now sample.now) }
     {
         let sample = sample.try_clone(alloc)?;
@@ -119,7 +119,7 @@ impl Group {
     fn row(
         &self,
         alloc: Global,
-        sources: &[Source],
+        sources: &[ItemSource],
         remade: &mut Meter,
     ) -> Result<Option<Row>, OpError>
         requires { self.now.size < 2 ^ 63 }
@@ -234,7 +234,7 @@ fn change_group(
 // The group of the row's key is changed where it stands; where there is none, one is put in.
 fn change_at(
     alloc: Global,
-    asked: &[Asked],
+    asked: &[AccumulatorKind],
     key: &Row,
     change: &Change,
     groups: &mut BTreeMap<Row, Group>,
@@ -287,7 +287,7 @@ pub(crate) fn push_row(
 // Computes the row of a group, and tells it in the place of the one told before. Whether it has one.
 fn settle_group(
     alloc: Global,
-    sources: &[Source],
+    sources: &[ItemSource],
     group: &mut Group,
     remade: &mut Meter,
     out: &mut Vec<Change>,

@@ -4,7 +4,7 @@ ghost use Rattle.std.specs.List.{AllByRecursion};
 ghost use Rattle.cql_groups.specs.Keyed.{IsKeyed};
 ghost use Rattle.cql_groups.specs.Layouts.{place_in, asks, IsOther, IsGrownBy, IsSourceOf, IsLayout};
 
-use crate::part::Asked;
+use crate::part::AccumulatorKind;
 use cql_plain::copy_of_shape;
 use cql_plan::{Expr, Item, Shape};
 use cql_value::Items;
@@ -13,7 +13,7 @@ use std::alloc::{AllocError, Global};
 /// Where the value of an item is found: in a column of the group's rows, in how many there are, or
 /// in the part at a place.
 #[derive(Clone, Copy)]
-pub(crate) enum Source {
+pub(crate) enum ItemSource {
     Column(usize),
     Count,
     Sum(usize),
@@ -24,8 +24,8 @@ pub(crate) enum Source {
 /// A shape, what its items ask of columns, and the source of each item.
 pub(crate) struct Layout {
     pub shape: Shape,
-    pub asked: Items<Asked>,
-    pub sources: Items<Source>,
+    pub asked: Items<AccumulatorKind>,
+    pub sources: Items<ItemSource>,
 }
 
 impl Drop for Layout {
@@ -50,7 +50,7 @@ fn place_in(expr: &Expr) -> usize
 }
 
 // Where it stands.
-fn found(asked: &[Asked], one: Asked) -> Option<usize>
+fn found(asked: &[AccumulatorKind], one: AccumulatorKind) -> Option<usize>
     ensures place { IfSome result (λ at. slice_get asked.now at ≡ Some one) }
     ensures none { result ≡ None → AllByRecursion (IsOther one) asked.now }
 {
@@ -63,7 +63,7 @@ fn found(asked: &[Asked], one: Asked) -> Option<usize>
 }
 
 // Where it stands, put at the end if it isn't there.
-fn place_of(one: Asked, asked: &mut Vec<Asked>) -> Result<usize, AllocError>
+fn place_of(one: AccumulatorKind, asked: &mut Vec<AccumulatorKind>) -> Result<usize, AllocError>
     ensures place { IfOk result (λ at. slice_get asked.new.items at ≡ Some one) }
     ensures grown { OnOk result (IsGrownBy (Some one) asked.old.items asked.new.items) }
 {
@@ -76,16 +76,22 @@ fn place_of(one: Asked, asked: &mut Vec<Asked>) -> Result<usize, AllocError>
 }
 
 // Where the item finds its value; what it asks is put at the end if it isn't there.
-fn source_of(item: &Item, asked: &mut Vec<Asked>) -> Result<Source, AllocError>
+fn source_of(item: &Item, asked: &mut Vec<AccumulatorKind>) -> Result<ItemSource, AllocError>
     ensures source { IfOk result (IsSourceOf asked.new.items item.now) }
     ensures grown { OnOk result (IsGrownBy (asks item.now) asked.old.items asked.new.items) }
 {
     match item {
-        Item::Value(expr) => Ok(Source::Column(place_in(expr))),
-        Item::Count => Ok(Source::Count),
-        Item::Sum(column) => Ok(Source::Sum(place_of(Asked::Sum(*column), asked)?)),
-        Item::Min(column) => Ok(Source::Least(place_of(Asked::Values(*column), asked)?)),
-        Item::Max(column) => Ok(Source::Greatest(place_of(Asked::Values(*column), asked)?)),
+        Item::Value(expr) => Ok(ItemSource::Column(place_in(expr))),
+        Item::Count => Ok(ItemSource::Count),
+        Item::Sum(column) => Ok(ItemSource::Sum(place_of(AccumulatorKind::Sum(*column), asked)?)),
+        Item::Min(column) => Ok(ItemSource::Least(place_of(
+            AccumulatorKind::Values(*column),
+            asked,
+        )?)),
+        Item::Max(column) => Ok(ItemSource::Greatest(place_of(
+            AccumulatorKind::Values(*column),
+            asked,
+        )?)),
     }
 }
 

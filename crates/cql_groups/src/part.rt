@@ -14,14 +14,14 @@ use std::alloc::{AllocError, Global};
 
 /// What items ask of a column: the sum of its numbers, or its values.
 #[derive(Clone, Copy, PartialEq, Eq)]
-pub(crate) enum Asked {
+pub(crate) enum AccumulatorKind {
     Sum(usize),
     Values(usize),
 }
 
 /// What is kept of a column: the exact sum of its numbers, or the bag of its values.
 #[derive(Drop)]
-pub(crate) enum Part {
+pub(crate) enum Accumulator {
     Sum(usize, i128),
     Values(usize, Bag),
 }
@@ -73,14 +73,14 @@ pub(crate) fn number_within(sum: i128) -> Option<Value>
     }
 }
 
-impl Part {
+impl Accumulator {
     // Of no rows.
-    fn new(alloc: Global, asked: Asked) -> Part
+    fn new(alloc: Global, asked: AccumulatorKind) -> Accumulator
         ensures { result ≡ part_of [] asked }
     {
         match asked {
-            Asked::Sum(column) => Part::Sum(column, 0),
-            Asked::Values(column) => Part::Values(column, Bag::new(alloc)),
+            AccumulatorKind::Sum(column) => Accumulator::Sum(column, 0),
+            AccumulatorKind::Values(column) => Accumulator::Values(column, Bag::new(alloc)),
         }
     }
 
@@ -89,8 +89,8 @@ impl Part {
         ensures { result ≡ column_of self.now }
     {
         match self {
-            Part::Sum(column, _) => *column,
-            Part::Values(column, _) => *column,
+            Accumulator::Sum(column, _) => *column,
+            Accumulator::Values(column, _) => *column,
         }
     }
 
@@ -100,11 +100,11 @@ impl Part {
     {
         let column = self.column();
         match self {
-            Part::Sum(_, sum) => {
+            Accumulator::Sum(_, sum) => {
                 *sum = moved(change.plus, *sum, number_at(change.row.values(), column))?;
                 Ok(())
             }
-            Part::Values(_, values) => change_values(alloc, column, values, change),
+            Accumulator::Values(_, values) => change_values(alloc, column, values, change),
         }
     }
 
@@ -113,19 +113,22 @@ impl Part {
         ensures { result ≡ is_outside self.now }
     {
         match self {
-            Part::Sum(_, sum) => number_within(*sum).is_none(),
-            Part::Values(_, _) => false,
+            Accumulator::Sum(_, sum) => number_within(*sum).is_none(),
+            Accumulator::Values(_, _) => false,
         }
     }
 }
 
 /// Of no rows.
-pub(crate) fn new_parts(alloc: Global, asked: &[Asked]) -> Result<Vec<Part>, AllocError>
+pub(crate) fn new_parts(
+    alloc: Global,
+    asked: &[AccumulatorKind],
+) -> Result<Vec<Accumulator>, AllocError>
     ensures { IfOk result (λ parts. parts.items ≡ map (part_of []) asked.now) }
 {
     let mut parts = Vec::new(alloc);
     for one in asked {
-        parts.push(Part::new(alloc, *one))?;
+        parts.push(Accumulator::new(alloc, *one))?;
     }
     Ok(parts)
 }
@@ -133,7 +136,7 @@ pub(crate) fn new_parts(alloc: Global, asked: &[Asked]) -> Result<Vec<Part>, All
 /// A row comes or goes.
 pub(crate) fn change_parts(
     alloc: Global,
-    parts: &mut Vec<Part>,
+    parts: &mut Vec<Accumulator>,
     change: &Change,
 ) -> Result<(), AllocError>
     ensures { OnOk result (parts.new.items ≡ map (part_changed change.now) parts.old.items) }
@@ -145,7 +148,7 @@ pub(crate) fn change_parts(
 }
 
 /// Whether a sum is outside i64.
-pub(crate) fn some_outside(parts: &[Part]) -> bool
+pub(crate) fn some_outside(parts: &[Accumulator]) -> bool
     ensures { result ≡ list_any is_outside parts.now }
 {
     for part in parts {

@@ -4,19 +4,19 @@ ghost use Rattle.std.specs.Option.{option_copied};
 ghost use Rattle.cql_algebra.specs.GroupChanges.{first_of, last_of};
 ghost use Rattle.cql_groups.specs.Layouts.{sum_in, values_in, source_value, row_of_parts};
 
-use crate::layout::Source;
-use crate::part::{Part, number_within};
+use crate::layout::ItemSource;
+use crate::part::{Accumulator, number_within};
 use cql_bag::Bag;
 use cql_value::{Row, Value};
 use sqlite_items::at;
 use std::alloc::{AllocError, Global};
 
 // The sum that is kept, where it is in i64.
-fn sum_in(part: Option<&Part>) -> Option<Value>
+fn sum_in(part: Option<&Accumulator>) -> Option<Value>
     ensures { result ≡ sum_in (option_copied part.entry) }
 {
     match part {
-        Some(Part::Sum(_, sum)) => number_within(*sum),
+        Some(Accumulator::Sum(_, sum)) => number_within(*sum),
         _ => None,
     }
 }
@@ -32,11 +32,11 @@ fn first(values: &Bag) -> Option<&Value>
 }
 
 // The least of the values that are kept.
-fn least(part: Option<&Part>) -> Option<&Value>
+fn least(part: Option<&Accumulator>) -> Option<&Value>
     ensures { option_copied result ≡ first_of (values_in (option_copied part.entry)) }
 {
     match part {
-        Some(Part::Values(_, values)) => first(values),
+        Some(Accumulator::Values(_, values)) => first(values),
         _ => None,
     }
 }
@@ -52,11 +52,11 @@ fn last(values: &Bag) -> Option<&Value>
 }
 
 // The greatest of the values that are kept.
-fn greatest(part: Option<&Part>) -> Option<&Value>
+fn greatest(part: Option<&Accumulator>) -> Option<&Value>
     ensures { option_copied result ≡ last_of (values_in (option_copied part.entry)) }
 {
     match part {
-        Some(Part::Values(_, values)) => last(values),
+        Some(Accumulator::Values(_, values)) => last(values),
         _ => None,
     }
 }
@@ -70,24 +70,24 @@ fn copy_of(alloc: Global, value: Option<&Value>) -> Result<Option<Value>, AllocE
     }
 }
 
-impl Source {
+impl ItemSource {
     // The item's value, by how many rows there are, one of them, and what is kept.
     fn value(
         &self,
         alloc: Global,
         size: u64,
         sample: &Row,
-        parts: &[Part],
+        parts: &[Accumulator],
     ) -> Result<Option<Value>, AllocError>
         requires { size < 2 ^ 63 }
         ensures { IfOk result (λ v. v ≡ source_value size sample.now parts.now self.now) }
     {
         match self {
-            Source::Column(column) => copy_of(alloc, at(sample.values(), *column)),
-            Source::Count => Ok(Some(Value::Number(size as i64))),
-            Source::Sum(place) => Ok(sum_in(at(parts, *place))),
-            Source::Least(place) => copy_of(alloc, least(at(parts, *place))),
-            Source::Greatest(place) => copy_of(alloc, greatest(at(parts, *place))),
+            ItemSource::Column(column) => copy_of(alloc, at(sample.values(), *column)),
+            ItemSource::Count => Ok(Some(Value::Number(size as i64))),
+            ItemSource::Sum(place) => Ok(sum_in(at(parts, *place))),
+            ItemSource::Least(place) => copy_of(alloc, least(at(parts, *place))),
+            ItemSource::Greatest(place) => copy_of(alloc, greatest(at(parts, *place))),
         }
     }
 }
@@ -95,10 +95,10 @@ impl Source {
 /// The row of the items, unless one has no value.
 pub(crate) fn row_of_parts(
     alloc: Global,
-    sources: &[Source],
+    sources: &[ItemSource],
     size: u64,
     sample: &Row,
-    parts: &[Part],
+    parts: &[Accumulator],
 ) -> Result<Option<Row>, AllocError>
     requires { size < 2 ^ 63 }
     ensures { IfOk result (λ r. r ≡ row_of_parts sources.now size sample.now parts.now) }

@@ -12,12 +12,12 @@ use std::marker::Model;
 
 /// A place in a text. Contracts see the rest of the text.
 #[derive(Drop)]
-pub(crate) struct Cursor<'a> {
+pub(crate) struct TextCursor<'a> {
     text: &'a str,
     at: usize,
 }
 
-impl<'a> Model for Cursor<'a> {
+impl<'a> Model for TextCursor<'a> {
     ghost use Rattle.std.specs.Prelude.{List, ℕ, drop, length, ◌≤◌};
     ghost use Rattle.std.specs.Str.{IsUtf8};
 
@@ -99,11 +99,11 @@ fn number_end(text: &[u8], from: usize) -> Option<usize>
     }
 }
 
-impl<'a> Cursor<'a> {
-    pub(crate) fn new(text: &'a str) -> Cursor<'a>
+impl<'a> TextCursor<'a> {
+    pub(crate) fn new(text: &'a str) -> TextCursor<'a>
         ensures { result ≡ text.now }
     {
-        Cursor { text, at: 0 }
+        TextCursor { text, at: 0 }
     }
 
     /// The next byte, or a space at the end.

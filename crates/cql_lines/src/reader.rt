@@ -6,7 +6,7 @@ ghost use Rattle.json.specs.Json.{read_key};
 ghost use Rattle.json.specs.Reads.{token_of};
 ghost use Rattle.cql_lines.specs.Plain.{Passes, IsScalar};
 
-use crate::cursor::Cursor;
+use crate::cursor::TextCursor;
 use json::Token;
 use std::marker::Model;
 
@@ -18,7 +18,7 @@ pub struct NotPlain;
 /// `json`. Where a call is refused the text may still be JSON, and nothing is said of what is left.
 #[derive(Drop)]
 pub struct Reader<'a> {
-    cursor: Cursor<'a>,
+    cursor: TextCursor<'a>,
     // whether a value ended before the cursor, with no comma since
     follows: bool,
 }
@@ -36,7 +36,7 @@ impl<'a> Model for Reader<'a> {
 }
 
 // Passes the comma that follows a value.
-fn pass_comma(cursor: &mut Cursor<'_>, follows: bool) -> Result<(), NotPlain>
+fn pass_comma(cursor: &mut TextCursor<'_>, follows: bool) -> Result<(), NotPlain>
     ensures { OnOk result (Passes follows cursor.old cursor.new) }
 {
     if follows {
@@ -48,7 +48,7 @@ fn pass_comma(cursor: &mut Cursor<'_>, follows: bool) -> Result<(), NotPlain>
     Ok(())
 }
 
-fn text_token<'a>(cursor: &mut Cursor<'a>) -> Result<Token<'a>, NotPlain>
+fn text_token<'a>(cursor: &mut TextCursor<'a>) -> Result<Token<'a>, NotPlain>
     ensures { IfOk result (λ t. IsScalar cursor.old (token_of t) cursor.new) }
 {
     let text = cursor.string().ok_or(NotPlain)?;
@@ -58,7 +58,7 @@ fn text_token<'a>(cursor: &mut Cursor<'a>) -> Result<Token<'a>, NotPlain>
     Ok(Token::String(text))
 }
 
-fn number_token<'a>(cursor: &mut Cursor<'a>) -> Result<Token<'a>, NotPlain>
+fn number_token<'a>(cursor: &mut TextCursor<'a>) -> Result<Token<'a>, NotPlain>
     ensures { IfOk result (λ t. IsScalar cursor.old (token_of t) cursor.new) }
 {
     let text = cursor.number().ok_or(NotPlain)?;
@@ -66,7 +66,7 @@ fn number_token<'a>(cursor: &mut Cursor<'a>) -> Result<Token<'a>, NotPlain>
 }
 
 // The text or number that is next, where a value may begin.
-fn scalar_token<'a>(cursor: &mut Cursor<'a>) -> Result<Token<'a>, NotPlain>
+fn scalar_token<'a>(cursor: &mut TextCursor<'a>) -> Result<Token<'a>, NotPlain>
     ensures { IfOk result (λ t. IsScalar cursor.old (token_of t) cursor.new) }
 {
     if cursor.peek() == b'"' {
@@ -82,7 +82,7 @@ impl<'a> Reader<'a> {
         ensures { result ≡ tokens text.now }
     {
         Reader {
-            cursor: Cursor::new(text),
+            cursor: TextCursor::new(text),
             follows: false,
         }
     }

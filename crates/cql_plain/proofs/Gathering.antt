@@ -3,7 +3,7 @@ use Rattle.std.proofs.Common.{◌≡◌, ℕ, suc, ◌+◌, ◌<◌, ◌≤◌, 
 use Rattle.std.specs.List.{All}
 use Rattle.std.proofs.Math.Seq.{drop-cons}
 use Rattle.std.proofs.lemmas.List.{drop_all}
-use Rattle.cql_algebra.specs.Shape.{kept, key_of}
+use Rattle.cql_algebra.specs.Shape.{present, key_of}
 use Rattle.std.specs.Option.{unwrap_or}
 use Rattle.std.specs.Map.{lookup}
 use Rattle.std.specs.BTreeMap.{is_at, insert_entry}
@@ -98,11 +98,11 @@ module _ {K V : Type 0} (R : K → K → Ordering) (total : IsTotalOrder R) (exa
 
 pub key_goes_on : (columns : List ℕ) (row : List Value) (i : ℕ) (v : Value) (left rest : List Value) → i < length columns → Some v ≡ slice_get row (get_or columns i 0) → left ≡ v ∷ rest → key_of (drop (i + 1) columns) row ≡ rest → key_of (drop i columns) row ≡ left
 key_goes_on columns row i v left rest lt is cut after =
-    ap (λ l. key_of l row) (drop-cons columns i 0 lt) ∙ ap (λ o. kept (o ∷ map (slice_get row) (drop (suc i) columns))) (sym is) ∙ ap (λ n. v ∷ key_of (drop n columns) row) (sym (add-one i)) ∙ ap (λ l. v ∷ l) after ∙ sym cut
+    ap (λ l. key_of l row) (drop-cons columns i 0 lt) ∙ ap (λ o. present (o ∷ map (slice_get row) (drop (suc i) columns))) (sym is) ∙ ap (λ n. v ∷ key_of (drop n columns) row) (sym (add-one i)) ∙ ap (λ l. v ∷ l) after ∙ sym cut
 
 pub key_passes : (columns : List ℕ) (row : List Value) (i : ℕ) (left : List Value) → i < length columns → None ≡ slice_get row (get_or columns i 0) → key_of (drop (i + 1) columns) row ≡ left → key_of (drop i columns) row ≡ left
 key_passes columns row i left lt is after =
-    ap (λ l. key_of l row) (drop-cons columns i 0 lt) ∙ ap (λ o. kept (o ∷ map (slice_get row) (drop (suc i) columns))) (sym is) ∙ ap (λ n. key_of (drop n columns) row) (sym (add-one i)) ∙ after
+    ap (λ l. key_of l row) (drop-cons columns i 0 lt) ∙ ap (λ o. present (o ∷ map (slice_get row) (drop (suc i) columns))) (sym is) ∙ ap (λ n. key_of (drop n columns) row) (sym (add-one i)) ∙ after
 
 pub no_length : {A : Type 0} (xs : List A) → length xs ≡ 0 → xs ≡ []
 no_length [] none = refl

@@ -28,7 +28,7 @@ mod told;
 pub use group::key;
 pub use join_copy::copy_of_join;
 pub use once::said_once;
-pub use plain::{Plain, plain_bench};
+pub use plain::{PlainOperator, plain_bench};
 pub use plain_join::PlainJoin;
 pub use plain_shape::PlainShape;
 pub use shape_copy::copy_of_shape;

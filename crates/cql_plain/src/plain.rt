@@ -8,10 +8,10 @@ use cql_ops::{BenchOf, Mixed, mixed_bench};
 use std::alloc::Global;
 
 /// One of the plain operators.
-pub type Plain = Mixed<PlainJoin, PlainShape>;
+pub type PlainOperator = Mixed<PlainJoin, PlainShape>;
 
 /// A bench of the plain operators. Takes no memory.
-pub fn plain_bench(alloc: Global) -> BenchOf<Plain>
+pub fn plain_bench(alloc: Global) -> BenchOf<PlainOperator>
     ensures { IsBench plain_seen result }
 {
     mixed_bench(

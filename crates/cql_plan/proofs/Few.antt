@@ -14,7 +14,7 @@ use Rattle.cql_text.specs.Read.{IsSyntax}
 use Rattle.cql_plan.specs.declared.error.PlanFault.TheVariants.{AmbiguousColumn, TypeMismatch}
 use Rattle.cql_plan.specs.declared.plan.OutputKind.{OutputKind}
 use Rattle.cql_plan.specs.declared.plan.Planned.{Planned}
-use Rattle.cql_plan.specs.declared.source.Source.{Source}
+use Rattle.cql_plan.specs.declared.source.BlockInput.{BlockInput}
 use Rattle.cql_plan.specs.declared.block.Checked.{Checked}
 use Rattle.cql_plan.specs.Outcome.{Outcome, ◌>>=◌, unless, each}
 use Rattle.cql_plan.specs.Plan.{IsFew}
@@ -93,7 +93,7 @@ each_length {A} {B} check (x ∷ xs) ys so =
     let same : ys ≡ one.0 ∷ two.0 = cc (two.2) in
     ap length same ∙ ap (λ n. suc n) (each_length check xs two.0 two.1)
 
-body_length : (sources : List Source) (block : SelectBlock) (checked : Checked) → body_of sources block ≡ Ok checked → length checked.inputs ≡ length sources
+body_length : (sources : List BlockInput) (block : SelectBlock) (checked : Checked) → body_of sources block ≡ Ok checked → length checked.inputs ≡ length sources
 unfolding body_of
 body_length sources block checked so =
     let one = passes (where_of (joined_row sources) block.condition) _ checked so in

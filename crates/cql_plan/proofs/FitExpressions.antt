@@ -19,7 +19,7 @@ use Rattle.cql_plan.specs.declared.expr.Expr.TheFolds.{fold-Expr, fold-roll-Expr
 use Rattle.cql_plan.specs.declared.expr.Expr.TheVariants as e
 use Rattle.cql_plan.specs.declared.expr.Expr.TheVariants.{rolls-Column, rolls-Constant, rolls-Binary}
 use Rattle.cql_plan.specs.declared.row.Field.{Field}
-use Rattle.cql_plan.specs.declared.row.Found.{Found}
+use Rattle.cql_plan.specs.declared.row.FoundColumn.{FoundColumn}
 use Rattle.cql_plan.specs.declared.typed.TypedExpr.{TypedExpr}
 use Rattle.cql_plan.specs.Outcome.{Outcome, ◌>>=◌, ◌>>◌, unless, each}
 use Rattle.cql_plan.specs.Columns.{kinds_of, may_mean, meant, the_one, column_named, column_of}
@@ -65,7 +65,7 @@ each_ok check (x ∷ xs) ys h =
 
 -- ---- columns
 
-meant_at : (qualifier : Option (List ℕ)) (name : List ℕ) (place : ℕ) (fields : List Field) (f : Found) → Contains (meant qualifier name place fields) f → (k : ℕ) × (f.place ≡ place + k) × (slice_get (kinds_of fields) k ≡ Some f.kind)
+meant_at : (qualifier : Option (List ℕ)) (name : List ℕ) (place : ℕ) (fields : List Field) (f : FoundColumn) → Contains (meant qualifier name place fields) f → (k : ℕ) × (f.place ≡ place + k) × (slice_get (kinds_of fields) k ≡ Some f.kind)
 unfolding meant
 meant_at qualifier name place [] f c = absurd (nothing f c)
 meant_at qualifier name place (field ∷ fields) f c =
@@ -80,13 +80,13 @@ meant_at qualifier name place (field ∷ fields) f c =
     later : (k : ℕ) × (f.place ≡ suc place + k) × (slice_get (kinds_of fields) k ≡ Some f.kind) → (k : ℕ) × (f.place ≡ place + k) × (slice_get (kinds_of (field ∷ fields)) k ≡ Some f.kind)
     later r = (suc r.0, (let p : f.place ≡ suc place + r.0 = r.1 in omega arith), r.2)
 
-one_of : (found : List Found) (f : Found) → the_one found ≡ Ok f → Contains found f
+one_of : (found : List FoundColumn) (f : FoundColumn) → the_one found ≡ Ok f → Contains found f
 one_of [] f h = absurd cc
 one_of (x ∷ []) f h = subst (Contains (x ∷ [])) (ok_is x f h) (here x [])
 one_of (x ∷ y ∷ more) f h = absurd cc
 
 -- a written column holds what it is found to hold
-pub column_found : (fields : List Field) (written : QualifiedName) (f : Found) → column_of fields written ≡ Ok f → slice_get (kinds_of fields) f.place ≡ Some f.kind
+pub column_found : (fields : List Field) (written : QualifiedName) (f : FoundColumn) → column_of fields written ≡ Ok f → slice_get (kinds_of fields) f.place ≡ Some f.kind
 unfolding column_named
 column_found fields written f h =
     let m = meant_at written.qualifier written.name 0 fields f (one_of (meant written.qualifier written.name 0 fields) f h) in

@@ -24,8 +24,8 @@ use Rattle.cql_plan.specs.declared.node.Item.TheVariants as i
 use Rattle.cql_plan.specs.declared.node.Node.{Node}
 use Rattle.cql_plan.specs.declared.node.OperatorKind.TheVariants.{Join, Shape, Distinct}
 use Rattle.cql_plan.specs.declared.row.Field.{Field}
-use Rattle.cql_plan.specs.declared.row.Found.{Found}
-use Rattle.cql_plan.specs.declared.source.Source.{Source}
+use Rattle.cql_plan.specs.declared.row.FoundColumn.{FoundColumn}
+use Rattle.cql_plan.specs.declared.source.BlockInput.{BlockInput}
 use Rattle.cql_plan.specs.declared.item.TypedItem.{TypedItem}
 use Rattle.cql_plan.specs.declared.block.Checked.{Checked}
 use Rattle.cql_plan.specs.declared.plan.OutputKind.{OutputKind}
@@ -51,7 +51,7 @@ record Fits (fields : List Field) (grouped : Bool) (groups : List ℕ) (plain : 
   allowed : grouped ≡ true → IsGroupedItem groups t.item
   same : plain ≡ true → is_aggregate t.item ≡ false
 
-over : (fields : List Field) (grouped : Bool) (groups : List ℕ) (function : Function) (f : Found) (t : TypedItem) → slice_get (kinds_of fields) f.place ≡ Some f.kind → function_of function f ≡ Ok t → Fits fields grouped groups false t
+over : (fields : List Field) (grouped : Bool) (groups : List ℕ) (function : Function) (f : FoundColumn) (t : TypedItem) → slice_get (kinds_of fields) f.place ≡ Some f.kind → function_of function f ≡ Ok t → Fits fields grouped groups false t
 over fields grouped groups Sum f t is h =
     let made : TypedItem = record { item = i.Sum f.place; kind = Number } in
     let done = passed (same_kind f.kind Number) _ (Ok made) t h in
@@ -189,7 +189,7 @@ same_grouped block false groups items is none plain h =
 
 -- ---- blocks
 
-columns_of_row : (sources : List Source) → kinds_of (joined_row sources) ≡ all_columns (ports_of sources)
+columns_of_row : (sources : List BlockInput) → kinds_of (joined_row sources) ≡ all_columns (ports_of sources)
 unfolding joined_row
 columns_of_row [] = refl
 columns_of_row (s ∷ sources) = map-append (λ field. field.kind) s.fields (joined_row sources) ∙ ap (λ l. kinds_of s.fields ++ l) (columns_of_row sources)
@@ -205,7 +205,7 @@ distinct_fits : (distinct : Bool) (shape : Node) (kinds : List ColumnType) → r
 distinct_fits true shape kinds is = ((refl, ap (λ l. l ∷ []) (sym is)), refl)
 distinct_fits false shape kinds is = (tt, is)
 
-body_well : (sources : List Source) (block : SelectBlock) (c : Checked) → body_of sources block ≡ Ok c → IsWell c
+body_well : (sources : List BlockInput) (block : SelectBlock) (c : Checked) → body_of sources block ≡ Ok c → IsWell c
 unfolding body_of
 body_well sources block c h =
     let fields = joined_row sources in

@@ -18,7 +18,7 @@ use Rattle.cql_plan.specs.declared.plan.OutputKind.TheVariants.{Rstream}
 use Rattle.cql_plan.specs.declared.plan.Planned.{Planned}
 use Rattle.cql_plan.specs.Ports.{IsPlain}
 use Rattle.cql_plan.specs.declared.error.PlanFault.TheVariants.{AmbiguousColumn}
-use Rattle.cql_plan.specs.declared.source.Source.{Source}
+use Rattle.cql_plan.specs.declared.source.BlockInput.{BlockInput}
 use Rattle.cql_plan.specs.Outcome.{each}
 use Rattle.cql_plan.specs.Visible.{Visible}
 use Rattle.cql_plan.specs.Columns.{column_named}
@@ -61,7 +61,7 @@ query = record {
 abbrev input : Input
 input = record { owner = None; stream = s; window = all; places = 0 ∷ [] }
 
-abbrev source : Source
+abbrev source : BlockInput
 source = record { input = input; alias = s; fields = record { alias = s; name = v; kind = Number } ∷ [] }
 
 abbrev plan : Planned

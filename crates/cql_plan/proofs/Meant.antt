@@ -2,7 +2,7 @@
 use Rattle.std.proofs.Common.{◌≡◌, ◌<◌, ℕ, zero, suc, ◌+◌, Bool, true, false, List, [], ◌∷◌, refl, sym, ap, ◌∙◌, arith, inl, inr, subst}
 use Rattle.std.specs.Prelude.{Option, Some, slice_get, if◌then◌else◌}
 use Rattle.cql_plan.specs.declared.row.Field.{Field}
-use Rattle.cql_plan.specs.declared.row.Found.{Found}
+use Rattle.cql_plan.specs.declared.row.FoundColumn.{FoundColumn}
 use Rattle.cql_plan.specs.Columns.{meant, may_mean, the_one, column_named}
 use Rattle.cql_plan.specs.Law.{MayMeanAt, IsMeaning, IsColumnLaw}
 use Rattle.cql_plan.proofs.Finding.{here}
@@ -22,7 +22,7 @@ none_meant q n p (f ∷ fs) none i is = none_go q n p f fs (none_meant q n (suc 
 
 -- ---- the first that is meant, and whether another is
 
-pub record First (q : Option (List ℕ)) (n : List ℕ) (p : ℕ) (fs : List Field) (found : Found) (more : List Found) : Type 0 where
+pub record First (q : Option (List ℕ)) (n : List ℕ) (p : ℕ) (fs : List Field) (found : FoundColumn) (more : List FoundColumn) : Type 0 where
   pub at : ℕ
   pub field : Field
   pub stands : slice_get fs at ≡ Some field
@@ -30,14 +30,14 @@ pub record First (q : Option (List ℕ)) (n : List ℕ) (p : ℕ) (fs : List Fie
   pub place : found.place ≡ p + at
   pub kind : found.kind ≡ field.kind
   pub alone : more ≡ [] → (j : ℕ) → MayMeanAt q n fs j → j ≡ at
-  pub other : (another : Found) (rest : List Found) → more ≡ another ∷ rest → (j : ℕ) × (at < j) × MayMeanAt q n fs j
+  pub other : (another : FoundColumn) (rest : List FoundColumn) → more ≡ another ∷ rest → (j : ℕ) × (at < j) × MayMeanAt q n fs j
 
 alone_here : (q : Option (List ℕ)) (n : List ℕ) (p : ℕ) (f : Field) (fs : List Field) → meant q n (suc p) fs ≡ [] → (j : ℕ) → MayMeanAt q n (f ∷ fs) j → j ≡ 0
 alone_here q n p f fs none zero is = refl
 alone_here q n p f fs none (suc j) (g, at, may) = absurd (none_meant q n (suc p) fs none j (g, at, may))
 
-first_here : (q : Option (List ℕ)) (n : List ℕ) (p : ℕ) (f : Field) (fs : List Field) (found : Found) (more : List Found)
-    → ((another : Found) (rest : List Found) → meant q n (suc p) fs ≡ another ∷ rest → First q n (suc p) fs another rest)
+first_here : (q : Option (List ℕ)) (n : List ℕ) (p : ℕ) (f : Field) (fs : List Field) (found : FoundColumn) (more : List FoundColumn)
+    → ((another : FoundColumn) (rest : List FoundColumn) → meant q n (suc p) fs ≡ another ∷ rest → First q n (suc p) fs another rest)
     → may_mean q n f ≡ true → here p f ∷ meant q n (suc p) fs ≡ found ∷ more → First q n p (f ∷ fs) found more
 first_here q n p f fs found more later same so =
     let one : here p f ≡ found = cc in
@@ -47,8 +47,8 @@ first_here q n p f fs found more later same so =
       field = f;
       stands = refl;
       may = same;
-      place = (let place : p ≡ found.place = ap (λ (x : Found). x.place) one in omega arith);
-      kind = sym (ap (λ (x : Found). x.kind) one);
+      place = (let place : p ≡ found.place = ap (λ (x : FoundColumn). x.place) one in omega arith);
+      kind = sym (ap (λ (x : FoundColumn). x.kind) one);
       alone = λ nothing j is. alone_here q n p f fs (rest ∙ nothing) j is;
       other = λ another others is.
           (let next = later another others (rest ∙ is) in (suc next.at, omega arith, (next.field, next.stands, next.may)));
@@ -59,7 +59,7 @@ alone_later : (q : Option (List ℕ)) (n : List ℕ) (f : Field) (fs : List Fiel
 alone_later q n f fs i same only zero (g, at, may) = let one : f ≡ g = cc in let both : may_mean q n f ≡ true = ap (may_mean q n) one ∙ may in cc
 alone_later q n f fs i same only (suc j) (g, at, may) = ap (λ k. suc k) (only j (g, at, may))
 
-first_later : (q : Option (List ℕ)) (n : List ℕ) (p : ℕ) (f : Field) (fs : List Field) (found : Found) (more : List Found)
+first_later : (q : Option (List ℕ)) (n : List ℕ) (p : ℕ) (f : Field) (fs : List Field) (found : FoundColumn) (more : List FoundColumn)
     → First q n (suc p) fs found more → may_mean q n f ≡ false → First q n p (f ∷ fs) found more
 first_later q n p f fs found more next same = record {
   at = suc next.at;
@@ -72,20 +72,20 @@ first_later q n p f fs found more next same = record {
   other = λ another others is. (let o = next.other another others is in (suc o.0, (let below : next.at < o.0 = o.1 in omega arith), o.2));
 }
 
-first_go : (q : Option (List ℕ)) (n : List ℕ) (p : ℕ) (f : Field) (fs : List Field) (found : Found) (more : List Found)
-    → ((another : Found) (rest : List Found) → meant q n (suc p) fs ≡ another ∷ rest → First q n (suc p) fs another rest)
+first_go : (q : Option (List ℕ)) (n : List ℕ) (p : ℕ) (f : Field) (fs : List Field) (found : FoundColumn) (more : List FoundColumn)
+    → ((another : FoundColumn) (rest : List FoundColumn) → meant q n (suc p) fs ≡ another ∷ rest → First q n (suc p) fs another rest)
     → (b : Bool) → may_mean q n f ≡ b → (if b then here p f ∷ meant q n (suc p) fs else meant q n (suc p) fs) ≡ found ∷ more → First q n p (f ∷ fs) found more
 first_go q n p f fs found more later true same so = first_here q n p f fs found more later same so
 first_go q n p f fs found more later false same so = first_later q n p f fs found more (later found more so) same
 
-first_meant : (q : Option (List ℕ)) (n : List ℕ) (p : ℕ) (fs : List Field) (found : Found) (more : List Found) → meant q n p fs ≡ found ∷ more → First q n p fs found more
+first_meant : (q : Option (List ℕ)) (n : List ℕ) (p : ℕ) (fs : List Field) (found : FoundColumn) (more : List FoundColumn) → meant q n p fs ≡ found ∷ more → First q n p fs found more
 unfolding meant
 first_meant q n p [] found more so = absurd (cc)
 first_meant q n p (f ∷ fs) found more so = first_go q n p f fs found more (first_meant q n (suc p) fs) (may_mean q n f) refl so
 
 -- ---- the law
 
-meaning_go : (q : Option (List ℕ)) (n : List ℕ) (fs : List Field) (l : List Found) → meant q n 0 fs ≡ l → IsMeaning q n fs (the_one l)
+meaning_go : (q : Option (List ℕ)) (n : List ℕ) (fs : List Field) (l : List FoundColumn) → meant q n 0 fs ≡ l → IsMeaning q n fs (the_one l)
 meaning_go q n fs [] so = inl (refl, none_meant q n 0 fs so)
 meaning_go q n fs (found ∷ []) so =
     let is = first_meant q n 0 fs found [] so in

@@ -17,7 +17,7 @@ use Rattle.cql_plan.specs.declared.node.Node.TheVariants as node
 use Rattle.cql_plan.specs.declared.plan.OutputKind.{OutputKind}
 use Rattle.cql_plan.specs.declared.plan.Planned.{Planned}
 use Rattle.cql_plan.specs.declared.row.Field.{Field}
-use Rattle.cql_plan.specs.declared.source.Source.{Source}
+use Rattle.cql_plan.specs.declared.source.BlockInput.{BlockInput}
 use Rattle.cql_plan.specs.declared.item.TypedItem.{TypedItem}
 use Rattle.cql_plan.specs.declared.block.Checked.{Checked}
 use Rattle.cql_plan.specs.Outcome.{Outcome, ◌>>=◌, ◌>>◌, unless, each}
@@ -58,7 +58,7 @@ unfolding all_items
 all_shown place [] = refl
 all_shown place (field ∷ fields) = ap (λ l. value (column place) ∷ l) (all_shown (suc place) fields)
 
-one_row : (source : Source) → joined_row (source ∷ []) ≡ source.fields
+one_row : (source : BlockInput) → joined_row (source ∷ []) ≡ source.fields
 unfolding joined_row
 one_row source = append-nil source.fields
 
@@ -82,7 +82,7 @@ shaped row fields groups items r g i =
     let kinds : kinds_of row ≡ kinds_of fields = ap kinds_of r in
     cc
 
-body_plain : (sources : List Source) (source : Source) (block : SelectBlock) (c : Checked) → sources ≡ source ∷ []
+body_plain : (sources : List BlockInput) (source : BlockInput) (block : SelectBlock) (c : Checked) → sources ≡ source ∷ []
     → block.selection ≡ selection.All → block.distinct ≡ false → block.condition ≡ None → block.groups ≡ [] → body_of sources block ≡ Ok c → IsPlainBlock c
 unfolding body_of
 body_plain sources source block c one chosen distinct condition groups h =

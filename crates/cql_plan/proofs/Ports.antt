@@ -21,7 +21,7 @@ use Rattle.cql_plan.specs.declared.plan.Input.{Input}
 use Rattle.cql_plan.specs.declared.plan.OutputKind.{OutputKind}
 use Rattle.cql_plan.specs.declared.plan.Planned.{Planned}
 use Rattle.cql_plan.specs.declared.row.Field.{Field}
-use Rattle.cql_plan.specs.declared.source.Source.{Source}
+use Rattle.cql_plan.specs.declared.source.BlockInput.{BlockInput}
 use Rattle.cql_plan.specs.declared.block.Checked.{Checked}
 use Rattle.cql_plan.specs.Outcome.{◌>>◌, unless, each}
 use Rattle.cql_plan.specs.Visible.{Visible}
@@ -98,10 +98,10 @@ parts_among places (Rows count slide) = tt
 parts_among places all = tt
 parts_among places (Parts columns count) = all_got places columns
 
-abbrev StandsSource : Readable → Source → Type 0
+abbrev StandsSource : Readable → BlockInput → Type 0
 StandsSource readable source = Stands readable source.input (kinds_of source.fields)
 
-source_go : (readable : Readable) (input : WrittenInput) (source : Source) (o : Option Visible) → readable input.stream.qualifier input.stream.name ≡ o → source_with input o ≡ Ok source → StandsSource readable source
+source_go : (readable : Readable) (input : WrittenInput) (source : BlockInput) (o : Option Visible) → readable input.stream.qualifier input.stream.name ≡ o → source_with input o ≡ Ok source → StandsSource readable source
 source_go readable input source None same h = absurd cc
 source_go readable input source (Some seen) same h =
     let fields = fields_of (alias_of input) seen.schema in
@@ -111,7 +111,7 @@ source_go readable input source (Some seen) same h =
       parts = parts_among seen.places b.0;
     })
 
-source_stands : (readable : Readable) (input : WrittenInput) (source : Source) → source_of readable input ≡ Ok source → StandsSource readable source
+source_stands : (readable : Readable) (input : WrittenInput) (source : BlockInput) → source_of readable input ≡ Ok source → StandsSource readable source
 unfolding source_of
 source_stands readable input source h = source_go readable input source (readable input.stream.qualifier input.stream.name) refl h
 
@@ -124,7 +124,7 @@ Beside readable [] (c ∷ cs) = ⊥
 Beside readable (i ∷ is) [] = ⊥
 Beside readable (i ∷ is) (c ∷ cs) = Stands readable i c × Beside readable is cs
 
-sources_beside : (readable : Readable) (inputs : List WrittenInput) (sources : List Source) → AllZip (λ input source. source_of readable input ≡ Ok source) inputs sources → Beside readable (inputs_of sources) (ports_of sources)
+sources_beside : (readable : Readable) (inputs : List WrittenInput) (sources : List BlockInput) → AllZip (λ input source. source_of readable input ≡ Ok source) inputs sources → Beside readable (inputs_of sources) (ports_of sources)
 sources_beside readable [] [] zip = tt
 sources_beside readable [] (s ∷ sources) zip = absurd zip
 sources_beside readable (i ∷ inputs) [] zip = absurd zip
@@ -153,7 +153,7 @@ have_ports readable (i ∷ is) (c ∷ cs) beside = (beside.0.parts, have_ports r
 abbrev IsBeside : Readable → Checked → Type 0
 IsBeside readable c = Beside readable c.inputs (ports_in c.branch.join)
 
-body_beside : (readable : Readable) (sources : List Source) (block : SelectBlock) (c : Checked) → Beside readable (inputs_of sources) (ports_of sources) → body_of sources block ≡ Ok c → IsBeside readable c
+body_beside : (readable : Readable) (sources : List BlockInput) (block : SelectBlock) (c : Checked) → Beside readable (inputs_of sources) (ports_of sources) → body_of sources block ≡ Ok c → IsBeside readable c
 unfolding body_of
 body_beside readable sources block c beside h =
     let fields = joined_row sources in

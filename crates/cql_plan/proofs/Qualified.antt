@@ -11,8 +11,8 @@ use Rattle.cql_value.specs.Schema.{are_distinct}
 use Rattle.cql_syntax.specs.declared.syntax.Input.{Input}
 use Rattle.cql_plan.specs.declared.error.PlanFault.TheVariants.{AmbiguousColumn}
 use Rattle.cql_plan.specs.declared.row.Field.{Field}
-use Rattle.cql_plan.specs.declared.row.Found.{Found}
-use Rattle.cql_plan.specs.declared.source.Source.{Source}
+use Rattle.cql_plan.specs.declared.row.FoundColumn.{FoundColumn}
+use Rattle.cql_plan.specs.declared.source.BlockInput.{BlockInput}
 use Rattle.cql_plan.specs.Outcome.{Outcome, ◌>>=◌, each}
 use Rattle.cql_plan.specs.Visible.{Visible}
 use Rattle.cql_plan.specs.Columns.{fields_of, may_mean, meant, the_one, column_named}
@@ -30,11 +30,11 @@ denied : (a : Bool) → not a ≡ true → a ≡ false
 denied true h = absurd (cc)
 denied false h = refl
 
-passed_left : (a b : Bool) (x : Found) (l : List Found) → a ≡ false → (if a && b then x ∷ l else l) ≡ l
+passed_left : (a b : Bool) (x : FoundColumn) (l : List FoundColumn) → a ≡ false → (if a && b then x ∷ l else l) ≡ l
 passed_left true b x l h = absurd (cc)
 passed_left false b x l h = refl
 
-passed_right : (a b : Bool) (x : Found) (l : List Found) → b ≡ false → (if a && b then x ∷ l else l) ≡ l
+passed_right : (a b : Bool) (x : FoundColumn) (l : List FoundColumn) → b ≡ false → (if a && b then x ∷ l else l) ≡ l
 passed_right true true x l h = absurd (cc)
 passed_right true false x l h = refl
 passed_right false b x l h = refl
@@ -42,20 +42,20 @@ passed_right false b x l h = refl
 bytes_same : (a b : List ℕ) → bytes_eq a b ≡ true → a ≡ b
 bytes_same a b same = (bytes_eq-Decides a b).0 same
 
-ok_same : (s t : Source) → ◌≡◌ {A = Outcome Source} (Ok s) (Ok t) → s ≡ t
+ok_same : (s t : BlockInput) → ◌≡◌ {A = Outcome BlockInput} (Ok s) (Ok t) → s ≡ t
 ok_same s t so = cc
 
-ok_list : (ss ts : List Source) → ◌≡◌ {A = Outcome (List Source)} (Ok ss) (Ok ts) → ss ≡ ts
+ok_list : (ss ts : List BlockInput) → ◌≡◌ {A = Outcome (List BlockInput)} (Ok ss) (Ok ts) → ss ≡ ts
 ok_list ss ts so = cc
 
 -- ---- at most one
 
-abbrev Lone : List Found → Type 0
+abbrev Lone : List FoundColumn → Type 0
 Lone [] = Unit {0}
 Lone (a ∷ []) = Unit {0}
 Lone (a ∷ b ∷ more) = ⊥
 
-lone_first : (x : Found) (l : List Found) → l ≡ [] → Lone (x ∷ l)
+lone_first : (x : FoundColumn) (l : List FoundColumn) → l ≡ [] → Lone (x ∷ l)
 lone_first x [] h = tt
 lone_first x (y ∷ l) h = absurd (cc)
 
@@ -74,7 +74,7 @@ absent q n alias p (c ∷ cs) h =
     let parts = neither (bytes_eq n c.name) (list_any (λ other. bytes_eq n other.name) cs) h in
     passed_left (bytes_eq n c.name) (bytes_eq q alias) _ (meant (Some q) n (suc p) (fields_of alias cs)) parts.0 ∙ absent q n alias (suc p) cs parts.1
 
-lone_go : (a b : Bool) (x : Found) (l : List Found) → (a ≡ true → l ≡ []) → Lone l → Lone (if a && b then x ∷ l else l)
+lone_go : (a b : Bool) (x : FoundColumn) (l : List FoundColumn) → (a ≡ true → l ≡ []) → Lone l → Lone (if a && b then x ∷ l else l)
 lone_go true true x l none lone = lone_first x l (none refl)
 lone_go true false x l none lone = lone
 lone_go false b x l none lone = lone
@@ -91,7 +91,7 @@ lone_input q n alias p (c ∷ cs) h =
 
 -- ---- all inputs
 
-apart : (b : Bool) (x : Found) (whole front back : List Found) → whole ≡ front ++ back → (if b then x ∷ whole else whole) ≡ (if b then x ∷ front else front) ++ back
+apart : (b : Bool) (x : FoundColumn) (whole front back : List FoundColumn) → whole ≡ front ++ back → (if b then x ∷ whole else whole) ≡ (if b then x ∷ front else front) ++ back
 apart true x whole front back h = ap (λ l. x ∷ l) h
 apart false x whole front back h = h
 
@@ -103,33 +103,33 @@ split q n p (f ∷ xs) ys =
     (rest.0, apart (may_mean q n f) _ (meant q n (suc p) (xs ++ ys)) (meant q n (suc p) xs) (meant q n rest.0 ys) rest.1)
 
 -- an input of a stream with distinct columns
-abbrev IsInput : Source → Type 0
+abbrev IsInput : BlockInput → Type 0
 IsInput s = (columns : List Column) × (s.fields ≡ fields_of s.alias columns) × (are_distinct columns ≡ true)
 
-abbrev AreInputs : List Source → Type 0
+abbrev AreInputs : List BlockInput → Type 0
 AreInputs [] = Unit {0}
 AreInputs (s ∷ ss) = IsInput s × AreInputs ss
 
-source_go : (readable : Readable) (input : Input) (s : Source) → AreSchemas readable
+source_go : (readable : Readable) (input : Input) (s : BlockInput) → AreSchemas readable
     → (o : Option Visible) → readable input.stream.qualifier input.stream.name ≡ o → source_with input o ≡ Ok s → IsInput s
 source_go readable input s schemas None same so = absurd (cc)
 source_go readable input s schemas (Some seen) same so =
     let one = passes (window_of (fields_of (alias_of input) seen.schema) input.window) _ s so in
     subst IsInput (ok_same _ s one.2) (seen.schema, refl, schemas input.stream.qualifier input.stream.name seen same)
 
-source_is : (readable : Readable) (input : Input) (s : Source) → AreSchemas readable → source_of readable input ≡ Ok s → IsInput s
+source_is : (readable : Readable) (input : Input) (s : BlockInput) → AreSchemas readable → source_of readable input ≡ Ok s → IsInput s
 unfolding source_of
 source_is readable input s schemas so = source_go readable input s schemas (readable input.stream.qualifier input.stream.name) refl so
 
-sources_are : (readable : Readable) (inputs : List Input) (ss : List Source) → AreSchemas readable → each (source_of readable) inputs ≡ Ok ss → AreInputs ss
+sources_are : (readable : Readable) (inputs : List Input) (ss : List BlockInput) → AreSchemas readable → each (source_of readable) inputs ≡ Ok ss → AreInputs ss
 unfolding each
 sources_are readable [] ss schemas so = let none : [] ≡ ss = cc in subst AreInputs none tt
 sources_are readable (input ∷ inputs) ss schemas so =
-    let one = passes (source_of readable input) (λ (s : Source). each (source_of readable) inputs >>= (λ more. Ok (s ∷ more))) ss so in
-    let two = passes (each (source_of readable) inputs) (λ (more : List Source). Ok (one.0 ∷ more)) ss one.2 in
+    let one = passes (source_of readable input) (λ (s : BlockInput). each (source_of readable) inputs >>= (λ more. Ok (s ∷ more))) ss so in
+    let two = passes (each (source_of readable) inputs) (λ (more : List BlockInput). Ok (one.0 ∷ more)) ss one.2 in
     subst AreInputs (ok_list (one.0 ∷ two.0) ss two.2) (source_is readable input one.0 schemas one.1, sources_are readable inputs two.0 schemas two.1)
 
-none_later : (q n : List ℕ) (p : ℕ) (ss : List Source) → AreInputs ss → list_any (λ other. bytes_eq q other.alias) ss ≡ false → meant (Some q) n p (joined_row ss) ≡ []
+none_later : (q n : List ℕ) (p : ℕ) (ss : List BlockInput) → AreInputs ss → list_any (λ other. bytes_eq q other.alias) ss ≡ false → meant (Some q) n p (joined_row ss) ≡ []
 unfolding meant joined_row
 none_later q n p [] are h = refl
 none_later q n p (s ∷ ss) are h =
@@ -139,11 +139,11 @@ none_later q n p (s ∷ ss) are h =
     let back : meant (Some q) n cut.0 (joined_row ss) ≡ [] = none_later q n cut.0 ss are.1 parts.1 in
     cut.1 ∙ ap (λ l. l ++ meant (Some q) n cut.0 (joined_row ss)) front ∙ back
 
-lone_cases : (same : Bool) (front back : List Found) → (same ≡ true → back ≡ []) → (same ≡ false → front ≡ []) → Lone front → Lone back → Lone (front ++ back)
+lone_cases : (same : Bool) (front back : List FoundColumn) → (same ≡ true → back ≡ []) → (same ≡ false → front ≡ []) → Lone front → Lone back → Lone (front ++ back)
 lone_cases true front back none other f b = subst Lone (sym (ap (λ l. front ++ l) (none refl) ∙ append-nil front)) f
 lone_cases false front back none other f b = subst Lone (sym (ap (λ l. l ++ back) (other refl))) b
 
-lone_row : (q n : List ℕ) (p : ℕ) (ss : List Source) → AreInputs ss → are_apart ss ≡ true → Lone (meant (Some q) n p (joined_row ss))
+lone_row : (q n : List ℕ) (p : ℕ) (ss : List BlockInput) → AreInputs ss → are_apart ss ≡ true → Lone (meant (Some q) n p (joined_row ss))
 unfolding meant joined_row are_apart
 lone_row q n p [] are h = tt
 lone_row q n p (s ∷ ss) are h =
@@ -156,7 +156,7 @@ lone_row q n p (s ∷ ss) are h =
     (λ other. ap (meant (Some q) n p) are.0.1 ∙ other_alias q n s.alias p are.0.0 other)
     front (lone_row q n cut.0 ss are.1 parts.1))
 
-lone_not : (l : List Found) → Lone l → the_one l ≢ Err AmbiguousColumn
+lone_not : (l : List FoundColumn) → Lone l → the_one l ≢ Err AmbiguousColumn
 lone_not [] lone h = cc
 lone_not (a ∷ []) lone h = cc
 lone_not (a ∷ b ∷ more) lone h = absurd lone

@@ -18,7 +18,7 @@ use Rattle.cql_plan.specs.declared.error.PlanFault.TheVariants.{AmbiguousColumn,
 use Rattle.cql_plan.specs.declared.plan.Input.{Input}
 use Rattle.cql_plan.specs.declared.plan.OutputKind.{OutputKind}
 use Rattle.cql_plan.specs.declared.row.Field.{Field}
-use Rattle.cql_plan.specs.declared.source.Source.{Source}
+use Rattle.cql_plan.specs.declared.source.BlockInput.{BlockInput}
 use Rattle.cql_plan.specs.declared.block.Checked.{Checked}
 use Rattle.cql_plan.specs.declared.item.TypedItem.{TypedItem}
 use Rattle.cql_plan.specs.declared.node.Node.TheVariants as node
@@ -51,12 +51,12 @@ each_changed {A} {B} check other f same (x ∷ xs) =
 -- ---- inputs
 
 -- an input of a block, over what is seen of its stream
-abbrev made_of : WrittenInput → Visible → Input → Source
+abbrev made_of : WrittenInput → Visible → Input → BlockInput
 made_of input seen kept = record { input = kept; alias = alias_of input; fields = fields_of (alias_of input) seen.schema }
 
 module _ (readable : Readable) where
   -- an input of a block, with its window over the whole rows
-  abbrev source_widened : Source → Source
+  abbrev source_widened : BlockInput → BlockInput
   source_widened s = record s { input = widened readable s.input }
 
   abbrev checked_widened : Checked → Checked
@@ -81,25 +81,25 @@ module _ (readable : Readable) where
 
   -- ---- blocks
 
-  same_any : (alias : List ℕ) (ss : List Source) → list_any (λ other. bytes_eq alias other.alias) (map source_widened ss) ≡ list_any (λ other. bytes_eq alias other.alias) ss
+  same_any : (alias : List ℕ) (ss : List BlockInput) → list_any (λ other. bytes_eq alias other.alias) (map source_widened ss) ≡ list_any (λ other. bytes_eq alias other.alias) ss
   same_any alias [] = refl
   same_any alias (s ∷ ss) = ap (λ b. bytes_eq alias s.alias || b) (same_any alias ss)
 
-  same_apart : (ss : List Source) → are_apart (map source_widened ss) ≡ are_apart ss
+  same_apart : (ss : List BlockInput) → are_apart (map source_widened ss) ≡ are_apart ss
   unfolding are_apart
   same_apart [] = refl
   same_apart (s ∷ ss) = λ i. not (same_any s.alias ss i) && same_apart ss i
 
-  same_row : (ss : List Source) → joined_row (map source_widened ss) ≡ joined_row ss
+  same_row : (ss : List BlockInput) → joined_row (map source_widened ss) ≡ joined_row ss
   unfolding joined_row
   same_row [] = refl
   same_row (s ∷ ss) = ap (λ row. s.fields ++ row) (same_row ss)
 
-  same_ports : (ss : List Source) → ports_of (map source_widened ss) ≡ ports_of ss
+  same_ports : (ss : List BlockInput) → ports_of (map source_widened ss) ≡ ports_of ss
   same_ports [] = refl
   same_ports (s ∷ ss) = ap (λ ports. kinds_of s.fields ∷ ports) (same_ports ss)
 
-  their_inputs : (ss : List Source) → inputs_of (map source_widened ss) ≡ map (widened readable) (inputs_of ss)
+  their_inputs : (ss : List BlockInput) → inputs_of (map source_widened ss) ≡ map (widened readable) (inputs_of ss)
   their_inputs [] = refl
   their_inputs (s ∷ ss) = ap (λ is. widened readable s.input ∷ is) (their_inputs ss)
 
@@ -132,7 +132,7 @@ module _ (readable : Readable) where
       in_where (Ok condition) = in_groups condition (each (group_of row) block.groups)
       in_where (Err e) = refl
 
-  one_body : (ss : List Source) (block : SelectBlock) → body_of (map source_widened ss) block ≡ changed checked_widened (body_of ss block)
+  one_body : (ss : List BlockInput) (block : SelectBlock) → body_of (map source_widened ss) block ≡ changed checked_widened (body_of ss block)
   unfolding body_of
   one_body ss block =
       (λ i. body_over block (same_row ss i) (same_ports ss i) (their_inputs ss i))
@@ -141,14 +141,14 @@ module _ (readable : Readable) where
   one_block : (block : SelectBlock) → block_of readable block ≡ changed checked_widened (block_of (seen_alone readable) block)
   unfolding block_of
   one_block block =
-      ap (λ o. o >>= (λ (ss : List Source). unless (are_apart ss) AmbiguousColumn >> body_of ss block)) (each_changed (source_of readable) (source_of (seen_alone readable)) source_widened one_source block.inputs)
+      ap (λ o. o >>= (λ (ss : List BlockInput). unless (are_apart ss) AmbiguousColumn >> body_of ss block)) (each_changed (source_of readable) (source_of (seen_alone readable)) source_widened one_source block.inputs)
       ∙ in_sources (each (source_of (seen_alone readable)) block.inputs)
     where
-      in_test : (ss : List Source) (b : Bool) → (unless b AmbiguousColumn >> body_of (map source_widened ss) block) ≡ changed checked_widened (unless b AmbiguousColumn >> body_of ss block)
+      in_test : (ss : List BlockInput) (b : Bool) → (unless b AmbiguousColumn >> body_of (map source_widened ss) block) ≡ changed checked_widened (unless b AmbiguousColumn >> body_of ss block)
       in_test ss true = one_body ss block
       in_test ss false = refl
 
-      in_sources : (o : Outcome (List Source)) → (changed (map source_widened) o >>= (λ ss. unless (are_apart ss) AmbiguousColumn >> body_of ss block)) ≡ changed checked_widened (o >>= (λ ss. unless (are_apart ss) AmbiguousColumn >> body_of ss block))
+      in_sources : (o : Outcome (List BlockInput)) → (changed (map source_widened) o >>= (λ ss. unless (are_apart ss) AmbiguousColumn >> body_of ss block)) ≡ changed checked_widened (o >>= (λ ss. unless (are_apart ss) AmbiguousColumn >> body_of ss block))
       in_sources (Ok ss) = (λ i. unless (same_apart ss i) AmbiguousColumn >> body_of (map source_widened ss) block) ∙ in_test ss (are_apart ss)
       in_sources (Err e) = refl
 

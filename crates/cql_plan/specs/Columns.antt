@@ -6,7 +6,7 @@ use Rattle.cql_value.specs.declared.schema.ColumnType.{ColumnType}
 use Rattle.cql_syntax.specs.declared.syntax.QualifiedName.{QualifiedName}
 use Rattle.cql_plan.specs.declared.error.PlanFault.TheVariants.{UnknownColumn, AmbiguousColumn}
 use Rattle.cql_plan.specs.declared.row.Field.{Field}
-use Rattle.cql_plan.specs.declared.row.Found.{Found}
+use Rattle.cql_plan.specs.declared.row.FoundColumn.{FoundColumn}
 use Rattle.cql_plan.specs.Outcome.{Outcome}
 
 -- a column of an input of this alias
@@ -29,7 +29,7 @@ abbrev pub may_mean : Option (List ℕ) → List ℕ → Field → Bool
 may_mean qualifier name field = bytes_eq name field.name && is_of qualifier field.alias
 
 -- the columns that a written one may mean, of those from this place on
-unfoldable pub meant : Option (List ℕ) → List ℕ → ℕ → List Field → List Found
+unfoldable pub meant : Option (List ℕ) → List ℕ → ℕ → List Field → List FoundColumn
 meant qualifier name place [] = []
 meant qualifier name place (field ∷ fields) =
     if may_mean qualifier name field
@@ -37,14 +37,14 @@ meant qualifier name place (field ∷ fields) =
     else meant qualifier name (suc place) fields
 
 -- none: unknown; more than one: ambiguous
-abbrev pub the_one : List Found → Outcome Found
+abbrev pub the_one : List FoundColumn → Outcome FoundColumn
 the_one [] = Err UnknownColumn
 the_one (found ∷ []) = Ok found
 the_one (found ∷ another ∷ more) = Err AmbiguousColumn
 
 -- the column that a written one means
-unfoldable pub column_named : Option (List ℕ) → List ℕ → List Field → Outcome Found
+unfoldable pub column_named : Option (List ℕ) → List ℕ → List Field → Outcome FoundColumn
 column_named qualifier name fields = the_one (meant qualifier name 0 fields)
 
-abbrev pub column_of : List Field → QualifiedName → Outcome Found
+abbrev pub column_of : List Field → QualifiedName → Outcome FoundColumn
 column_of fields written = column_named written.qualifier written.name fields

@@ -9,8 +9,8 @@ use Rattle.cql_plan.specs.declared.plan.Planned.{Planned}
 use Rattle.cql_plan.specs.Plan.{IsBlock, IsCombined}
 use Rattle.cql_plan.specs.declared.error.PlanFault.TheVariants.{UnknownColumn, AmbiguousColumn}
 use Rattle.cql_plan.specs.declared.row.Field.{Field}
-use Rattle.cql_plan.specs.declared.row.Found.{Found}
-use Rattle.cql_plan.specs.declared.source.Source.{Source}
+use Rattle.cql_plan.specs.declared.row.FoundColumn.{FoundColumn}
+use Rattle.cql_plan.specs.declared.source.BlockInput.{BlockInput}
 use Rattle.cql_plan.specs.Outcome.{Outcome, each}
 use Rattle.cql_plan.specs.Visible.{Visible}
 use Rattle.cql_plan.specs.Columns.{may_mean, column_named}
@@ -24,12 +24,12 @@ abbrev pub MayMeanAt : Option (List ℕ) → List ℕ → List Field → ℕ →
 MayMeanAt qualifier name fields place = (field : Field) × (slice_get fields place ≡ Some field) × (may_mean qualifier name field ≡ true)
 
 -- a column that the written one may mean stands at the place that was found, and holds this
-abbrev pub IsAt : Option (List ℕ) → List ℕ → List Field → Found → Type 0
+abbrev pub IsAt : Option (List ℕ) → List ℕ → List Field → FoundColumn → Type 0
 IsAt qualifier name fields found =
     (field : Field) × (slice_get fields found.place ≡ Some field) × (may_mean qualifier name field ≡ true) × (found.kind ≡ field.kind)
 
 -- Found: no other column may be meant. Unknown: none may be meant. Ambiguous: two may be meant.
-abbrev pub IsMeaning : Option (List ℕ) → List ℕ → List Field → Outcome Found → Type 0
+abbrev pub IsMeaning : Option (List ℕ) → List ℕ → List Field → Outcome FoundColumn → Type 0
 IsMeaning qualifier name fields (Ok found) =
     IsAt qualifier name fields found × ((other : ℕ) → MayMeanAt qualifier name fields other → other ≡ found.place)
 IsMeaning qualifier name fields (Err error) =
@@ -46,7 +46,7 @@ AreSchemas readable = (owner : Option (List ℕ)) (stream : List ℕ) (seen : Vi
 -- a column with an alias before the dot is never ambiguous
 abbrev pub IsQualifiedLaw : Type 0
 IsQualifiedLaw =
-    (readable : Readable) (inputs : List Input) (sources : List Source) (qualifier name : List ℕ)
+    (readable : Readable) (inputs : List Input) (sources : List BlockInput) (qualifier name : List ℕ)
     → AreSchemas readable → each (source_of readable) inputs ≡ Ok sources → are_apart sources ≡ true
     → column_named (Some qualifier) name (joined_row sources) ≢ Err AmbiguousColumn
 

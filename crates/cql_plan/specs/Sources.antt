@@ -11,7 +11,7 @@ use Rattle.cql_window.specs.declared.window.Window.{Window}
 use Rattle.cql_window.specs.declared.window.Window.TheVariants.{Range, Rows, All as all, Parts}
 use Rattle.cql_plan.specs.declared.plan.Input.{Input}
 use Rattle.cql_plan.specs.declared.row.Field.{Field}
-use Rattle.cql_plan.specs.declared.source.Source.{Source}
+use Rattle.cql_plan.specs.declared.source.BlockInput.{BlockInput}
 use Rattle.cql_plan.specs.declared.source.Joined.{Joined}
 use Rattle.cql_window.specs.Through.{wide_window}
 use Rattle.cql_plan.specs.Outcome.{Outcome, ◌>>=◌, each}
@@ -56,34 +56,34 @@ abbrev pub input_of : WrittenInput → List ℕ → Window → Input
 input_of input places window = record { owner = input.stream.qualifier; stream = input.stream.name; window = wide_window places window; places = places }
 
 -- an input of a stream of which this is seen, where it can be read
-abbrev pub source_with : WrittenInput → Option Visible → Outcome Source
+abbrev pub source_with : WrittenInput → Option Visible → Outcome BlockInput
 source_with input None = Err UnknownStream
 source_with input (Some seen) = do
   window ← window_of (fields_of (alias_of input) seen.schema) input.window
   Ok (record { input = input_of input seen.places window; alias = alias_of input; fields = fields_of (alias_of input) seen.schema })
 
 -- an input: its stream can be read, and has the columns by which it is parted
-unfoldable pub source_of : Readable → WrittenInput → Outcome Source
+unfoldable pub source_of : Readable → WrittenInput → Outcome BlockInput
 source_of readable input = source_with input (readable input.stream.qualifier input.stream.name)
 
 -- no two inputs have one alias
-unfoldable pub are_apart : List Source → Bool
+unfoldable pub are_apart : List BlockInput → Bool
 are_apart [] = true
 are_apart (source ∷ later) = not (list_any (λ other. bytes_eq source.alias other.alias) later) && are_apart later
 
 -- the columns of all inputs, in order
-unfoldable pub joined_row : List Source → List Field
+unfoldable pub joined_row : List BlockInput → List Field
 joined_row [] = []
 joined_row (source ∷ sources) = source.fields ++ joined_row sources
 
 -- the types of each input's columns
-abbrev pub ports_of : List Source → List (List ColumnType)
+abbrev pub ports_of : List BlockInput → List (List ColumnType)
 ports_of = map (λ source. kinds_of source.fields)
 
 -- what the plan keeps of each input
-abbrev pub inputs_of : List Source → List Input
+abbrev pub inputs_of : List BlockInput → List Input
 inputs_of = map (λ source. source.input)
 
 -- the inputs of a block, put together
-abbrev pub joined_of : List Source → Joined
+abbrev pub joined_of : List BlockInput → Joined
 joined_of sources = record { inputs = inputs_of sources; ports = ports_of sources; row = joined_row sources }

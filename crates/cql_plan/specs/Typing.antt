@@ -49,8 +49,8 @@ use Rattle.cql_plan.specs.declared.plan.OutputKind.TheVariants.{Istream, Dstream
 use Rattle.cql_plan.specs.declared.plan.Input.{Input}
 use Rattle.cql_plan.specs.declared.plan.Planned.{Planned}
 use Rattle.cql_plan.specs.declared.row.Field.{Field}
-use Rattle.cql_plan.specs.declared.row.Found.{Found}
-use Rattle.cql_plan.specs.declared.source.Source.{Source}
+use Rattle.cql_plan.specs.declared.row.FoundColumn.{FoundColumn}
+use Rattle.cql_plan.specs.declared.source.BlockInput.{BlockInput}
 use Rattle.cql_plan.specs.declared.typed.TypedExpr.{TypedExpr}
 use Rattle.cql_plan.specs.declared.typed.TypedOperand.{TypedOperand}
 use Rattle.cql_plan.specs.declared.item.TypedItem.{TypedItem}
@@ -160,7 +160,7 @@ abbrev pub is_grouped_by : List ℕ → Expression → Expr → Bool
 is_grouped_by groups written x = is_column written && is_among groups x
 
 -- SUM takes a number, MIN and MAX take either type
-abbrev pub function_of : Function → Found → Outcome TypedItem
+abbrev pub function_of : Function → FoundColumn → Outcome TypedItem
 function_of Sum found = unless (same_kind found.kind Number) TypeMismatch >> Ok (record { item = i.Sum found.place; kind = Number })
 function_of Min found = Ok (record { item = i.Min found.place; kind = found.kind })
 function_of Max found = Ok (record { item = i.Max found.place; kind = found.kind })
@@ -218,7 +218,7 @@ abbrev pub selected_of : List TypedItem → Selected
 selected_of items = record { items = shown_in items; kinds = kinds_in items }
 
 -- the join of the inputs
-abbrev pub join_of : List Source → Condition → Node
+abbrev pub join_of : List BlockInput → Condition → Node
 join_of sources condition = node.Join (record { ports = ports_of sources; condition = condition })
 
 -- the items over the joined row
@@ -234,7 +234,7 @@ checked_of distinct inputs join row groups items = record {
 }
 
 -- WHERE, then GROUP BY, then the items, each from the left, over the columns of the inputs
-unfoldable pub body_of : List Source → SelectBlock → Outcome Checked
+unfoldable pub body_of : List BlockInput → SelectBlock → Outcome Checked
 body_of sources block = do
   condition ← where_of (joined_row sources) block.condition
   groups ← each (group_of (joined_row sources)) block.groups

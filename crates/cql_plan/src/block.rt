@@ -10,7 +10,7 @@ use crate::lookup::Lookup;
 use crate::node::{Item, Join, Node, Shape};
 use crate::plan::{Branch, Input};
 use crate::row::{Field, kinds_of};
-use crate::source::{Source, are_apart, joined_of, sources};
+use crate::source::{BlockInput, are_apart, joined_of, sources};
 use crate::typed::where_of;
 use cql_syntax::syntax::SelectBlock;
 use cql_value::{ColumnType, Items};
@@ -91,7 +91,11 @@ fn checked_of(
 
 // WHERE, then GROUP BY, then the items, each from the left, over the columns of the inputs.
 #[tactic(auto, unfolding(crate::specs::Typing::body_of))]
-fn body_of(alloc: Global, sources: Vec<Source>, block: &SelectBlock) -> Result<Checked, PlanError>
+fn body_of(
+    alloc: Global,
+    sources: Vec<BlockInput>,
+    block: &SelectBlock,
+) -> Result<Checked, PlanError>
     ensures { Answers (spec.body_of sources.items block.now) result }
 {
     let (inputs, ports, row) = joined_of(alloc, sources)?.into_parts();

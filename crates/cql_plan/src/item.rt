@@ -7,7 +7,7 @@ ghost use Rattle.cql_plan.specs.Typing as spec;
 use crate::error::{PlanError, PlanFault};
 use crate::expr::Expr;
 use crate::node::Item;
-use crate::row::{Field, Found, column_of};
+use crate::row::{Field, FoundColumn, column_of};
 use crate::typed::{expression_of, same_kind};
 use cql_syntax::syntax::{
     self, Aggregate, Expression, Function, QualifiedName, SelectBlock, Selection, Shown,
@@ -81,7 +81,7 @@ fn is_grouped_by(groups: &[usize], written: &Expression, expr: &Expr) -> bool
 }
 
 // SUM takes a number, MIN and MAX take either type.
-fn function_of(function: Function, found: Found) -> Result<TypedItem, PlanFault>
+fn function_of(function: Function, found: FoundColumn) -> Result<TypedItem, PlanFault>
     ensures { result ≡ spec.function_of function found }
 {
     match function {

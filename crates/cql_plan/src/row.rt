@@ -17,7 +17,7 @@ pub(crate) struct Field {
 
 /// A column that was found: its place in the joined row, counted from 0, and what it holds.
 #[derive(Clone, Copy)]
-pub(crate) struct Found {
+pub(crate) struct FoundColumn {
     pub(crate) place: usize,
     pub(crate) kind: ColumnType,
 }
@@ -46,7 +46,7 @@ pub(crate) fn column_named(
     fields: &[Field],
     qualifier: &Option<Name>,
     name: &Name,
-) -> Result<Found, PlanFault>
+) -> Result<FoundColumn, PlanFault>
     ensures { result ≡ spec.column_named qualifier.now name.now fields.now }
 {
     let mut found = None;
@@ -55,7 +55,7 @@ pub(crate) fn column_named(
             if found.is_some() {
                 return Err(PlanFault::AmbiguousColumn);
             }
-            found = Some(Found {
+            found = Some(FoundColumn {
                 place,
                 kind: field.kind,
             });
@@ -68,7 +68,7 @@ pub(crate) fn column_named(
 }
 
 /// The column that a written one means. Takes no memory.
-pub(crate) fn column_of(fields: &[Field], written: &QualifiedName) -> Result<Found, PlanFault>
+pub(crate) fn column_of(fields: &[Field], written: &QualifiedName) -> Result<FoundColumn, PlanFault>
     ensures { result ≡ spec.column_of fields.now written.now }
 {
     column_named(fields, &written.qualifier, &written.name)

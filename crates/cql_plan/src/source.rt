@@ -17,15 +17,15 @@ use cql_window::{Count, Length, Window, wide_window};
 use std::alloc::{AllocError, Global};
 
 /// An input of a block: what the plan keeps of it, its alias and its columns.
-pub(crate) struct Source {
+pub(crate) struct BlockInput {
     pub(crate) input: Input,
     pub(crate) alias: Name,
     pub(crate) fields: Items<Field>,
 }
 
-impl Drop for Source {
+impl Drop for BlockInput {
     fn drop(self) {
-        let Source {
+        let BlockInput {
             input: _,
             alias: _,
             fields: _,
@@ -33,13 +33,13 @@ impl Drop for Source {
     }
 }
 
-impl Source {
+impl BlockInput {
     // What the plan keeps of it, and its columns.
     fn into_parts(self) -> (Input, Items<Field>)
         ensures input { result.0 ≡ self.input }
         ensures fields { result.1 ≡ self.fields }
     {
-        let Source {
+        let BlockInput {
             input,
             alias: _,
             fields,
@@ -82,7 +82,7 @@ impl Joined {
     }
 
     // With one input more.
-    fn push(&mut self, alloc: Global, source: Source) -> Result<(), AllocError>
+    fn push(&mut self, alloc: Global, source: BlockInput) -> Result<(), AllocError>
         ensures inputs { OnOk result (self.new.inputs ≡ self.old.inputs ++ source.input ∷ []) }
         ensures ports { OnOk result (self.new.ports ≡ self.old.ports ++ kinds_of source.fields ∷ []) }
         ensures row { OnOk result (self.new.row ≡ self.old.row ++ source.fields) }
@@ -216,7 +216,7 @@ fn source_with(
     alloc: Global,
     input: &syntax::Input,
     readable: Readable<'_>,
-) -> Result<Source, PlanError>
+) -> Result<BlockInput, PlanError>
     requires { spec.HasBounds input.now.window }
     ensures { Answers (spec.source_with input.now (Some (visible_of readable.entry))) result }
 {
@@ -225,7 +225,7 @@ fn source_with(
     let window = window_of(alloc, fields.as_slice(), &input.window)?;
     let window = wide_window(alloc, readable.places, window)?;
     let input = input_of(alloc, input, readable.places, window)?;
-    Ok(Source {
+    Ok(BlockInput {
         input,
         alias,
         fields,
@@ -248,7 +248,7 @@ fn source_of<L: Lookup>(
     alloc: Global,
     lookup: &L,
     input: &syntax::Input,
-) -> Result<Source, PlanError>
+) -> Result<BlockInput, PlanError>
     requires { spec.HasBounds input.now.window }
     ensures { Answers (spec.source_of (L.readable lookup.now) input.now) result }
 {
@@ -264,7 +264,7 @@ pub(crate) fn sources<L: Lookup>(
     alloc: Global,
     lookup: &L,
     inputs: &[syntax::Input],
-) -> Result<Vec<Source>, PlanError>
+) -> Result<Vec<BlockInput>, PlanError>
     requires { spec.AreBounded inputs.now }
     ensures { AnswersList (each (spec.source_of (L.readable lookup.now)) inputs.now) result }
 {
@@ -276,7 +276,7 @@ pub(crate) fn sources<L: Lookup>(
 }
 
 // Whether an input has the alias.
-fn has_alias(sources: &[Source], alias: &Name) -> bool
+fn has_alias(sources: &[BlockInput], alias: &Name) -> bool
     ensures { result ≡ list_any (λ other. bytes_eq alias.now other.alias) sources.now }
 {
     sources.iter().any(|source| *alias == source.alias)
@@ -284,7 +284,7 @@ fn has_alias(sources: &[Source], alias: &Name) -> bool
 
 /// Whether no two inputs have one alias.
 #[tactic(auto, unfolding(crate::specs::Sources::are_apart))]
-pub(crate) fn are_apart(sources: &[Source]) -> bool
+pub(crate) fn are_apart(sources: &[BlockInput]) -> bool
     ensures { result ≡ spec.are_apart sources.now }
 {
     let mut rest = sources;
@@ -298,7 +298,7 @@ pub(crate) fn are_apart(sources: &[Source]) -> bool
 }
 
 /// The inputs of a block, put together.
-pub(crate) fn joined_of(alloc: Global, sources: Vec<Source>) -> Result<Joined, AllocError>
+pub(crate) fn joined_of(alloc: Global, sources: Vec<BlockInput>) -> Result<Joined, AllocError>
     ensures { IfOk result (λ joined. joined ≡ spec.joined_of sources.items) }
 {
     let mut joined = Joined::new(alloc);

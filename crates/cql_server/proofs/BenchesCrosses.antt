@@ -13,7 +13,7 @@ use Rattle.cql_ops.proofs.cancellation.Cancellation.TheSendSync as cancellation
 use Rattle.cql_ops.specs.contracts.bench.BenchOf as bench_type
 use Rattle.cql_ops.specs.declared.operator.Operator.{Ghosts as OperatorGhosts}
 use Rattle.cql_eval.proofs.shown.LastTold.TheSendSync as last_told
-use Rattle.cql_eval.specs.contracts.warm.Kept as kept
+use Rattle.cql_eval.specs.contracts.warm.LastAnswer as kept
 use Rattle.cql_eval.specs.contracts.warm.Warm as warm
 use Rattle.cql_eval.specs.contracts.pool.Pool as pool
 use Rattle.cql_eval.specs.contracts.pool.Pooled as pooled

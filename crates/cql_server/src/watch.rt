@@ -67,9 +67,9 @@ impl<'a, R> Drop for Watch<'a, R> {
 
 // The name of a tenant, in quotes, or null.
 #[derive(Drop)]
-struct Named<'a>(Option<&'a str>);
+struct QuotedName<'a>(Option<&'a str>);
 
-impl fmt::Display for Named<'_> {
+impl fmt::Display for QuotedName<'_> {
     fn fmt<W: fmt::Write>(&self, f: &mut fmt::Formatter<W>) -> Result<(), fmt::Error> {
         match self.0 {
             Some(name) => write!(f, "\"{name}\""),
@@ -140,9 +140,9 @@ impl<'a, R: Clock + Eprint> Watch<'a, R> {
         })
     }
 
-    fn named(&self, tenant: Option<TenantId>) -> Named<'_> {
+    fn named(&self, tenant: Option<TenantId>) -> QuotedName<'_> {
         let tenant = tenant.and_then(|id| self.table.tenants().get(id.place()));
-        Named(tenant.map(|tenant| tenant.name.as_str()))
+        QuotedName(tenant.map(|tenant| tenant.name.as_str()))
     }
 
     // The nanoseconds since it was made; 0 where the clock can't be read.

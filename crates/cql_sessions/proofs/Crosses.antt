@@ -11,7 +11,7 @@ use Rattle.cql_hall.proofs.Crosses.{receipt_row_send}
 use Rattle.cql_sessions.specs.contracts.caller.Caller as caller
 use Rattle.cql_sessions.specs.contracts.ending.Ending as ending
 use Rattle.cql_sessions.specs.contracts.guest.Guest as guest
-use Rattle.cql_sessions.specs.contracts.link.Link as link
+use Rattle.cql_sessions.specs.contracts.link.Connection as link
 use Rattle.cql_sessions.specs.contracts.visit.Visit as visit
 
 pub ending_send : IsSend (ending.the_field).row

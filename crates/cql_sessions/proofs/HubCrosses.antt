@@ -12,7 +12,7 @@ use Rattle.cql_sessions.specs.contracts.floor.Place as place
 use Rattle.cql_sessions.specs.contracts.floor.Turn as turn
 use Rattle.cql_sessions.specs.contracts.house.House as house
 use Rattle.cql_sessions.specs.contracts.lookout.Lookout as lookout
-use Rattle.cql_sessions.specs.contracts.turns.Queues as queues
+use Rattle.cql_sessions.specs.contracts.turns.OwnerQueues as queues
 use Rattle.cql_sessions.specs.contracts.turns.Turns as turns
 
 module _ (T : RattleType) where

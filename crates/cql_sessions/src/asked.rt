@@ -29,7 +29,7 @@ fn command_of(alloc: Global, line: Line<'_>, scratch: &mut Scratch) -> Result<Co
 
 /// What a line asks, prepared for a call.
 #[derive(Drop)]
-pub(crate) struct Asked {
+pub(crate) struct Request {
     pub prepared: Arc<Prepared>,
     pub kind: Kind,
 }
@@ -39,12 +39,12 @@ pub(crate) fn prepared_of(
     alloc: Global,
     line: Line<'_>,
     scratch: &mut Scratch,
-) -> Result<Asked, LineFault>
+) -> Result<Request, LineFault>
     ensures ok { IfOk result (λ asked. asked_of (text_of line.entry) ≡ Ok (arc_value asked.prepared)) }
     ensures err { IfErr result (λ fault. Means (asked_of (text_of line.entry)) (Err fault)) }
 {
     let command = command_of(alloc, line, scratch)?;
     let kind = Kind::of(&command);
     let prepared = prepare(alloc, command)?;
-    Ok(Asked { prepared, kind })
+    Ok(Request { prepared, kind })
 }

@@ -2,7 +2,7 @@
 ghost use Rattle.std.specs.Prelude.{◌≡◌, ◌≢◌, [], true, Some, Ok, IfOk};
 ghost use Rattle.cql_sessions.specs.Tallies.{Tallies};
 
-use crate::asked::{Asked, prepared_of};
+use crate::asked::{Request, prepared_of};
 use crate::sessions::SessionEnd;
 use cql_core::{Evaluator, Reply, TenantId, TenantTable};
 use cql_hall::{Gate, Hall, Journal, Kind, Point, Receipt, Seat};
@@ -23,7 +23,7 @@ pub struct Service<'a, H, J: Journal, G> {
 
 /// What was done with a line.
 #[derive(Clone, Copy, PartialEq, Eq, Drop)]
-pub(crate) enum Outcome {
+pub(crate) enum LineOutcome {
     /// It was answered, or it was blank.
     Short,
     /// It was a fetch and was answered, which may have taken long.
@@ -105,7 +105,7 @@ impl Caller {
         &mut self,
         service: &Service<'_, H, J, G>,
         bench: &mut E,
-        asked: Asked,
+        asked: Request,
         gathered: &mut Gathered,
         writer: &mut Watched<W>,
     ) -> Result<(), WriteFault>
@@ -120,7 +120,7 @@ impl Caller {
                 .at(Point::Refused(LineFault::NoMemory.number()));
             return gathered.put_fault(writer, &LineFault::NoMemory);
         }
-        let Asked { prepared, kind } = asked;
+        let Request { prepared, kind } = asked;
         let gate = service.gate;
         let begun = begin(gate, kind);
         let pending = service
@@ -147,32 +147,32 @@ impl Caller {
         gathered: &mut Gathered,
         scratch: &mut Scratch,
         writer: &mut Watched<W>,
-    ) -> Result<Outcome, WriteFault>
+    ) -> Result<LineOutcome, WriteFault>
         requires bench { E.is_ready bench.old }
         ensures bench { E.is_ready bench.new }
         ensures kept { self.new.is_kept ≡ self.old.is_kept }
         ensures calls { Calls (asked_of (text_of line.entry)) (of_caller self.old) (of_caller self.new) }
-        ensures waits { IfOk result (λ outcome. outcome ≡ Outcome.Held → of_caller self.new ≡ of_caller self.old) }
-        ensures held { may_fetch ≡ true → IfOk result (λ outcome. outcome ≢ Outcome.Held) }
+        ensures waits { IfOk result (λ outcome. outcome ≡ LineOutcome.Held → of_caller self.new ≡ of_caller self.old) }
+        ensures held { may_fetch ≡ true → IfOk result (λ outcome. outcome ≢ LineOutcome.Held) }
     {
         let asked = match prepared_of(service.alloc, line, scratch) {
             Ok(asked) => asked,
             Err(fault) => {
                 service.gate.at(Point::Refused(fault.number()));
                 gathered.put_fault(writer, &fault)?;
-                return Ok(Outcome::Short);
+                return Ok(LineOutcome::Short);
             }
         };
         if asked.kind != Kind::Fetch {
             self.call(service, bench, asked, gathered, writer)?;
-            return Ok(Outcome::Short);
+            return Ok(LineOutcome::Short);
         }
         if !may_fetch {
-            return Ok(Outcome::Held);
+            return Ok(LineOutcome::Held);
         }
         gathered.flush(writer)?;
         self.call(service, bench, asked, gathered, writer)?;
-        Ok(Outcome::Fetch)
+        Ok(LineOutcome::Fetch)
     }
 }
 

@@ -1,7 +1,7 @@
 // The callers who are connected: who waits, whose turn it is, and whose time has passed.
 
 use crate::connection::Limits;
-use crate::guest::{Connected, Needs};
+use crate::guest::{Connected, WaitsFor};
 use crate::turns::{Task, Turns};
 use cql_hall::EndReason;
 use cql_wire::ScriptError;
@@ -302,7 +302,7 @@ impl<T: Connected<End = D>, D: Drop> Floor<T, D> {
     pub(crate) fn keep(
         &mut self,
         turn: Turn<T>,
-        needs: Needs,
+        needs: WaitsFor,
         now: Option<Instant>,
     ) -> Result<(), Turn<T>> {
         let Some(place) = self.places.get_mut(turn.key) else {
@@ -314,7 +314,7 @@ impl<T: Connected<End = D>, D: Drop> Floor<T, D> {
         }
         if let Some(all) = self.held.get_mut(turn.owner()) {
             let held = turn.guest.held();
-            if needs == Needs::Room && *all > MOST_HELD {
+            if needs == WaitsFor::Room && *all > MOST_HELD {
                 return Err(turn);
             }
             *all = all.saturating_add(held);

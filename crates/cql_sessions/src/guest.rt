@@ -1,10 +1,10 @@
 // A caller's connection that never waits for long, and its session.
 ghost use Rattle.std.specs.Prelude.{◌≡◌, ◌≤◌, [], length, IfOk};
 
-use crate::caller::{Outcome, Service};
+use crate::caller::{LineOutcome, Service};
 use crate::desk::Desk;
 use crate::ending::Ending;
-use crate::link::{Link, Outbox, read_once};
+use crate::link::{Connection, Outbox, read_once};
 use crate::visit::Visit;
 use cql_core::{Evaluator, TenantId};
 use cql_hall::{Gate, Journal};
@@ -20,7 +20,7 @@ const LINES: u32 = 256;
 
 /// A caller's connection that never waits for long, and its session.
 pub struct Guest {
-    link: Link,
+    link: Connection,
     visit: Visit,
 }
 
@@ -32,7 +32,7 @@ impl Drop for Guest {
 
 /// What a session needs for its next turn.
 #[derive(Clone, Copy, PartialEq, Eq, Drop)]
-pub enum Needs {
+pub enum WaitsFor {
     /// Bytes from its caller, of whom nothing more has come.
     Bytes,
     /// That its caller takes what was written.
@@ -91,7 +91,7 @@ impl Connected for Guest {
 
     fn new(alloc: Global, stream: TcpStream, is_kept: bool) -> io::Result<Guest> {
         Ok(Guest {
-            link: Link::new(alloc, stream)?,
+            link: Connection::new(alloc, stream)?,
             visit: Visit::new(alloc, is_kept),
         })
     }
@@ -138,7 +138,7 @@ impl Guest {
         bench: &mut E,
         desk: &mut Desk,
         may: May,
-    ) -> Needs
+    ) -> WaitsFor
         requires bench { E.is_ready bench.old }
         requires nothing { desk.old.gathered ≡ [] }
         ensures bench { E.is_ready bench.new }
@@ -148,7 +148,7 @@ impl Guest {
             Ok(needs) => needs,
             Err(fault) => {
                 self.tell_no_memory(fault);
-                Needs::End(Some(fault))
+                WaitsFor::End(Some(fault))
             }
         };
         desk.gathered.clear();
@@ -163,15 +163,15 @@ impl Guest {
     }
 
     // What it needs first, where it can't go on at once. A read that comes next waits where it may.
-    fn needs_first(&mut self, alloc: Global, may: May) -> Result<Option<Needs>, ScriptError> {
+    fn needs_first(&mut self, alloc: Global, may: May) -> Result<Option<WaitsFor>, ScriptError> {
         if !self.link.send(alloc)? {
-            return Ok(Some(Needs::Room));
+            return Ok(Some(WaitsFor::Room));
         }
         if self.visit.is_over() {
-            return Ok(Some(Needs::End(None)));
+            return Ok(Some(WaitsFor::End(None)));
         }
         if self.visit.is_held() && !may.fetch {
-            return Ok(Some(Needs::Answer));
+            return Ok(Some(WaitsFor::Answer));
         }
         if self.link.unread.is_empty() && !self.visit.is_held() {
             self.link.wait(may.wait)?;
@@ -185,7 +185,7 @@ impl Guest {
         bench: &mut E,
         desk: &mut Desk,
         may: May,
-    ) -> Result<Needs, ScriptError>
+    ) -> Result<WaitsFor, ScriptError>
         requires bench { E.is_ready bench.old }
         ensures bench { E.is_ready bench.new }
     {
@@ -209,17 +209,17 @@ impl Guest {
     }
 
     // What it needs once it has had its turn, in which nothing had come or something had.
-    fn needs(&self, is_spent: bool) -> Needs {
+    fn needs(&self, is_spent: bool) -> WaitsFor {
         if !self.link.unsent.is_empty() {
-            Needs::Room
+            WaitsFor::Room
         } else if self.visit.is_over() {
-            Needs::End(None)
+            WaitsFor::End(None)
         } else if self.visit.is_held() {
-            Needs::Answer
+            WaitsFor::Answer
         } else if is_spent {
-            Needs::Bytes
+            WaitsFor::Bytes
         } else {
-            Needs::Worker
+            WaitsFor::Worker
         }
     }
 }
@@ -321,7 +321,7 @@ fn answer_some<H: Wait, J: Journal, E: Evaluator, G: Gate>(
         }
         let step = visit.take_line(service, bench, rest, may_fetch, gathered, scratch, outbox)?;
         used += step.count;
-        if step.outcome != Outcome::Short {
+        if step.outcome != LineOutcome::Short {
             break;
         }
     }

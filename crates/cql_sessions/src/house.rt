@@ -1,7 +1,7 @@
 // What the accepting thread and the workers share.
 
 use crate::floor::{Floor, LATE, Next, Turn};
-use crate::guest::{Connected, Needs};
+use crate::guest::{Connected, WaitsFor};
 use crate::hub::Wires;
 use crate::lookout::Lookout;
 use crate::turns::Task;
@@ -219,8 +219,8 @@ impl<T: Connected<End = D>, D: Drop> House<T, D> {
 
     // From now on it is told that there is what the guest needs, now or later: of room once, of bytes
     // each time that they come behind a read that found none.
-    fn list(&self, turn: &mut Turn<T>, needs: Needs) -> io::Result<()> {
-        let wants_room = needs == Needs::Room;
+    fn list(&self, turn: &mut Turn<T>, needs: WaitsFor) -> io::Result<()> {
+        let wants_room = needs == WaitsFor::Room;
         if turn.is_listed && !wants_room {
             return Ok(());
         }
@@ -246,16 +246,16 @@ impl<T: Connected<End = D>, D: Drop> House<T, D> {
         rt: &R,
         gate: &G,
         turn: Turn<T>,
-        needs: Needs,
+        needs: WaitsFor,
     ) {
         let refused = match needs {
-            Needs::End(fault) => {
+            WaitsFor::End(fault) => {
                 let reason = turn.reason(fault);
                 return self.end(rt, gate, turn, fault, reason);
             }
-            Needs::Worker => self.floor.lock(rt).push(turn),
-            Needs::Answer => self.push_answer(rt, turn),
-            Needs::Bytes | Needs::Room => self.keep(rt, turn, needs),
+            WaitsFor::Worker => self.floor.lock(rt).push(turn),
+            WaitsFor::Answer => self.push_answer(rt, turn),
+            WaitsFor::Bytes | WaitsFor::Room => self.keep(rt, turn, needs),
         };
         if let Err(turn) = refused {
             self.end(rt, gate, turn, Some(ScriptError::Write), EndReason::Fault);
@@ -277,7 +277,7 @@ impl<T: Connected<End = D>, D: Drop> House<T, D> {
     }
 
     // Keeps a guest until what it needs has come.
-    fn keep<R: Wait + Clock>(&self, rt: &R, turn: Turn<T>, needs: Needs) -> Result<(), Turn<T>> {
+    fn keep<R: Wait + Clock>(&self, rt: &R, turn: Turn<T>, needs: WaitsFor) -> Result<(), Turn<T>> {
         let mut turn = turn;
         turn.guest.rest();
         if self.list(&mut turn, needs).is_err() {

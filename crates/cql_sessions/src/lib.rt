@@ -26,7 +26,7 @@ pub use connection::Limits;
 pub use desk::Desk;
 pub use ending::Ending;
 pub use floor::{Floor, Turn};
-pub use guest::{Connected, Guest, May, Needs};
+pub use guest::{Connected, Guest, May, WaitsFor};
 pub use house::House;
 pub use hub::{Door, Hub, Wires};
 pub use sessions::{SessionEnd, session};

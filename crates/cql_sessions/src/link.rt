@@ -24,7 +24,7 @@ fn is_later(error: &io::Error) -> bool {
 }
 
 /// A connection that never waits for long, and what has gone through it.
-pub(crate) struct Link {
+pub(crate) struct Connection {
     pub stream: TcpStream,
     // what was read and isn't used yet
     pub unread: Vec<u8>,
@@ -37,9 +37,9 @@ pub(crate) struct Link {
     patience: u8,
 }
 
-impl Drop for Link {
+impl Drop for Connection {
     fn drop(self) {
-        let Link {
+        let Connection {
             stream: _,
             unread: _,
             unsent: _,
@@ -50,16 +50,16 @@ impl Drop for Link {
     }
 }
 
-impl Link {
+impl Connection {
     /// One of which nothing has come. An error where the system can't hold it to the time of a
     /// moment.
-    pub(crate) fn new(alloc: Global, stream: TcpStream) -> io::Result<Link> {
+    pub(crate) fn new(alloc: Global, stream: TcpStream) -> io::Result<Connection> {
         stream.set_nonblocking(true)?;
         let linger = Some(Duration::from_micros(LINGER));
         stream.set_read_timeout(linger)?;
         stream.set_write_timeout(linger)?;
         let _ = stream.set_nodelay(true);
-        Ok(Link {
+        Ok(Connection {
             stream,
             unread: Vec::new(alloc),
             unsent: Vec::new(alloc),

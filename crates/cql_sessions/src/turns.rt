@@ -8,21 +8,21 @@ const IN_A_ROW: u32 = 16;
 
 // What waits, in a queue for each owner. Owners take turns.
 #[derive(Drop)]
-struct Queues<T> {
+struct OwnerQueues<T> {
     lines: Vec<VecDeque<T>>,
     // the owners of whom something waits, the next one first
     order: VecDeque<usize>,
     count: usize,
 }
 
-impl<T: Drop> Queues<T> {
-    fn new(alloc: Global, owners: usize) -> Result<Queues<T>, AllocError> {
+impl<T: Drop> OwnerQueues<T> {
+    fn new(alloc: Global, owners: usize) -> Result<OwnerQueues<T>, AllocError> {
         let order = VecDeque::with_capacity(alloc, owners)?;
         let mut lines = Vec::with_capacity(alloc, owners)?;
         for _ in 0..owners {
             lines.push(VecDeque::new(alloc))?;
         }
-        Ok(Queues {
+        Ok(OwnerQueues {
             lines,
             order,
             count: 0,
@@ -84,8 +84,8 @@ pub struct Task<T> {
 /// for one owner half of them, rounded up, while an answer of another one waits.
 #[derive(Drop)]
 pub struct Turns<T> {
-    short: Queues<T>,
-    answers: Queues<T>,
+    short: OwnerQueues<T>,
+    answers: OwnerQueues<T>,
     // how many answers may be computed at once, and how many are, in all and for each owner
     most: usize,
     busy: usize,
@@ -97,8 +97,8 @@ pub struct Turns<T> {
 impl<T: Drop> Turns<T> {
     /// Nothing waits. Owners are numbers below the given one.
     pub fn new(alloc: Global, owners: usize, workers: usize) -> Result<Turns<T>, AllocError> {
-        let short = Queues::new(alloc, owners)?;
-        let answers = Queues::new(alloc, owners)?;
+        let short = OwnerQueues::new(alloc, owners)?;
+        let answers = OwnerQueues::new(alloc, owners)?;
         let busy_of = vec![in alloc; 0; owners]?;
         Ok(Turns {
             short,

@@ -3,7 +3,7 @@ ghost use Rattle.std.specs.Prelude.{◌≡◌, ◌≢◌, ◌≤◌, ◌++◌, �
 ghost use Rattle.std.specs.Option.{ForSome};
 ghost use Rattle.cql_sessions.specs.Tallies.{Tallies};
 
-use crate::caller::{Caller, Outcome, Service};
+use crate::caller::{Caller, LineOutcome, Service};
 use crate::login::{answer_login, named_in};
 use crate::sessions::SessionEnd;
 use cql_core::{Evaluator, TenantId};
@@ -44,10 +44,10 @@ impl Drop for Visit {
 
 /// What was done with some bytes.
 #[derive(Clone, Copy)]
-pub(crate) struct Step {
+pub(crate) struct Progress {
     /// How many of them were taken.
     pub count: usize,
-    pub outcome: Outcome,
+    pub outcome: LineOutcome,
 }
 
 impl Visit {
@@ -135,7 +135,7 @@ impl Visit {
         gathered: &mut Gathered,
         scratch: &mut Scratch,
         writer: &mut Watched<W>,
-    ) -> Result<Step, ScriptError>
+    ) -> Result<Progress, ScriptError>
         requires bench { E.is_ready bench.old }
         requires going { self.old.is_held ≡ false }
         ensures bench { E.is_ready bench.new }
@@ -151,13 +151,13 @@ impl Visit {
     {
         let taken = self.intake.take(bytes)?;
         if !taken.is_whole {
-            return Ok(Step {
+            return Ok(Progress {
                 count: taken.count,
-                outcome: Outcome::Short,
+                outcome: LineOutcome::Short,
             });
         }
         let outcome = self.answer_whole(service, bench, may_fetch, gathered, scratch, writer)?;
-        Ok(Step {
+        Ok(Progress {
             count: taken.count,
             outcome,
         })
@@ -173,7 +173,7 @@ impl Visit {
         gathered: &mut Gathered,
         scratch: &mut Scratch,
         writer: &mut Watched<W>,
-    ) -> Result<Outcome, ScriptError>
+    ) -> Result<LineOutcome, ScriptError>
         requires bench { E.is_ready bench.old }
         ensures bench { E.is_ready bench.new }
         ensures kept { self.new.is_kept ≡ self.old.is_kept }
@@ -198,7 +198,7 @@ impl Visit {
         gathered: &mut Gathered,
         scratch: &mut Scratch,
         writer: &mut Watched<W>,
-    ) -> Result<Outcome, ScriptError>
+    ) -> Result<LineOutcome, ScriptError>
         requires bench { E.is_ready bench.old }
         ensures bench { E.is_ready bench.new }
         ensures kept { self.new.is_kept ≡ self.old.is_kept }
@@ -211,10 +211,10 @@ impl Visit {
     {
         if !self.intake.counts() {
             self.go_on();
-            return Ok(Outcome::Short);
+            return Ok(LineOutcome::Short);
         }
         let outcome = self.answer(service, bench, may_fetch, gathered, scratch, writer)?;
-        if outcome == Outcome::Held {
+        if outcome == LineOutcome::Held {
             self.is_held = true;
         } else {
             self.go_on();
@@ -244,15 +244,15 @@ impl Visit {
         gathered: &mut Gathered,
         scratch: &mut Scratch,
         writer: &mut Watched<W>,
-    ) -> Result<Outcome, ScriptError>
+    ) -> Result<LineOutcome, ScriptError>
         requires bench { E.is_ready bench.old }
         ensures bench { E.is_ready bench.new }
         ensures kept { self.new.is_kept ≡ self.old.is_kept }
-        ensures held { IfOk result (λ outcome. may_fetch ≡ true → outcome ≢ Outcome.Held) }
+        ensures held { IfOk result (λ outcome. may_fetch ≡ true → outcome ≢ LineOutcome.Held) }
         ensures line { (self.new.intake ≡ self.old.intake) × (self.new.is_held ≡ self.old.is_held) × (self.new.is_ended ≡ self.old.is_ended) }
-        ensures answers { IfOk result (λ outcome. outcome ≢ Outcome.Held
+        ensures answers { IfOk result (λ outcome. outcome ≢ LineOutcome.Held
             → Answers service.now.table.now (shown_line self.old.intake) (account_of self.old.caller) (account_of self.new.caller)) }
-        ensures waits { IfOk result (λ outcome. outcome ≡ Outcome.Held → account_of self.new.caller ≡ account_of self.old.caller) }
+        ensures waits { IfOk result (λ outcome. outcome ≡ LineOutcome.Held → account_of self.new.caller ≡ account_of self.old.caller) }
         ensures over { OnOk result (self.new.is_over ≡ (is_none self.new.caller || self.old.is_over)) }
         ensures stops { OnErr result ((account_of self.new.caller ≡ account_of self.old.caller)
             ⊎ Answers service.now.table.now (shown_line self.old.intake) (account_of self.old.caller) (account_of self.new.caller)) }
@@ -276,7 +276,7 @@ impl Visit {
                 self.is_over = true;
             }
         }
-        Ok(Outcome::Short)
+        Ok(LineOutcome::Short)
     }
 
     /// How it ends.

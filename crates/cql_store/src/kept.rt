@@ -16,7 +16,7 @@ use std::sync::Arc;
 
 /// Rows in order of acceptance, found by their part too. Those after one more row are made beside
 /// them, and share all but some that are as many as the logarithm of the rows.
-pub struct Kept {
+pub struct KeptParts {
     columns: Arc<Vec<usize>>,
     // By number, and by part and number.
     rows: Arc<Seq>,
@@ -26,9 +26,9 @@ pub struct Kept {
     next: u64,
 }
 
-impl Drop for Kept {
+impl Drop for KeptParts {
     fn drop(self) {
-        let Kept {
+        let KeptParts {
             columns: _,
             rows: _,
             parts: _,
@@ -38,7 +38,7 @@ impl Drop for Kept {
     }
 }
 
-impl Model for Kept {
+impl Model for KeptParts {
     ghost use Rattle.std.specs.Prelude.{List, map, ◌≡◌, []};
     ghost use Rattle.std.specs.Arc.{arc_value};
     ghost use Rattle.cql_value.specs.Element.{Element};
@@ -52,16 +52,16 @@ impl Model for Kept {
     ghost invariant = { λ k. AreNumbered k.next (arc_value k.rows) × AreParted (arc_value k.columns).items (arc_value k.rows) (arc_value k.parts) × (arc_value k.leaf ≡ []) };
 }
 
-impl Kept {
+impl KeptParts {
     /// No rows.
-    pub fn new(alloc: Global, columns: &[usize]) -> Result<Kept, AllocError>
+    pub fn new(alloc: Global, columns: &[usize]) -> Result<KeptParts, AllocError>
         ensures { IfOk result (λ k. k ≡ []) }
     {
         let columns = Arc::new(alloc, Vec::from_slice(alloc, columns)?)?;
         let leaf = Seq::new(alloc)?;
         let rows = Arc::try_clone(&leaf)?;
         let parts = Arc::try_clone(&leaf)?;
-        Ok(Kept {
+        Ok(KeptParts {
             columns,
             rows,
             parts,
@@ -72,7 +72,7 @@ impl Kept {
 
     /// These rows: all of them are looked at and put in order by their parts. It costs less than
     /// that each of them comes.
-    pub fn of(alloc: Global, columns: &[usize], rows: Vec<Timed>) -> Result<Kept, AllocError>
+    pub fn of(alloc: Global, columns: &[usize], rows: Vec<Timed>) -> Result<KeptParts, AllocError>
         ensures { IfOk result (λ k. k ≡ rows.items) }
     {
         let own = Arc::new(alloc, Vec::from_slice(alloc, columns)?)?;
@@ -82,7 +82,7 @@ impl Kept {
         let rows = Seq::of(alloc, &leaf, entries.as_slice())?;
         sort_by_part(columns, &mut entries)?;
         let parts = Seq::of(alloc, &leaf, entries.as_slice())?;
-        Ok(Kept {
+        Ok(KeptParts {
             columns: own,
             rows,
             parts,
@@ -93,14 +93,14 @@ impl Kept {
 
     /// The same rows: none is looked at, and no memory is taken. It fails where no more holders can
     /// be counted.
-    pub fn share(&self) -> Result<Kept, AllocError>
+    pub fn share(&self) -> Result<KeptParts, AllocError>
         ensures { IfOk result (λ k. k ≡ self.now) }
     {
         let columns = Arc::try_clone(&self.columns)?;
         let rows = Arc::try_clone(&self.rows)?;
         let parts = Arc::try_clone(&self.parts)?;
         let leaf = Arc::try_clone(&self.leaf)?;
-        Ok(Kept {
+        Ok(KeptParts {
             columns,
             rows,
             parts,
@@ -125,7 +125,7 @@ impl Kept {
 
     /// Lets the rows go, a few at a time.
     pub fn let_go(self, waste: &mut Waste) {
-        let Kept {
+        let KeptParts {
             columns: _,
             rows,
             parts,
@@ -144,10 +144,10 @@ impl Kept {
         columns: &[usize],
         count: Count,
         row: &Timed,
-    ) -> Result<Kept, AllocError>
+    ) -> Result<KeptParts, AllocError>
         ensures { IfOk result (λ k. k ≡ with_one columns.now count self row.now) }
     {
-        let Kept {
+        let KeptParts {
             columns: own,
             rows,
             parts,
@@ -159,7 +159,7 @@ impl Kept {
             return Err(AllocError);
         };
         let (rows, parts) = come_in(alloc, columns, count, rows, parts, &leaf, next, row)?;
-        Ok(Kept {
+        Ok(KeptParts {
             columns: own,
             rows,
             parts,

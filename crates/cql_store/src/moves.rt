@@ -8,8 +8,8 @@ ghost use Rattle.cql_window.specs.Window.{AreAscending, count_before, front_len,
 ghost use Rattle.cql_store.specs.Held.{advanced, HasParts, CanAdvance, IsReady, pinned};
 ghost use Rattle.cql_store.specs.Places.{shown, shifted, greatest, IsSound, IsPlaced};
 
-use crate::kept::Kept as KeptParts;
-use crate::stub::{Kept, Stub};
+use crate::kept::KeptParts;
+use crate::stub::{Stub, StubRows};
 use cql_chunks::Chunks;
 use cql_value::{Timed, TryClone};
 use cql_window::{Count, Window, WindowPin, end_in, newest_of_parts, whole_slides};
@@ -110,7 +110,7 @@ fn passed(window: &Window, rows: &Chunks, first: usize, seen: usize, to: u64) ->
 }
 
 /// The stub's places at a later cursor, with the rows that it is to keep itself.
-pub(crate) fn go_to(stub: &mut Stub, rows: &Chunks, gone: usize, to: u64, kept: Kept)
+pub(crate) fn go_to(stub: &mut Stub, rows: &Chunks, gone: usize, to: u64, kept: StubRows)
     requires sound { IsSound rows.now (shifted gone stub.old) }
     requires ready { IsReady to kept (shown rows.now (shifted gone stub.old)) }
     requires fits { gone + length rows.now ≤ greatest }
@@ -134,7 +134,7 @@ pub(crate) fn go_to(stub: &mut Stub, rows: &Chunks, gone: usize, to: u64, kept: 
 // with which they share all but a few nodes for each row that comes.
 fn after(
     alloc: Global,
-    kept: &Kept,
+    kept: &StubRows,
     columns: &[usize],
     count: Count,
     rows: &Chunks,
@@ -155,7 +155,7 @@ fn after(
 // The kept rows, and then so many of the store's. All are shared.
 fn joined(
     alloc: Global,
-    kept: &Kept,
+    kept: &StubRows,
     rows: &Chunks,
     from: usize,
     ahead: usize,
@@ -175,7 +175,7 @@ fn joined(
 // The newest of the kept rows and so many of the store's, by a look at all of them.
 fn anew(
     alloc: Global,
-    kept: &Kept,
+    kept: &StubRows,
     columns: &[usize],
     count: Count,
     rows: &Chunks,
@@ -194,7 +194,7 @@ fn anew(
 // The kept rows after so many more: one by one, or all anew where that takes less time.
 fn behind(
     alloc: Global,
-    kept: &Kept,
+    kept: &StubRows,
     columns: &[usize],
     count: Count,
     rows: &Chunks,
@@ -222,7 +222,7 @@ pub(crate) fn kept_at(
     rows: &Chunks,
     gone: usize,
     to: u64,
-) -> Result<Kept, AllocError>
+) -> Result<StubRows, AllocError>
     requires sound { IsSound rows.now (shifted gone stub.now) }
     requires can { CanAdvance to (shown rows.now (shifted gone stub.now)) }
     ensures ok { IfOk result (λ kept. IsReady to kept (shown rows.now (shifted gone stub.now))) }
@@ -239,9 +239,9 @@ pub(crate) fn kept_at(
             stub.window.keeps_bounds();
             let columns = columns.as_slice();
             let kept = behind(alloc, &stub.kept, columns, *count, rows, seen, ahead)?;
-            Ok(Kept::of(kept))
+            Ok(StubRows::of(kept))
         }
-        _ => Ok(Kept::new()),
+        _ => Ok(StubRows::new()),
     }
 }
 
@@ -249,7 +249,7 @@ pub(crate) fn kept_at(
 // store's.
 fn settled_of(
     alloc: Global,
-    kept: &Kept,
+    kept: &StubRows,
     rows: &Chunks,
     first: usize,
     seen: usize,

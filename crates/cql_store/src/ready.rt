@@ -1,5 +1,5 @@
 // An advance for which no memory is missing.
-use crate::stub::{Kept, StubId};
+use crate::stub::{StubId, StubRows};
 use std::marker::Model;
 
 /// An advance of a stub to a cursor, with the rows that the stub will keep itself.
@@ -7,7 +7,7 @@ use std::marker::Model;
 pub struct Ready {
     pub(crate) id: StubId,
     pub(crate) to: u64,
-    pub(crate) kept: Kept,
+    pub(crate) kept: StubRows,
 }
 
 impl Model for Ready {

@@ -6,7 +6,7 @@ ghost use Rattle.cql_store.specs.Places.{all_shown, shown, shifted, slot_of, IsK
 use crate::moves::{go_to, kept_at, pin_of};
 use crate::needs::{Needs, mark_all, trim};
 use crate::ready::Ready;
-use crate::stub::{Kept, Stub, StubId, limit_of};
+use crate::stub::{Stub, StubId, StubRows, limit_of};
 use cql_chunks::{Chunks, Waste};
 use cql_value::Timed;
 use cql_window::{Window, WindowPin};
@@ -85,7 +85,7 @@ impl Store {
             seen: place,
             counted: place,
             overrun: false,
-            kept: Kept::new(),
+            kept: StubRows::new(),
         };
         self.needs.put(slot, place as u64, limit_of(&stub));
         self.stubs.insert_reserved(stub);

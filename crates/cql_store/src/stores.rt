@@ -16,29 +16,29 @@ use std::marker::Model;
 #[derive(Drop)]
 pub struct Stores {
     owners: Vec<OwnerStreams>,
-    turn: Turn,
+    turn: NextStream,
 }
 
 // The stream that settles next.
 #[derive(Clone, Copy)]
-struct Turn {
+struct NextStream {
     owner: usize,
     stream: usize,
 }
 
-impl Turn {
+impl NextStream {
     // The next stream of the same owner, or else the first one of the next owner, or of the first.
-    fn next(self, is_stream: bool, is_owner: bool) -> Turn {
+    fn next(self, is_stream: bool, is_owner: bool) -> NextStream {
         match (is_stream, is_owner) {
-            (true, _) => Turn {
+            (true, _) => NextStream {
                 owner: self.owner,
                 stream: self.stream.wrapping_add(1),
             },
-            (false, true) => Turn {
+            (false, true) => NextStream {
                 owner: self.owner.wrapping_add(1),
                 stream: 0,
             },
-            (false, false) => Turn {
+            (false, false) => NextStream {
                 owner: 0,
                 stream: 0,
             },
@@ -61,7 +61,7 @@ impl Stores {
     {
         Stores {
             owners: Vec::new(alloc),
-            turn: Turn {
+            turn: NextStream {
                 owner: 0,
                 stream: 0,
             },

@@ -2,7 +2,7 @@
 ghost use Rattle.std.specs.Prelude.{◌≡◌, ◌++◌, [], length, IfOk, OnOk};
 ghost use Rattle.cql_store.specs.Places.{emptied, limit};
 
-use crate::kept::Kept as KeptParts;
+use crate::kept::KeptParts;
 use cql_chunks::{Chunks, Waste};
 use cql_value::Timed;
 use cql_window::Window;
@@ -29,11 +29,11 @@ impl Model for StubId {
 /// The rows that a stub keeps itself: the content of a window of parts. What is made ready shares
 /// them where they stay as they are. There is nothing before the window passes a row.
 #[derive(Drop)]
-pub(crate) struct Kept {
+pub(crate) struct StubRows {
     rows: Option<KeptParts>,
 }
 
-impl Model for Kept {
+impl Model for StubRows {
     ghost use Rattle.std.specs.Prelude.{List};
     ghost use Rattle.cql_value.specs.Element.{Element};
     ghost use Rattle.cql_store.specs.Held.{rows_if_any};
@@ -43,19 +43,19 @@ impl Model for Kept {
     ghost view = { λ k. rows_if_any k.rows (λ r. r) };
 }
 
-impl Kept {
+impl StubRows {
     /// No rows.
-    pub(crate) fn new() -> Kept
+    pub(crate) fn new() -> StubRows
         ensures { result ≡ [] }
     {
-        Kept { rows: None }
+        StubRows { rows: None }
     }
 
     /// These rows.
-    pub(crate) fn of(rows: KeptParts) -> Kept
+    pub(crate) fn of(rows: KeptParts) -> StubRows
         ensures { result ≡ rows }
     {
-        Kept { rows: Some(rows) }
+        StubRows { rows: Some(rows) }
     }
 
     /// The same, with places for a window that parts by these columns.
@@ -70,14 +70,14 @@ impl Kept {
 
     /// The same rows with one more holder: no row is looked at, and no memory is taken. It fails
     /// where no more holders can be counted.
-    pub(crate) fn share(&self) -> Result<Kept, AllocError>
+    pub(crate) fn share(&self) -> Result<StubRows, AllocError>
         ensures { IfOk result (λ k. k ≡ self.now) }
     {
         match &self.rows {
-            None => Ok(Kept { rows: None }),
+            None => Ok(StubRows { rows: None }),
             Some(rows) => {
                 let rows = rows.share()?;
-                Ok(Kept { rows: Some(rows) })
+                Ok(StubRows { rows: Some(rows) })
             }
         }
     }
@@ -139,7 +139,7 @@ pub(crate) struct Stub {
     /// to: they wait for a whole slide of rows.
     pub(crate) counted: usize,
     pub(crate) overrun: bool,
-    pub(crate) kept: Kept,
+    pub(crate) kept: StubRows,
 }
 
 impl Drop for Stub {

@@ -21,6 +21,6 @@ number_of Late = 41
 number_of AtTooLarge = 42
 
 -- the refusal that a stream's clock gives
-abbrev pub refusal_of : ClockError → StreamRefusal
-refusal_of clock.Late = Late
-refusal_of clock.AtTooLarge = AtTooLarge
+abbrev pub clock_refusal : ClockError → StreamRefusal
+clock_refusal clock.Late = Late
+clock_refusal clock.AtTooLarge = AtTooLarge

@@ -6,10 +6,10 @@ use Rattle.cql_stream.specs.Clock.{time_fault}
 use Rattle.cql_stream.specs.declared.refusal.StreamRefusal.{StreamRefusal}
 use Rattle.cql_stream.specs.declared.refusal.StreamRefusal.TheVariants.{UnknownStream, WrongRow}
 use Rattle.cql_stream.specs.declared.stream.Stream.{Stream}
-use Rattle.cql_stream.specs.Refusal.{refusal_of}
+use Rattle.cql_stream.specs.Refusal.{clock_refusal}
 
 abbrev pub time_refused : Stream → ℕ → Option StreamRefusal
-time_refused s at = option_map refusal_of (time_fault s.clock at)
+time_refused s at = option_map clock_refusal (time_fault s.clock at)
 
 abbrev pub row_refused : Stream → ℕ → List Value → Option StreamRefusal
 row_refused s at row = if is_row_of s.schema row then time_refused s at else Some WrongRow

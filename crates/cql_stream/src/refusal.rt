@@ -51,9 +51,9 @@ pub enum StreamRefusal {
 
 impl From<ClockError> for StreamRefusal {
     ghost use Rattle.std.specs.Prelude.{◌≡◌};
-    ghost use Rattle.cql_stream.specs.Refusal.{refusal_of};
+    ghost use Rattle.cql_stream.specs.Refusal.{clock_refusal};
 
-    ghost from_gives = { λ error refusal. refusal ≡ refusal_of error };
+    ghost from_gives = { λ error refusal. refusal ≡ clock_refusal error };
 
     fn from(error: ClockError) -> StreamRefusal {
         match error {

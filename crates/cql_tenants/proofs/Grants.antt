@@ -15,7 +15,7 @@ use Rattle.cql_window.specs.RowPlaces.{at_places}
 use Rattle.cql_window.specs.Chosen.{is_shown}
 use Rattle.cql_tenants.specs.Home.{Home, Stream, Grant, nothing_made, is_place, home_at, tenant_named, stream_at, is_of, grant_of, without_grant}
 use Rattle.cql_tenants.specs.Checks.{grantee_refused, grant_refused}
-use Rattle.cql_tenants.specs.Directory.{StreamCommand, Make, Share, Revoke, Put, Beat, with_stream, with_time, with_grant, place_at, grant_over, grant_to, new_grant, revoke_from, refused, done, directory_after}
+use Rattle.cql_tenants.specs.Directory.{StreamCommand, Make, Share, Revoke, Put, Beat, with_stream, with_time, with_grant, place_at, grant_over, grant_to, new_grant, revoke_from, refused, done, streams_after}
 use Rattle.cql_stream.specs.Taking.{opens}
 use Rattle.cql_tenants.specs.Law.{IsGrantOf, AreOfStreams, IsGrantLaw, directory_from}
 use Rattle.cql_window.proofs.Choices.{shown_within}
@@ -245,7 +245,7 @@ after_done homes user command accepted all j owner name g h =
     let now = streams_stay homes user command owner name old.0 old.1 in
     (now.now, now.found, of_same g old.0 now.now now.schema old.2)
 
-after_one : (homes : List Home) (user : ℕ) (command : StreamCommand) → AreOfStreams homes → AreOfStreams (directory_after homes user command)
+after_one : (homes : List Home) (user : ℕ) (command : StreamCommand) → AreOfStreams homes → AreOfStreams (streams_after homes user command)
 after_one homes user command all = by (refused homes user command) refl
   where
     by : (o : Option StreamRefusal) → refused homes user command ≡ o → AreOfStreams (if is_none o then done homes user command else homes)
@@ -254,7 +254,7 @@ after_one homes user command all = by (refused homes user command) refl
 
 after_all : (homes : List Home) (calls : List (ℕ × StreamCommand)) → AreOfStreams homes → AreOfStreams (directory_from homes calls)
 after_all homes [] all = all
-after_all homes (call ∷ calls) all = after_all (directory_after homes call.0 call.1) calls (after_one homes call.0 call.1 all)
+after_all homes (call ∷ calls) all = after_all (streams_after homes call.0 call.1) calls (after_one homes call.0 call.1 all)
 
 pub no_grants : (table : List Tenant) (place : ℕ) → (home_at (nothing_made table) place).granted ≡ []
 no_grants [] place = refl

@@ -80,5 +80,5 @@ done homes user (Put stream at row) = change_home (with_time stream at) homes us
 done homes user (Beat stream at) = change_home (with_time stream (at + 1)) homes user
 
 -- the homes after a command; one that is refused changes nothing
-abbrev pub directory_after : List Home → ℕ → StreamCommand → List Home
-directory_after homes user command = if is_none (refused homes user command) then done homes user command else homes
+abbrev pub streams_after : List Home → ℕ → StreamCommand → List Home
+streams_after homes user command = if is_none (refused homes user command) then done homes user command else homes

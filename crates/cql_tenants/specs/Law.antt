@@ -5,11 +5,11 @@ use Rattle.cql_tenants.specs.declared.tenants.Tenant.{Tenant}
 use Rattle.cql_stream.specs.Named.{place_of}
 use Rattle.cql_window.specs.RowPlaces.{at_places}
 use Rattle.cql_tenants.specs.Home.{Home, Stream, Grant, nothing_made, home_at, stream_at, grant_of}
-use Rattle.cql_tenants.specs.Directory.{StreamCommand, refused, done, directory_after}
+use Rattle.cql_tenants.specs.Directory.{StreamCommand, refused, done, streams_after}
 
 abbrev pub directory_from : List Home → List (ℕ × StreamCommand) → List Home
 directory_from homes [] = homes
-directory_from homes (call ∷ calls) = directory_from (directory_after homes call.0 call.1) calls
+directory_from homes (call ∷ calls) = directory_from (streams_after homes call.0 call.1) calls
 
 -- the calls that are accepted, each from the directory before it
 abbrev pub accepted : List Home → List (ℕ × StreamCommand) → List (ℕ × StreamCommand)

@@ -3,8 +3,8 @@ use Rattle.std.specs.Prelude.{ℕ, Bool, false, ◌==◌, List, [], length, map,
 use Rattle.cql_value.specs.declared.schema.Column.{Column}
 use Rattle.cql_stream.specs.declared.refusal.StreamRefusal.{StreamRefusal}
 use Rattle.cql_stream.specs.declared.refusal.StreamRefusal.TheVariants.{UnknownTenant}
-use Rattle.cql_tenants.specs.declared.readable.Readable.{Readable}
-use Rattle.cql_tenants.specs.declared.readable.Found.{Found}
+use Rattle.cql_tenants.specs.declared.readable.ReadableStream.{ReadableStream}
+use Rattle.cql_tenants.specs.declared.readable.FoundStream.{FoundStream}
 use Rattle.cql_tenants.specs.declared.readable.OwnStream.{OwnStream}
 use Rattle.cql_stream.specs.Named.{Named}
 pub use Rattle.cql_tenants.specs.Granted.{ReadStream, named_columns}
@@ -12,18 +12,18 @@ use Rattle.cql_window.specs.RowPlaces.{all_places}
 use Rattle.cql_tenants.specs.Home.{Home, Stream, Grant, is_place, home_at, tenant_named, stream_at, opened_at, grant_of}
 
 -- a stream of the tenant's own goes by its name
-abbrev pub own_readable : Named Stream → Readable
+abbrev pub own_readable : Named Stream → ReadableStream
 own_readable s = record { owner = None; name = s.name; schema = s.item.schema; places = all_places (length s.item.schema); opened = s.item.clock }
 
 -- one of another's goes by owner and name, and has the columns of the grant
-abbrev pub granted_readable : List Home → Grant → Readable
+abbrev pub granted_readable : List Home → Grant → ReadableStream
 granted_readable homes g = record { owner = Some (home_at homes g.owner).name; name = g.stream; schema = g.schema; places = g.places; opened = opened_at homes g.owner g.stream }
 
 -- own streams in order of making, then the others in order of the grants
-abbrev pub all_readable : List Home → Home → List Readable
+abbrev pub all_readable : List Home → Home → List ReadableStream
 all_readable homes home = map own_readable home.streams ++ map (granted_readable homes) home.granted
 
-abbrev pub readable_to : List Home → ℕ → Result (List Readable) StreamRefusal
+abbrev pub readable_to : List Home → ℕ → Result (List ReadableStream) StreamRefusal
 readable_to homes user = if is_place homes user then Ok (all_readable homes (home_at homes user)) else Err UnknownTenant
 
 -- what a list shows of a stream of the tenant's own, and of one that was granted to it
@@ -40,7 +40,7 @@ pub record StreamSeen : Type 0 where
   pub named : Bool
   pub opened : ℕ
 
-abbrev pub seen_of : Found → StreamSeen
+abbrev pub seen_of : FoundStream → StreamSeen
 seen_of f = record { owner = f.owner; schema = f.schema.now; named = f.named; opened = f.opened }
 
 abbrev pub own_found : List Home → ℕ → List ℕ → Option StreamSeen

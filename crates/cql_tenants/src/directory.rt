@@ -7,14 +7,15 @@ ghost use Rattle.cql_tenants.specs.Home.{nothing_made, is_place, home_at, change
 ghost use Rattle.cql_window.specs.RowPlaces.{at_places, AreWithin};
 ghost use Rattle.cql_window.specs.Chosen.{is_shown};
 ghost use Rattle.cql_tenants.specs.Checks.{grantee_refused, taken_refused};
-ghost use Rattle.cql_tenants.specs.Directory.{Make, Share, Revoke, Put, Beat, with_time, refused, directory_after};
+ghost use Rattle.cql_tenants.specs.Directory.{Make, Share, Revoke, Put, Beat, with_time, refused, streams_after};
 ghost use Rattle.cql_tenants.specs.Readable.{readable_to, own_stream, read_stream, owner_meant, seen_of, own_found, granted_found, found, granted_places, places_seen};
 
 use crate::grant::Grant;
 use crate::home::Home;
 use crate::homes::{home_at, opened_at, tenant_named};
 use crate::readable::{
-    Found, OwnStream, ReadStream, Readable, granted_listed, granted_shown, own_listed, own_shown,
+    FoundStream, OwnStream, ReadStream, ReadableStream, granted_listed, granted_shown, own_listed,
+    own_shown,
 };
 use crate::tenants::{Quotas, TenantId, TenantTable};
 use cql_stream::StreamRefusal;
@@ -105,7 +106,7 @@ impl Directory {
         schema: &Schema,
     ) -> Result<(), AllocError>
         requires { refused self.old tenant (Make name.now (Some schema.now)) ≡ None }
-        ensures state { OnOk result (self.new ≡ directory_after self.old tenant (Make name.now (Some schema.now))) }
+        ensures state { OnOk result (self.new ≡ streams_after self.old tenant (Make name.now (Some schema.now))) }
         ensures err { OnErr result (self.new ≡ self.old) }
     {
         self.homes[tenant.place()].make(alloc, name, schema)
@@ -187,7 +188,7 @@ impl Directory {
     /// order. Takes no memory.
     pub fn beat(&mut self, tenant: TenantId, stream: &str, at: u64) -> Result<(), StreamRefusal>
         ensures refused { result_err result ≡ refused self.old tenant (Beat stream.now at) }
-        ensures state { self.new ≡ directory_after self.old tenant (Beat stream.now at) }
+        ensures state { self.new ≡ streams_after self.old tenant (Beat stream.now at) }
     {
         if !self.has(tenant) {
             return Err(StreamRefusal::UnknownTenant);
@@ -266,7 +267,7 @@ impl Directory {
         to: &str,
     ) -> Result<Result<(), StreamRefusal>, AllocError>
         ensures refused { IfOk result (λ told. result_err told ≡ refused self.old tenant (Share stream.now to.now (option_copied columns.entry))) }
-        ensures state { OnOk result (self.new ≡ directory_after self.old tenant (Share stream.now to.now (option_copied columns.entry))) }
+        ensures state { OnOk result (self.new ≡ streams_after self.old tenant (Share stream.now to.now (option_copied columns.entry))) }
         ensures err { OnErr result (self.new ≡ self.old) }
         ensures memory { OnErr result (refused self.old tenant (Share stream.now to.now (option_copied columns.entry)) ≡ None) }
     {
@@ -335,7 +336,7 @@ impl Directory {
         to: &str,
     ) -> Result<usize, StreamRefusal>
         ensures refused { result_err result ≡ refused self.old tenant (Revoke stream.now to.now) }
-        ensures state { self.new ≡ directory_after self.old tenant (Revoke stream.now to.now) }
+        ensures state { self.new ≡ streams_after self.old tenant (Revoke stream.now to.now) }
         ensures place { IfOk result (λ place. tenant_named self.old tenant to.now ≡ Some place) }
     {
         let place = self.revoking(tenant, stream, to)?;
@@ -349,7 +350,7 @@ impl Directory {
         &self,
         alloc: Global,
         tenant: TenantId,
-    ) -> Result<Result<Items<Readable>, StreamRefusal>, AllocError>
+    ) -> Result<Result<Items<ReadableStream>, StreamRefusal>, AllocError>
         ensures { IfOk result (λ told. told ≡ readable_to self.now tenant) }
     {
         if !self.has(tenant) {
@@ -397,7 +398,7 @@ impl Directory {
         }
     }
 
-    fn own_found(&self, tenant: TenantId, stream: &str) -> Option<Found<'_>>
+    fn own_found(&self, tenant: TenantId, stream: &str) -> Option<FoundStream<'_>>
         requires { tenant < length self.now }
         ensures seen { option_map seen_of result ≡ own_found self.now tenant stream.now }
         ensures place { IfSome result (λ f. place_of (home_at self.now f.owner).streams stream.now ≡ Some f.place) }
@@ -408,7 +409,7 @@ impl Directory {
         let streams = &home_at(&self.homes, tenant.place()).streams;
         let place = streams.place(stream)?;
         let (_name, own) = streams.entry(place);
-        Some(Found {
+        Some(FoundStream {
             owner: tenant,
             place,
             schema: &own.schema,
@@ -418,7 +419,7 @@ impl Directory {
         })
     }
 
-    fn granted_found(&self, tenant: TenantId, owner: usize, stream: &str) -> Option<Found<'_>>
+    fn granted_found(&self, tenant: TenantId, owner: usize, stream: &str) -> Option<FoundStream<'_>>
         requires { tenant < length self.now }
         ensures seen { option_map seen_of result ≡ granted_found self.now tenant owner stream.now }
         ensures place { IfSome result (λ f. place_of (home_at self.now f.owner).streams stream.now ≡ Some f.place) }
@@ -431,7 +432,7 @@ impl Directory {
         let grant = home.grant_of(owner, stream)?;
         let owner = grant.owner();
         let place = self.place(owner, stream)?;
-        Some(Found {
+        Some(FoundStream {
             owner,
             place,
             schema: grant.schema(),
@@ -444,7 +445,12 @@ impl Directory {
     /// The stream that the tenant reads under a name, of the owner that stands before the dot, or
     /// with no dot of its own: none where there is no such stream, where it isn't granted, and where
     /// there is no such tenant. Takes no memory.
-    pub fn find(&self, tenant: TenantId, owner: Option<&str>, stream: &str) -> Option<Found<'_>>
+    pub fn find(
+        &self,
+        tenant: TenantId,
+        owner: Option<&str>,
+        stream: &str,
+    ) -> Option<FoundStream<'_>>
         ensures seen { option_map seen_of result ≡ found self.now tenant (option_copied owner.entry) stream.now }
         ensures place { IfSome result (λ f. place_of (home_at self.now f.owner).streams stream.now ≡ Some f.place) }
         ensures schema { IfSome result (λ f. option_map (λ s. at_places s.schema f.places.now) (stream_at self.now f.owner stream.now) ≡ Some f.schema.now) }

@@ -14,7 +14,7 @@ use std::alloc::{AllocError, Global};
 use std::marker::Model;
 
 /// What the reader of a stream that another tenant granted sees of it.
-pub struct Shown {
+pub struct ShownStream {
     pub stream: Text,
     pub schema: Schema,
     /// Where these columns stand among the stream's own.
@@ -23,9 +23,9 @@ pub struct Shown {
     pub named: bool,
 }
 
-impl Drop for Shown {
+impl Drop for ShownStream {
     fn drop(self) {
-        let Shown {
+        let ShownStream {
             stream: _,
             schema: _,
             places: _,
@@ -80,7 +80,7 @@ impl Grant {
         let places = shown_places(alloc, schema, columns)?;
         let seen = schema_at(alloc, schema, places.as_slice())?;
         let stream = Text::new(alloc, stream)?;
-        let shown = Shown {
+        let shown = ShownStream {
             stream,
             schema: seen,
             places,
@@ -95,7 +95,11 @@ impl Grant {
     }
 
     /// The same grant, with what is seen of it at a place among others.
-    pub fn among(&self, pack: &Shared<Items<Shared<Shown>>>, at: usize) -> Result<Grant, AllocError>
+    pub fn among(
+        &self,
+        pack: &Shared<Items<Shared<ShownStream>>>,
+        at: usize,
+    ) -> Result<Grant, AllocError>
         requires { slice_get pack.now at ≡ Some (shown_of self.now) }
         ensures { IfOk result (λ g. g ≡ self.now) }
     {
@@ -157,7 +161,7 @@ impl Grant {
     }
 
     /// What the reader sees, with one more holder of it alone.
-    pub fn shown(&self) -> Result<Shared<Shown>, AllocError>
+    pub fn shown(&self) -> Result<Shared<ShownStream>, AllocError>
         ensures { IfOk result (λ s. s ≡ shown_of self.now) }
     {
         self.shown.alone_shared()

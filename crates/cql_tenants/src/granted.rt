@@ -4,7 +4,7 @@ ghost use Rattle.std.specs.List.{filter};
 ghost use Rattle.cql_tenants.specs.Home.{is_of};
 ghost use Rattle.cql_tenants.specs.Held.{shown_of};
 
-use crate::grant::{Grant, Shown};
+use crate::grant::{Grant, ShownStream};
 use crate::shared::Shared;
 use cql_value::Items;
 use std::alloc::{AllocError, Global};
@@ -39,7 +39,7 @@ impl Model for Granted {
 }
 
 // What the reader sees of these grants.
-fn gathered(alloc: Global, grants: &[Grant]) -> Result<Items<Shared<Shown>>, AllocError>
+fn gathered(alloc: Global, grants: &[Grant]) -> Result<Items<Shared<ShownStream>>, AllocError>
     ensures { IfOk result (λ pack. pack ≡ map shown_of grants.now) }
 {
     let mut pack = Items::new(alloc);
@@ -54,7 +54,7 @@ fn put_together(
     all: &mut Items<Grant>,
     from: usize,
     end: usize,
-    pack: &Shared<Items<Shared<Shown>>>,
+    pack: &Shared<Items<Shared<ShownStream>>>,
 ) -> Result<(), AllocError>
     requires order { from ≤ end }
     requires within { end ≤ length all.old }

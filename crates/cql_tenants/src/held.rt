@@ -2,7 +2,7 @@
 ghost use Rattle.std.specs.Prelude.{◌≡◌, ◌<◌, IfOk, length};
 ghost use Rattle.cql_tenants.specs.Held.{shown_in};
 
-use crate::grant::Shown;
+use crate::grant::ShownStream;
 use crate::shared::Shared;
 use cql_value::Items;
 use std::alloc::{AllocError, Global};
@@ -13,7 +13,7 @@ use std::sync::Arc;
 /// counted for all of these at one place in memory: a list of many grants counts holders, and places
 /// all over the memory would take ten times as long.
 pub struct Held {
-    pack: Shared<Items<Shared<Shown>>>,
+    pack: Shared<Items<Shared<ShownStream>>>,
     at: usize,
 }
 
@@ -25,7 +25,7 @@ impl Drop for Held {
 
 impl Model for Held {
     ghost use Rattle.std.specs.Prelude.{◌<◌, length};
-    ghost use Rattle.cql_tenants.specs.declared.grant.Shown.{Shown as shown};
+    ghost use Rattle.cql_tenants.specs.declared.grant.ShownStream.{ShownStream as shown};
     ghost use Rattle.cql_tenants.specs.Held.{shown_in};
 
     ghost Value = { shown };
@@ -37,7 +37,7 @@ impl Model for Held {
 
 impl Held {
     /// It alone.
-    pub fn alone(alloc: Global, shown: Shown) -> Result<Held, AllocError>
+    pub fn alone(alloc: Global, shown: ShownStream) -> Result<Held, AllocError>
         ensures { IfOk result (λ h. h ≡ shown) }
     {
         let mut pack = Items::new(alloc);
@@ -47,7 +47,7 @@ impl Held {
     }
 
     /// That at a place of those.
-    pub fn among(pack: &Shared<Items<Shared<Shown>>>, at: usize) -> Result<Held, AllocError>
+    pub fn among(pack: &Shared<Items<Shared<ShownStream>>>, at: usize) -> Result<Held, AllocError>
         requires { at < length pack.now }
         ensures { IfOk result (λ h. h ≡ shown_in pack.now at) }
     {
@@ -56,7 +56,7 @@ impl Held {
     }
 
     /// What is seen.
-    pub fn get(&self) -> &Shown
+    pub fn get(&self) -> &ShownStream
         ensures { result.now ≡ self.now }
     {
         self.pack.get().as_slice()[self.at].get()
@@ -70,7 +70,7 @@ impl Held {
     }
 
     /// The same by itself, with one more holder.
-    pub fn alone_shared(&self) -> Result<Shared<Shown>, AllocError>
+    pub fn alone_shared(&self) -> Result<Shared<ShownStream>, AllocError>
         ensures { IfOk result (λ s. s ≡ self.now) }
     {
         self.pack.get().as_slice()[self.at].share()

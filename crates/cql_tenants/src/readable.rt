@@ -20,7 +20,7 @@ use std::marker::Model;
 
 /// A stream that a tenant reads: under its name alone where it is the tenant's own, else under its
 /// owner's and its name.
-pub struct Readable {
+pub struct ReadableStream {
     pub owner: Option<Text>,
     pub name: Text,
     /// The columns that the tenant sees.
@@ -31,9 +31,9 @@ pub struct Readable {
     pub opened: u64,
 }
 
-impl Drop for Readable {
+impl Drop for ReadableStream {
     fn drop(self) {
-        let Readable {
+        let ReadableStream {
             owner: _,
             name: _,
             schema: _,
@@ -45,7 +45,7 @@ impl Drop for Readable {
 
 /// A stream that a tenant reads, as a look-up finds it.
 #[derive(Clone, Copy)]
-pub struct Found<'a> {
+pub struct FoundStream<'a> {
     pub owner: TenantId,
     /// The stream's place among its owner's.
     pub place: usize,
@@ -141,13 +141,13 @@ fn copied(
     schema: &Schema,
     places: &[usize],
     opened: u64,
-) -> Result<Readable, AllocError>
+) -> Result<ReadableStream, AllocError>
     ensures { IfOk result (λ r. r ≡ record { owner = owner; name = name.now; schema = schema.now; places = places.now; opened = opened }) }
 {
     let name = Text::new(alloc, name)?;
     let schema = schema.try_clone(alloc)?;
     let places = Items::from_slice(alloc, places)?;
-    Ok(Readable {
+    Ok(ReadableStream {
         owner,
         name,
         schema,
@@ -157,7 +157,7 @@ fn copied(
 }
 
 // A stream of the tenant's own.
-fn own_readable(alloc: Global, name: &str, stream: &Stream) -> Result<Readable, AllocError>
+fn own_readable(alloc: Global, name: &str, stream: &Stream) -> Result<ReadableStream, AllocError>
     ensures { IfOk result (λ r. r ≡ own_readable (record { name = name.now; item = stream.now })) }
 {
     let schema = &stream.schema;
@@ -166,7 +166,11 @@ fn own_readable(alloc: Global, name: &str, stream: &Stream) -> Result<Readable, 
 }
 
 // A stream of another's.
-fn granted_readable(alloc: Global, homes: &[Home], grant: &Grant) -> Result<Readable, AllocError>
+fn granted_readable(
+    alloc: Global,
+    homes: &[Home],
+    grant: &Grant,
+) -> Result<ReadableStream, AllocError>
     ensures { IfOk result (λ r. r ≡ granted_readable homes.now grant.now) }
 {
     let place = grant.owner().place();
@@ -183,7 +187,10 @@ fn granted_readable(alloc: Global, homes: &[Home], grant: &Grant) -> Result<Read
 }
 
 /// A tenant's own streams, in order of making.
-pub fn own_shown(alloc: Global, streams: &Shelf<Stream>) -> Result<Items<Readable>, AllocError>
+pub fn own_shown(
+    alloc: Global,
+    streams: &Shelf<Stream>,
+) -> Result<Items<ReadableStream>, AllocError>
     ensures { IfOk result (λ all. all ≡ map own_readable streams.now) }
 {
     let mut all = Items::new(alloc);
@@ -199,7 +206,7 @@ pub fn granted_shown(
     alloc: Global,
     homes: &[Home],
     grants: &[Grant],
-) -> Result<Items<Readable>, AllocError>
+) -> Result<Items<ReadableStream>, AllocError>
     ensures { IfOk result (λ all. all ≡ map (granted_readable homes.now) grants.now) }
 {
     let mut all = Items::new(alloc);

@@ -2,7 +2,7 @@
 use crate::pins::{Asked, pin};
 use cql_eval::Pool;
 use cql_ops::Operator;
-use cql_plain::{Plain, plain_bench};
+use cql_plain::{PlainOperator, plain_bench};
 use std::alloc::{AllocError, Global};
 use std::test::Fail;
 
@@ -16,7 +16,7 @@ const ASKED: Asked = Asked {
     limit: 10,
 };
 
-fn one_bench(alloc: Global) -> Result<Pool<Plain>, AllocError> {
+fn one_bench(alloc: Global) -> Result<Pool<PlainOperator>, AllocError> {
     Pool::new(alloc, vec![in alloc; plain_bench(alloc)]?)
 }
 

@@ -3,7 +3,7 @@
 
 use cql_core::{Pool, Pooled};
 use cql_plain::plain_bench;
-use cql_wire::{Ending, Outcome, Watched, program};
+use cql_wire::{ExitReport, RunEnd, Watched, program};
 use std::alloc::AllocError;
 use std::process::ExitCode;
 use std::{env, io};
@@ -11,14 +11,14 @@ use std::{env, io};
 fn main(rt: HostRuntime) -> ExitCode {
     let outcome = match outcome(&rt) {
         Ok(outcome) => outcome,
-        Err(AllocError) => Ending::NoMemory.outcome(),
+        Err(AllocError) => RunEnd::NoMemory.outcome(),
     };
     tell(&rt, outcome);
     ExitCode::from(outcome.status)
 }
 
 // Tells how the run ended, where there is something to tell.
-fn tell(rt: &impl Eprint, outcome: Outcome) {
+fn tell(rt: &impl Eprint, outcome: ExitReport) {
     let text = outcome.text;
     if let Some(rule) = outcome.rule {
         let _ = eprintln!(rt; "{text}: {rule}");
@@ -27,10 +27,10 @@ fn tell(rt: &impl Eprint, outcome: Outcome) {
     }
 }
 
-fn outcome(rt: &HostRuntime) -> Result<Outcome, AllocError> {
+fn outcome(rt: &HostRuntime) -> Result<ExitReport, AllocError> {
     let alloc = rt.alloc();
     let Ok(args) = env::args(rt) else {
-        return Ok(Ending::Words.outcome());
+        return Ok(RunEnd::Words.outcome());
     };
     // Benches of the caller's own operators may stand in the place of these.
     let benches = vec![in alloc;

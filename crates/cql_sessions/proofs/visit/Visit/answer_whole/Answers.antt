@@ -1,7 +1,7 @@
 use Rattle.std.proofs.Common.{rules, sym, ap, ◌∙◌}
 use denote.Enum.Bare.{same_true, sameb}
-use Rattle.cql_sessions.specs.contracts.caller.Outcome.{the_type}
-use Rattle.cql_sessions.specs.declared.caller.Outcome.TheVariants.{Held}
+use Rattle.cql_sessions.specs.contracts.caller.LineOutcome.{the_type}
+use Rattle.cql_sessions.specs.declared.caller.LineOutcome.TheVariants.{Held}
 use Rattle.cql_lines.proofs.Writing.{on_err_always}
 use Rattle.cql_sessions.proofs.Seating.{clash, blank_visits, answered_visits, held_visits, answered_stops}
 use Rattle.cql_sessions.proofs.visit.Visit.answer_whole.Goals as goal

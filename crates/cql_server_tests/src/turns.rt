@@ -1,6 +1,6 @@
 // Whose turn it is, over numbers in the place of callers.
 
-use cql_sessions::Turns;
+use cql_connections::Turns;
 use std::alloc::{AllocError, Global};
 use std::test::Fail;
 

@@ -1,3 +1,2 @@
 pub mod Crosses
 pub mod Seating
-pub mod HubCrosses

@@ -7,13 +7,13 @@ use Rattle.std.proofs.alloc.Global.TheSendSync as heap
 use Rattle.std.proofs.Crossing.{crosses, Box-send, Vec-send, Deque-send}
 use Rattle.slab.proofs.Slab.TheSendSync as slab
 use Rattle.std.below.std_heap.proofs.GlobalAllocator.TheSendSync as frees
-use Rattle.cql_sessions.specs.contracts.floor.Floor as floor
-use Rattle.cql_sessions.specs.contracts.floor.Place as place
-use Rattle.cql_sessions.specs.contracts.floor.Turn as turn
-use Rattle.cql_sessions.specs.contracts.house.House as house
-use Rattle.cql_sessions.specs.contracts.lookout.Lookout as lookout
-use Rattle.cql_sessions.specs.contracts.turns.OwnerQueues as queues
-use Rattle.cql_sessions.specs.contracts.turns.Turns as turns
+use Rattle.cql_connections.specs.contracts.floor.Floor as floor
+use Rattle.cql_connections.specs.contracts.floor.Place as place
+use Rattle.cql_connections.specs.contracts.floor.Turn as turn
+use Rattle.cql_connections.specs.contracts.house.House as house
+use Rattle.cql_connections.specs.contracts.lookout.Lookout as lookout
+use Rattle.cql_connections.specs.contracts.turns.OwnerQueues as queues
+use Rattle.cql_connections.specs.contracts.turns.Turns as turns
 
 module _ (T : RattleType) where
   pub turn_send : IsSend T → IsSend (turn.the_field T).row

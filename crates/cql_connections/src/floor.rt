@@ -1,9 +1,9 @@
 // The callers who are connected: who waits, whose turn it is, and whose time has passed.
 
 use crate::connection::Limits;
-use crate::guest::{Connected, WaitsFor};
 use crate::turns::{Task, Turns};
 use cql_hall::EndReason;
+use cql_sessions::{Connected, WaitsFor};
 use cql_wire::ScriptError;
 use slab::Slab;
 use std::alloc::{AllocError, Global};

@@ -1,11 +1,11 @@
 // What the accepting thread and the workers share.
 
 use crate::floor::{Floor, LATE, Next, Turn};
-use crate::guest::{Connected, WaitsFor};
 use crate::hub::Wires;
 use crate::lookout::Lookout;
 use crate::turns::Task;
 use cql_hall::{EndReason, Gate, Point};
+use cql_sessions::{Connected, WaitsFor};
 use cql_wire::ScriptError;
 use mio::unix::SourceFd;
 use mio::{Interest, Registry, Token, Waker};

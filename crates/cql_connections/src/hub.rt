@@ -1,10 +1,10 @@
 // Waits for callers, and lets them in.
 ghost use Rattle.std.specs.Prelude.{◌≤◌};
 
-use crate::guest::Connected;
 use crate::house::House;
 use crate::lookout::Lookout;
 use cql_hall::Gate;
+use cql_sessions::Connected;
 use mio::unix::SourceFd;
 use mio::{Events, Interest, Poll, Registry, Token, Waker};
 use std::alloc::Global;

@@ -23,7 +23,7 @@ use Rattle.cql_algebra.specs.declared.told.Output.TheVariants.{Rows as told_rows
 use Rattle.cql_eval.specs.Pin.{PinSeen}
 use Rattle.cql_tenants.specs.declared.tenants.Quotas.{Quotas}
 use Rattle.cql_tenants.specs.declared.tenants.Tenant.{Tenant}
-use Rattle.cql_stream.specs.Named.{same_name, find_named}
+use Rattle.cql_value.specs.Named.{same_name, find_named}
 use Rattle.cql_tenants.specs.Home.{nothing_made}
 use Rattle.cql_core.specs.declared.command.ColumnText.{ColumnText}
 use Rattle.cql_core.specs.declared.command.Command.{Command}

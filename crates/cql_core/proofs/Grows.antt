@@ -5,17 +5,17 @@ use Rattle.std.proofs.lemmas.Bool.Decides.{nat_tests}
 use Rattle.cql_value.specs.declared.value.Value.{Value}
 use Rattle.cql_value.specs.declared.schema.Column.{Column}
 use Rattle.cql_value.specs.Schema.{is_row_of}
-use Rattle.cql_stream.specs.Clock.{greatest}
-use Rattle.cql_stream.specs.declared.clock.ClockError.TheVariants as clock
+use Rattle.cql_value.specs.Clock.{greatest}
+use Rattle.cql_value.specs.declared.clock.ClockError.TheVariants as clock
 use Rattle.cql_tenants.specs.Granted.{Grant as grant}
 use Rattle.cql_tenants.specs.declared.home.Home.{Home}
-use Rattle.cql_stream.specs.declared.refusal.StreamRefusal.{StreamRefusal}
-use Rattle.cql_stream.specs.declared.refusal.StreamRefusal.TheVariants as refused
-use Rattle.cql_stream.specs.declared.stream.Stream.{Stream as stream}
-use Rattle.cql_stream.specs.Refusal.{clock_refusal}
-use Rattle.cql_stream.specs.Named.{same_name, find_named}
+use Rattle.cql_value.specs.declared.refusal.StreamRefusal.{StreamRefusal}
+use Rattle.cql_value.specs.declared.refusal.StreamRefusal.TheVariants as refused
+use Rattle.cql_value.specs.declared.stream.Stream.{Stream as stream}
+use Rattle.cql_value.specs.Refusal.{clock_refusal}
+use Rattle.cql_value.specs.Named.{same_name, find_named}
 use Rattle.cql_tenants.specs.Home.{is_place, home_at, change_home, tenant_named, stream_at, opened_at, is_of, grant_of, without_grant}
-use Rattle.cql_stream.specs.Taking.{time_refused, put_refused, beat_refused, opens}
+use Rattle.cql_value.specs.Taking.{time_refused, put_refused, beat_refused, opens}
 use Rattle.cql_tenants.specs.Directory.{with_stream, with_time, with_grant, new_grant, grant_to, revoke_from}
 use Rattle.cql_tenants.specs.Readable.{StreamSeen, own_found, granted_found}
 use Rattle.cql_core.specs.declared.command.Command.{Command}

@@ -4,7 +4,7 @@ use Rattle.std.specs.Prelude.{Option, Some, None, option_map, nat_le}
 use Rattle.std.specs.List.{AllByRecursion}
 use Rattle.std.proofs.lemmas.Bool.Decides.{nat_tests}
 use Rattle.cql_store.specs.Held.{need}
-use Rattle.cql_stream.specs.declared.stream.Stream.{Stream}
+use Rattle.cql_value.specs.declared.stream.Stream.{Stream}
 use Rattle.cql_tenants.specs.Home.{stream_at}
 use Rattle.cql_core.specs.Source.{Source}
 use Rattle.cql_core.specs.Machine.{Stub, State}

@@ -12,14 +12,14 @@ use Rattle.cql_value.specs.Element.{Element}
 use Rattle.cql_value.specs.Name.{is_name}
 use Rattle.cql_tenants.specs.Granted.{Grant as grant}
 use Rattle.cql_tenants.specs.declared.home.Home.{Home}
-use Rattle.cql_stream.specs.declared.refusal.StreamRefusal.{StreamRefusal}
-use Rattle.cql_stream.specs.declared.refusal.StreamRefusal.TheVariants as refused
-use Rattle.cql_stream.specs.declared.stream.Stream.{Stream as stream}
+use Rattle.cql_value.specs.declared.refusal.StreamRefusal.{StreamRefusal}
+use Rattle.cql_value.specs.declared.refusal.StreamRefusal.TheVariants as refused
+use Rattle.cql_value.specs.declared.stream.Stream.{Stream as stream}
 use Rattle.cql_tenants.specs.declared.tenants.Tenant.{Tenant}
-use Rattle.cql_stream.specs.Named.{Named, same_name, find_named, change_named}
+use Rattle.cql_value.specs.Named.{Named, same_name, find_named, change_named}
 use Rattle.cql_tenants.specs.Home.{no_home, nothing_made, is_place, home_at, change_home, tenant_named, stream_at, opened_at, is_of, grant_of, without_grant}
 use Rattle.cql_tenants.specs.Checks.{grant_refused, taken_refused, make_refused, grantee_refused}
-use Rattle.cql_stream.specs.Taking.{put_refused, beat_refused, opens}
+use Rattle.cql_value.specs.Taking.{put_refused, beat_refused, opens}
 use Rattle.cql_window.specs.RowPlaces.{at_places}
 use Rattle.cql_window.specs.Chosen.{shown_places, is_shown}
 use Rattle.cql_tenants.specs.Directory.{revoke_from, with_stream, with_time, with_grant, new_grant, grant_to}

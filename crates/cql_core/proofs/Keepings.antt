@@ -6,7 +6,7 @@ use Rattle.cql_window.specs.Window.{charge}
 use Rattle.cql_window.specs.Through.{wide_window}
 use Rattle.cql_plan.specs.declared.plan.Input.{Input}
 use Rattle.cql_tenants.specs.declared.home.Home.{Home}
-use Rattle.cql_stream.specs.Named.{Named, each}
+use Rattle.cql_value.specs.Named.{Named, each}
 use Rattle.cql_core.specs.Source.{Source, BoundInput, BoundPlan}
 use Rattle.cql_core.specs.Language.{Language, IsLanguage, bare}
 use Rattle.cql_core.specs.Machine.{Live, State, queries_at}

@@ -6,7 +6,7 @@ use Rattle.cql_value.specs.Element.{Element}
 use Rattle.cql_plan.specs.declared.plan.Input.{Input}
 use Rattle.cql_plan.specs.declared.plan.Planned.{Planned}
 use Rattle.cql_tenants.specs.declared.home.Home.{Home}
-use Rattle.cql_stream.specs.Named.{Named, same_name, find_named, change_named, remove_named, each}
+use Rattle.cql_value.specs.Named.{Named, same_name, find_named, change_named, remove_named, each}
 use Rattle.cql_tenants.specs.Readable.{StreamSeen}
 use Rattle.cql_core.specs.declared.refusal.Refusal.{Refusal}
 use Rattle.cql_core.specs.Source.{Source, Found, source_of, same_source, seen_alone_of, schemas, owner_of, BoundInput, BoundPlan, bound_input, bound}

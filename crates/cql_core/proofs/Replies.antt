@@ -3,8 +3,8 @@ use Rattle.std.proofs.Common.{◌≡◌, ℕ, zero, suc, Bool, true, false, eqb,
 use Rattle.std.specs.Prelude.{Option, Some, None, if◌then◌else◌, nat_lt}
 use Rattle.std.proofs.lemmas.List.{length-map}
 use Rattle.cql_tenants.specs.declared.tenants.Tenant.{Tenant}
-use Rattle.cql_stream.specs.declared.stream.Stream.{Stream as stream}
-use Rattle.cql_stream.specs.Named.{Named}
+use Rattle.cql_value.specs.declared.stream.Stream.{Stream as stream}
+use Rattle.cql_value.specs.Named.{Named}
 use Rattle.cql_window.specs.RowPlaces.{at_places}
 use Rattle.cql_tenants.specs.declared.home.Home.{Home}
 use Rattle.cql_tenants.specs.Home.{empty_home, is_place, stream_at}

@@ -10,7 +10,7 @@ use Rattle.cql_plan.specs.declared.plan.Input.{Input}
 use Rattle.cql_plan.specs.declared.plan.Planned.{Planned}
 use Rattle.cql_plan.specs.Seen.{alone, seen_alone, widened_by, widened, widened_plan}
 use Rattle.cql_tenants.specs.declared.home.Home.{Home}
-use Rattle.cql_stream.specs.Named.{Named, same_name, change_named, each}
+use Rattle.cql_value.specs.Named.{Named, same_name, change_named, each}
 use Rattle.cql_tenants.specs.Readable.{StreamSeen}
 use Rattle.cql_core.specs.declared.refusal.Refusal.{Refusal}
 use Rattle.cql_core.specs.Source.{Source, source_of, same_source, Found, seen_alone_of, schemas, seen_at, columns_at, BoundInput, BoundPlan, owner_of, bound_input, bound}

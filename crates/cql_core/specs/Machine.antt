@@ -7,7 +7,7 @@ use Rattle.cql_store.specs.Held.{Held, opened, fed, advanced, pinned}
 use Rattle.cql_eval.specs.Pin.{PinSeen}
 use Rattle.cql_tenants.specs.declared.home.Home.{Home}
 use Rattle.cql_tenants.specs.declared.tenants.Tenant.{Tenant}
-use Rattle.cql_stream.specs.Named.{Named, find_named, change_named, remove_named, each}
+use Rattle.cql_value.specs.Named.{Named, find_named, change_named, remove_named, each}
 use Rattle.cql_tenants.specs.Home.{nothing_made, is_place, home_at, tenant_named}
 use Rattle.cql_tenants.specs.Readable.{own_stream, read_stream}
 use Rattle.cql_core.specs.declared.command.Command.{Command}

@@ -8,15 +8,15 @@ use Rattle.cql_value.specs.Name.{is_name}
 use Rattle.cql_window.specs.Window.{charge}
 use Rattle.cql_window.specs.Pin.{Pinned}
 use Rattle.cql_tenants.specs.Granted.{ReadStream}
-use Rattle.cql_stream.specs.declared.refusal.StreamRefusal.{StreamRefusal}
-use Rattle.cql_stream.specs.declared.refusal.StreamRefusal.TheVariants as refused
-use Rattle.cql_stream.specs.declared.stream.Stream.{Stream as stream}
+use Rattle.cql_value.specs.declared.refusal.StreamRefusal.{StreamRefusal}
+use Rattle.cql_value.specs.declared.refusal.StreamRefusal.TheVariants as refused
+use Rattle.cql_value.specs.declared.stream.Stream.{Stream as stream}
 use Rattle.cql_tenants.specs.declared.tenants.Quotas.{Quotas}
 use Rattle.cql_tenants.specs.declared.tenants.Tenant.{Tenant}
-use Rattle.cql_stream.specs.Named.{Named, same_name, find_named, change_named, remove_named, each}
+use Rattle.cql_value.specs.Named.{Named, same_name, find_named, change_named, remove_named, each}
 use Rattle.cql_window.specs.Chosen.{is_shown}
 use Rattle.cql_tenants.specs.Home.{no_home}
-use Rattle.cql_stream.specs.Taking.{put_refused, beat_refused, opens}
+use Rattle.cql_value.specs.Taking.{put_refused, beat_refused, opens}
 use Rattle.cql_tenants.specs.Readable.{StreamSeen, own_stream, named_columns}
 use Rattle.cql_core.specs.declared.command.ColumnText.{ColumnText}
 use Rattle.cql_core.specs.declared.command.Command.{Command}

@@ -2,7 +2,7 @@
 use Rattle.std.specs.Prelude.{ℕ, Bool, false, ◌&&◌, ◌==◌, List, [], ◌∷◌, ◌++◌, Option, Some, None, is_some, if◌then◌else◌}
 use Rattle.cql_value.specs.Element.{Element}
 use Rattle.cql_tenants.specs.declared.home.Home.{Home}
-use Rattle.cql_stream.specs.declared.stream.Stream.{Stream as stream}
+use Rattle.cql_value.specs.declared.stream.Stream.{Stream as stream}
 use Rattle.cql_window.specs.RowPlaces.{at_places}
 use Rattle.cql_window.specs.Chosen.{shown_places}
 use Rattle.cql_tenants.specs.Home.{is_place, home_at, tenant_named, stream_at, grant_of}

@@ -8,19 +8,19 @@ use Rattle.std.proofs.lemmas.List.Folds.{find-append}
 use Rattle.std.proofs.lemmas.Bool.{and_parts}
 use Rattle.cql_value.specs.declared.schema.Column.{Column}
 use Rattle.cql_tenants.specs.declared.tenants.Tenant.{Tenant}
-use Rattle.cql_stream.specs.declared.refusal.StreamRefusal.{StreamRefusal}
-use Rattle.cql_stream.specs.declared.refusal.StreamRefusal.TheVariants.{UnknownTenant, SelfGrant, AlreadyGranted, BadGrantColumns}
-use Rattle.cql_stream.specs.Named.{Named, same_name, find_named, change_named}
+use Rattle.cql_value.specs.declared.refusal.StreamRefusal.{StreamRefusal}
+use Rattle.cql_value.specs.declared.refusal.StreamRefusal.TheVariants.{UnknownTenant, SelfGrant, AlreadyGranted, BadGrantColumns}
+use Rattle.cql_value.specs.Named.{Named, same_name, find_named, change_named}
 use Rattle.cql_window.specs.RowPlaces.{at_places}
 use Rattle.cql_window.specs.Chosen.{is_shown}
 use Rattle.cql_tenants.specs.Home.{Home, Stream, Grant, nothing_made, is_place, home_at, tenant_named, stream_at, is_of, grant_of, without_grant}
 use Rattle.cql_tenants.specs.Checks.{grantee_refused, grant_refused}
 use Rattle.cql_tenants.specs.Directory.{StreamCommand, Make, Share, Revoke, Put, Beat, with_stream, with_time, with_grant, place_at, grant_over, grant_to, new_grant, revoke_from, refused, done, streams_after}
-use Rattle.cql_stream.specs.Taking.{opens}
+use Rattle.cql_value.specs.Taking.{opens}
 use Rattle.cql_tenants.specs.Law.{IsGrantOf, AreOfStreams, IsGrantLaw, directory_from}
 use Rattle.cql_window.proofs.Choices.{shown_within}
 use Rattle.cql_tenants.proofs.Kept.{Has, still, grow_at, streams_stay, timed, made}
-use Rattle.cql_stream.proofs.Places.{name_eq, name_same}
+use Rattle.cql_value.proofs.Places.{name_eq, name_same}
 
 -- the stream of a grant is there, and the grant shows its columns
 abbrev pub Shown : List Home → ℕ → List ℕ → Grant → Type 0

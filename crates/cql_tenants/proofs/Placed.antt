@@ -4,13 +4,13 @@ use Rattle.std.specs.Prelude.{Some, Result, Ok, Err, IfSome, OnOk, OnErr, if◌t
 use Rattle.std.specs.List.{AllByRecursion, filter}
 use Rattle.cql_value.specs.declared.schema.Column.{Column}
 use Rattle.cql_tenants.specs.declared.tenants.Tenant.{Tenant}
-use Rattle.cql_stream.specs.Named.{Named, place_of, change_named}
+use Rattle.cql_value.specs.Named.{Named, place_of, change_named}
 use Rattle.cql_tenants.specs.Home.{Home, Stream, Grant, nothing_made, home_at, opened_at, is_of, without_grant}
 use Rattle.cql_tenants.specs.Directory.{with_stream, with_grant}
-use Rattle.cql_stream.specs.Taking.{opens}
+use Rattle.cql_value.specs.Taking.{opens}
 use Rattle.cql_tenants.specs.Law.{IsPlaced, ArePlaced}
 use Rattle.cql_tenants.proofs.Kept.{grow_at}
-use Rattle.cql_stream.proofs.Places.{place_change, place_push, clock_at}
+use Rattle.cql_value.proofs.Places.{place_change, place_push, clock_at}
 use Rattle.cql_tenants.proofs.Grants.{no_grants}
 
 -- ---- what holds of each

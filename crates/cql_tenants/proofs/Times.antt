@@ -3,10 +3,10 @@ use Rattle.std.proofs.Common.{◌≡◌, ℕ, Bool, true, false, eqb, List, refl
 use Rattle.std.specs.Prelude.{Option, Some, None, IfSome, option_map, unwrap_or, if◌then◌else◌}
 use Rattle.std.proofs.lemmas.Bool.{and_parts}
 use Rattle.std.proofs.lemmas.Bool.Decides.{nat_tests}
-use Rattle.cql_stream.specs.Named.{same_name}
+use Rattle.cql_value.specs.Named.{same_name}
 use Rattle.cql_tenants.specs.Home.{Home, Stream, Grant, is_place, home_at, stream_at, opened_at, is_of, grant_of}
 use Rattle.cql_tenants.specs.Readable.{StreamSeen, owner_meant, own_found, granted_found, found_of, found}
-use Rattle.cql_stream.proofs.Places.{name_eq}
+use Rattle.cql_value.proofs.Places.{name_eq}
 use Rattle.cql_tenants.proofs.Grants.{find_passes}
 
 abbrev own_seen : ℕ → Stream → StreamSeen

@@ -2,14 +2,14 @@
 use Rattle.std.specs.Prelude.{ℕ, ◌+◌, List, [], ◌∷◌, ◌++◌, Option, Some, None, option_map, unwrap_or, is_none, is_some, if◌then◌else◌}
 use Rattle.cql_value.specs.declared.value.Value.{Value}
 use Rattle.cql_value.specs.declared.schema.Column.{Column}
-use Rattle.cql_stream.specs.declared.refusal.StreamRefusal.{StreamRefusal}
-use Rattle.cql_stream.specs.declared.refusal.StreamRefusal.TheVariants.{UnknownTenant}
-use Rattle.cql_stream.specs.Named.{change_named, place_of}
+use Rattle.cql_value.specs.declared.refusal.StreamRefusal.{StreamRefusal}
+use Rattle.cql_value.specs.declared.refusal.StreamRefusal.TheVariants.{UnknownTenant}
+use Rattle.cql_value.specs.Named.{change_named, place_of}
 use Rattle.cql_window.specs.RowPlaces.{at_places}
 use Rattle.cql_window.specs.Chosen.{shown_places}
 use Rattle.cql_tenants.specs.Home.{Home, Stream, Grant, is_place, home_at, change_home, tenant_named, stream_at, without_grant}
 use Rattle.cql_tenants.specs.Checks.{make_refused, grant_refused, revoke_refused}
-use Rattle.cql_stream.specs.Taking.{put_refused, beat_refused, opens}
+use Rattle.cql_value.specs.Taking.{put_refused, beat_refused, opens}
 
 -- a command on streams; the columns of a new stream are its schema where they have one, and those of a grant are names
 pub data StreamCommand : Type 0 where

@@ -2,7 +2,7 @@
 use Rattle.std.specs.Prelude.{◌≡◌, ◌<◌, ℕ, List, [], ◌∷◌, length, Some, is_none, if◌then◌else◌}
 use Rattle.std.specs.List.{AllByRecursion}
 use Rattle.cql_tenants.specs.declared.tenants.Tenant.{Tenant}
-use Rattle.cql_stream.specs.Named.{place_of}
+use Rattle.cql_value.specs.Named.{place_of}
 use Rattle.cql_window.specs.RowPlaces.{at_places}
 use Rattle.cql_tenants.specs.Home.{Home, Stream, Grant, nothing_made, home_at, stream_at, grant_of}
 use Rattle.cql_tenants.specs.Directory.{StreamCommand, refused, done, streams_after}

@@ -1,12 +1,12 @@
 -- What a tenant reads: its own streams, and those granted to it.
 use Rattle.std.specs.Prelude.{ℕ, Bool, false, ◌==◌, List, [], length, map, ◌++◌, Option, Some, None, option_map, Result, Ok, Err, if◌then◌else◌}
 use Rattle.cql_value.specs.declared.schema.Column.{Column}
-use Rattle.cql_stream.specs.declared.refusal.StreamRefusal.{StreamRefusal}
-use Rattle.cql_stream.specs.declared.refusal.StreamRefusal.TheVariants.{UnknownTenant}
+use Rattle.cql_value.specs.declared.refusal.StreamRefusal.{StreamRefusal}
+use Rattle.cql_value.specs.declared.refusal.StreamRefusal.TheVariants.{UnknownTenant}
 use Rattle.cql_tenants.specs.declared.readable.ReadableStream.{ReadableStream}
 use Rattle.cql_tenants.specs.declared.readable.FoundStream.{FoundStream}
 use Rattle.cql_tenants.specs.declared.readable.OwnStream.{OwnStream}
-use Rattle.cql_stream.specs.Named.{Named}
+use Rattle.cql_value.specs.Named.{Named}
 pub use Rattle.cql_tenants.specs.Granted.{ReadStream, named_columns}
 use Rattle.cql_window.specs.RowPlaces.{all_places}
 use Rattle.cql_tenants.specs.Home.{Home, Stream, Grant, is_place, home_at, tenant_named, stream_at, opened_at, grant_of}

@@ -1,8 +1,8 @@
 // The directory of all streams and grants.
 ghost use Rattle.std.specs.Prelude.{◌≡◌, ℕ, ◌<◌, ◌≤◌, ◌^◌, true, List, IfOk, IfSome, OnOk, OnErr, None, Some, option_copied, option_map, length, map, slice_get};
 ghost use Rattle.std.specs.Result.{result_err};
-ghost use Rattle.cql_stream.specs.Clock.{time_fault};
-ghost use Rattle.cql_stream.specs.Named.{place_of};
+ghost use Rattle.cql_value.specs.Clock.{time_fault};
+ghost use Rattle.cql_value.specs.Named.{place_of};
 ghost use Rattle.cql_tenants.specs.Home.{nothing_made, is_place, home_at, change_home, tenant_named, stream_at, grant_of};
 ghost use Rattle.cql_window.specs.RowPlaces.{at_places, AreWithin};
 ghost use Rattle.cql_window.specs.Chosen.{is_shown};
@@ -18,8 +18,7 @@ use crate::readable::{
     own_shown,
 };
 use crate::tenants::{Quotas, TenantId, TenantTable};
-use cql_stream::StreamRefusal;
-use cql_value::{Items, Row, Schema, Text};
+use cql_value::{Items, Row, Schema, StreamRefusal, Text};
 use cql_window::{all_places, is_shown};
 use std::alloc::{AllocError, Global};
 use std::marker::Model;

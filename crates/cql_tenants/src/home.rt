@@ -10,9 +10,8 @@ use crate::grant::Grant;
 use crate::granted::Granted;
 use crate::shared::Shared;
 use crate::tenants::{Quotas, Tenant};
-use cql_stream::{Clock, Shelf, Stream, StreamRefusal};
 use cql_value::name::is_name;
-use cql_value::{Name, Schema};
+use cql_value::{Clock, Name, Schema, Shelf, Stream, StreamRefusal};
 use std::alloc::{AllocError, Global};
 use std::sync::Arc;
 

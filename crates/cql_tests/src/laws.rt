@@ -18,11 +18,11 @@ use cql_plan::law::{
     column_law, first_fault_law, form_law, plain_law, ports_law, qualified_law, seen_law,
 };
 use cql_store::streams_law::remove_law;
-use cql_stream::law::place_law;
 use cql_syntax::reserved_law;
 use cql_tenants::law::{directory_law, grant_law};
 use cql_text::read_law;
 use cql_value::law::types_law;
+use cql_value::stream_law::place_law;
 use cql_window::laws::{all_law, held_law, parts_law, range_law, rows_law};
 use cql_window::places_law::{all_places_law, chain_law, narrow_law, twice_law, wide_law};
 

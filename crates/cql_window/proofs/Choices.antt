@@ -10,7 +10,7 @@ use Rattle.cql_value.specs.Schema.{are_distinct, is_schema}
 use Rattle.cql_window.specs.RowPlaces.{at_places}
 use Rattle.cql_window.specs.Chosen.{column_place, are_unlike, is_choice, is_shown, shown_places}
 use Rattle.cql_window.proofs.Picks.{at_all, all_within}
-use Rattle.cql_window.proofs.Positions.{first}
+use Rattle.cql_value.proofs.Positions.{first}
 
 -- THE PLACE OF A NAME
 -- there is a column of that name at the place

@@ -2,9 +2,9 @@ use Rattle.std.proofs.lemmas.Grind.{common_steps}
 use Rattle.std.proofs.Common.{◌≡◌, ℕ, length, ap, sym, subst, ◌∙◌, arith}
 use Rattle.std.specs.Prelude.{None, Some, IfSome, option_map, slice_get}
 use Rattle.cql_window.specs.RowPlaces.{at_places, AreWithin}
-use Rattle.cql_stream.specs.Named.{place_of}
+use Rattle.cql_value.specs.Named.{place_of}
 use Rattle.cql_tenants.specs.Home.{home_at, stream_at, opened_at, grant_of}
-use Rattle.cql_stream.proofs.Places.{no_place, clock_at}
+use Rattle.cql_value.proofs.Places.{no_place, clock_at}
 use Rattle.cql_tenants.proofs.Grants.{Given, given_at}
 use Rattle.cql_tenants.proofs.directory.Directory.granted_found.Goals as goal
 

@@ -2,11 +2,11 @@ use Rattle.std.proofs.lemmas.Grind.{common_steps}
 use Rattle.std.proofs.Common.{◌≡◌, true, false, eqb, length, ap, sym, subst, ◌∙◌, arith}
 use Rattle.std.specs.Prelude.{Some, IfSome, option_map, if◌then◌else◌}
 use Rattle.std.proofs.lemmas.Bool.Decides.{nat_tests}
-use Rattle.cql_stream.specs.Named.{find_named}
+use Rattle.cql_value.specs.Named.{find_named}
 use Rattle.cql_window.specs.RowPlaces.{at_places, AreWithin}
 use Rattle.cql_tenants.specs.Home.{home_at, stream_at, grant_of}
 use Rattle.cql_tenants.specs.Readable.{StreamSeen, seen_of, own_places, granted_places}
-use Rattle.cql_stream.proofs.Places.{no_place, found_at}
+use Rattle.cql_value.proofs.Places.{no_place, found_at}
 use Rattle.cql_window.proofs.Picks.{at_all, all_within}
 use Rattle.cql_tenants.proofs.directory.Directory.own_found.Goals as goal
 

@@ -1,5 +1,0 @@
-pub mod Clock
-pub mod Named
-pub mod Refusal
-pub mod Taking
-pub mod Law

@@ -16,11 +16,6 @@ pub mod Later
 pub mod Told
 pub mod Search
 pub mod Lifted
-pub mod Pairs
-pub mod Towers
-pub mod Laws
-pub mod Rising
-pub mod Marked
 pub mod StreamsCrosses
 pub mod Moved
 pub mod Added

@@ -3,8 +3,8 @@ use Rattle.std.proofs.Common.{◌≡◌, ◌≢◌, inl, inr, ℕ, zero, suc, �
 use Rattle.std.proofs.lemmas.Bool.Decides.{nat_tests}
 use Rattle.std.proofs.lemmas.Bool.{cases_lt, cases_eq}
 use Rattle.std.proofs.lemmas.List.{get_or-set_same, get_or-set_other, get_or_past}
-use Rattle.cql_store.specs.Levels.{changed_where}
-use Rattle.cql_store.proofs.Marked.{changed_at, length-changed_where}
+use Rattle.cql_bag.specs.Levels.{changed_where}
+use Rattle.cql_bag.proofs.Marked.{changed_at, length-changed_where}
 use Rattle.cql_store.specs.declared.stub.Stub.{Stub}
 use Rattle.cql_store.specs.Places.{Slots, slot_of, at_some, held_count, emptied, marked, greatest, limit, first_at, limit_at, IsLive, AreOf, AreKnown, AreWithin}
 use Rattle.cql_store.proofs.Keeps.{slot_map, marked_not}

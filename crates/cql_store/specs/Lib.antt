@@ -3,6 +3,5 @@ pub mod Calls
 pub mod Held
 pub mod Next
 pub mod Places
-pub mod Levels
 pub mod StreamsLaw
 pub mod Stores

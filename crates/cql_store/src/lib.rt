@@ -21,7 +21,6 @@
 mod coming;
 mod kept;
 pub mod law;
-mod least;
 mod made;
 mod moves;
 mod needs;

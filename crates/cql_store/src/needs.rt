@@ -1,12 +1,12 @@
 // What the stubs need of the store's rows, without a look at them.
 ghost use Rattle.std.specs.Prelude.{◌≡◌, ◌≤◌, ◌<◌, ◌+◌, [], IfSome, IfNone, IsSome, IsTrue, OnOk, Some, length, set, slice_index, map, drop};
 ghost use Rattle.std.specs.List.{All, Contains};
-ghost use Rattle.cql_store.specs.Levels.{changed_where};
+ghost use Rattle.cql_bag.specs.Levels.{changed_where};
 ghost use Rattle.cql_store.specs.declared.stub.Stub.{Stub as StubValue};
 ghost use Rattle.cql_store.specs.Places.{greatest, AreLonger, AreKnown, AreOf, AreWithin, IsKnown, IsStore, Slots, all_shown, at_some, emptied, limit_at, marked, live_count, slot_of};
 
-use crate::least::Least;
 use crate::stub::{Stub, mark};
+use cql_bag::Least;
 use cql_chunks::{Chunks, Waste};
 use slab::Slab;
 use std::alloc::{AllocError, Global};

@@ -7,7 +7,7 @@ use Rattle.cql_tenants.specs.Tenants.{is_within}
 use Rattle.cql_asked.specs.declared.rules.TenantRule.{TenantRule}
 use Rattle.cql_asked.specs.declared.rules.BrokenRule.{BrokenRule}
 use Rattle.cql_asked.specs.declared.rules.BrokenRule.TheVariants as broken
-use Rattle.cql_asked.specs.Tree.{array_at, has_only}
+use Rattle.cql_lines.specs.Tree.{array_at, has_only}
 use Rattle.cql_asked.specs.Rules.{rule_of_tenant, tenant_breaks, rules_from, twin_of, twin_breaks, twins_from, items_len, rule_of_items, rule_in_list, rule_of_tree, Breaks}
 
 -- none of these is that

@@ -3,9 +3,6 @@ pub mod Fault
 pub mod Login
 pub mod Named
 pub mod Put
-pub mod Reading
 pub mod Rules
 pub mod Table
 pub mod Telling
-pub mod Tree
-pub mod View

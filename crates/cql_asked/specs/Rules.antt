@@ -12,7 +12,7 @@ use Rattle.cql_asked.specs.declared.rules.TenantRule.{TenantRule}
 use Rattle.cql_asked.specs.declared.rules.TenantRule.TheVariants as rule
 use Rattle.cql_asked.specs.declared.rules.BrokenRule.{BrokenRule}
 use Rattle.cql_asked.specs.declared.rules.BrokenRule.TheVariants as broken
-use Rattle.cql_asked.specs.Tree.{text_at, whole_at, array_at, has_only}
+use Rattle.cql_lines.specs.Tree.{text_at, whole_at, array_at, has_only}
 use Rattle.cql_asked.specs.Table.{tenant_keys}
 
 -- the key as it is written

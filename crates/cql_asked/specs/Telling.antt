@@ -2,7 +2,7 @@
 use Rattle.std.specs.Prelude.{◌≡◌, ⊤, ℕ, List, Option, Some, None, Result, Ok, Err}
 use Rattle.cql_asked.specs.declared.tenants.TenantsFault.{TenantsFault}
 use Rattle.cql_asked.specs.declared.tenants.TenantsFault.TheVariants as fault
-use Rattle.cql_asked.specs.Tree.{tree_of}
+use Rattle.cql_lines.specs.Tree.{tree_of}
 use Rattle.cql_asked.specs.Rules.{IsJson, Breaks}
 
 -- there is no tree, and the rule is that; or memory was refused

@@ -1,20 +1,20 @@
 //! The command of a line.
 ghost use Rattle.std.specs.Prelude.{◌≡◌, map, Some, IfOk, ok_or, codes};
-ghost use Rattle.cql_asked.specs.View.{view, items_view};
+ghost use Rattle.cql_lines.specs.View.{view, items_view};
 ghost use Rattle.serde_json.specs.Find.{as_str};
 ghost use Rattle.serde_json.specs.Read.{read};
-ghost use Rattle.cql_asked.specs.Tree.{text_at, optional_text, all_of};
+ghost use Rattle.cql_lines.specs.Tree.{text_at, optional_text, all_of};
 ghost use Rattle.cql_asked.specs.Command.{word_of, keys_of, value_of, column_of, stream_of, named_columns_of, grant_of, revoke_of, put_of, beat_of, query_of, fetch_of, ack_of, drop_of, of_word, of_keys, of_data, command_of};
 ghost use Rattle.cql_asked.specs.Fault.{Means};
 
 use crate::fault::LineFault;
 use crate::named::Named;
 use crate::put::{NoPut, read_put};
-use crate::reading::{line_text, read_tree};
-use crate::tree::{
+use cql_core::{ColumnText, Command};
+use cql_lines::reading::{line_text, read_tree};
+use cql_lines::tree::{
     Tree, array_at, has_only, optional_array, optional_text, optional_whole, text_at, whole_at,
 };
-use cql_core::{ColumnText, Command};
 use cql_value::{Items, Row, Text, Value};
 use json::Scratch;
 use std::alloc::{AllocError, Global};

@@ -6,11 +6,8 @@ mod fault;
 mod login;
 mod named;
 mod put;
-mod reading;
 mod rules;
 mod tenants;
-mod tree;
-mod values;
 
 pub use command::{read_addressed, read_command};
 pub use fault::LineFault;

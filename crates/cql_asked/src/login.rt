@@ -6,7 +6,7 @@ ghost use Rattle.serde_json.specs.View.{view};
 ghost use Rattle.cql_asked.specs.Login.{is_key_at, login_with, login_in, login_of, named_in, named_of, LogsIn};
 
 use crate::fault::LineFault;
-use crate::values::{has_only, read_value, text_at};
+use cql_lines::values::{has_only, read_value, text_at};
 use cql_tenants::{TenantId, TenantTable};
 use serde_json::Value as Json;
 use std::alloc::{AllocError, Global};

@@ -10,9 +10,9 @@ ghost use Rattle.cql_asked.specs.Command.{of_data};
 ghost use Rattle.cql_asked.specs.Put.{Reads, ReadsValue, ReadsRow, ReadsItems, ReadsMembers, ReadsPut, Holds, Takes, IsCall};
 
 use crate::named::Named;
-use crate::reading::read_number;
-use crate::tree::Number;
 use cql_core::Command;
+use cql_lines::reading::read_number;
+use cql_lines::tree::Number;
 use cql_lines::{NotPlain, Reader};
 use cql_value::{Row, Text, Value};
 use json::Token;

@@ -3,11 +3,11 @@ ghost use Rattle.std.specs.Prelude.{◌≡◌, ◌<◌, length, codes, is_some, 
 ghost use Rattle.serde_json.specs.Find.{get, as_object};
 ghost use Rattle.serde_json.specs.View.{view, items_view};
 ghost use Rattle.cql_tenants.specs.Tenants.{is_within};
-ghost use Rattle.cql_asked.specs.Tree.{text_at, whole_at};
+ghost use Rattle.cql_lines.specs.Tree.{text_at, whole_at};
 ghost use Rattle.cql_asked.specs.Rules.{word_of, is_number, is_key, is_named, key_passes, number_rule, keys_rule, rule_of_tenant, rules_from, has_name, named_from, twin_of, twins_from, rule_of_items, rule_of_tree};
 
 use crate::tenants::TENANT_KEYS;
-use crate::values::{array_at, has_only, text_at, whole_at};
+use cql_lines::values::{array_at, has_only, text_at, whole_at};
 use cql_value::name::is_name;
 use serde_json::Value as Json;
 use thiserror::Error;

@@ -1,12 +1,12 @@
 //! The table of tenants that a line gives.
 ghost use Rattle.std.specs.Prelude.{◌≡◌, Some, None, IfOk, IfErr, Err, option_and_then};
 ghost use Rattle.serde_json.specs.View.{view, items_view};
-ghost use Rattle.cql_asked.specs.Tree.{tree_of, all_of};
+ghost use Rattle.cql_lines.specs.Tree.{tree_of, all_of};
 ghost use Rattle.cql_asked.specs.Table.{quotas_of, name_of, tenant_of, as_table, tenants_of, table_of, Gives};
 ghost use Rattle.cql_asked.specs.Telling.{IsNoTree, Tells};
 
 use crate::rules::{BrokenRule, rule_of_tree};
-use crate::values::{array_at, has_only, text_at, whole_at};
+use cql_lines::values::{array_at, has_only, text_at, whole_at};
 use cql_tenants::{BadTenants, Quotas, Tenant, TenantTable};
 use cql_value::{Name, NameError, Text};
 use serde_json::Value as Json;

@@ -3,7 +3,7 @@ use Rattle.std.proofs.Common.{◌≡◌, ℕ, List, Option, None, Result, Ok, Er
 use Rattle.std.specs.Prelude.{MatchResult}
 use Rattle.cql_tenants.specs.declared.tenants.Tenant.{Tenant}
 use Rattle.cql_lines.specs.First.{IsFirstLine}
-use Rattle.cql_asked.specs.Tree.{tree_of}
+use Rattle.cql_lines.specs.Tree.{tree_of}
 use Rattle.cql_wire.specs.declared.programs.TableFault.{TableFault}
 use Rattle.cql_wire.specs.declared.programs.TableFault.TheVariants as table
 use Rattle.cql_wire.specs.Table.{TellsBehind, EndsBehind, GivesTable, GivesNone}

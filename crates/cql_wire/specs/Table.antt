@@ -3,7 +3,7 @@ use Rattle.std.specs.Prelude.{◌≡◌, ◌⊎◌, ◌<◌, ◌-◌, ⊤, ℕ, 
 use Rattle.std.specs.Io.KnownBytes.{Consumes, IsAtEnd}
 use Rattle.cql_tenants.specs.declared.tenants.Tenant.{Tenant}
 use Rattle.cql_lines.specs.First.{IsFirstLine}
-use Rattle.cql_asked.specs.Tree.{tree_of}
+use Rattle.cql_lines.specs.Tree.{tree_of}
 use Rattle.cql_asked.specs.Table.{table_of}
 use Rattle.cql_asked.specs.Rules.{IsJson, Breaks}
 use Rattle.cql_asked.specs.declared.rules.BrokenRule.{BrokenRule}

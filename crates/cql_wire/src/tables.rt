@@ -2,7 +2,7 @@
 ghost use Rattle.std.specs.Prelude.{◌≡◌, ◌≤◌, ◌-◌, ◌++◌, ◌∷◌, Err, None, false, true, IfOk, IfErr, MatchResult, length};
 ghost use Rattle.std.specs.Io.KnownBytes.{Consumes, IsAtEnd};
 ghost use Rattle.cql_lines.specs.Watched.{inner_of, has_failed};
-ghost use Rattle.cql_asked.specs.Tree.{tree_of};
+ghost use Rattle.cql_lines.specs.Tree.{tree_of};
 ghost use Rattle.cql_asked.specs.Rules.{IsJson};
 ghost use Rattle.cql_wire.specs.declared.programs.TableFault.TheVariants as table;
 ghost use Rattle.cql_wire.specs.Table.{text_of, EndsRest, TellsBehind, EndsBehind, GivesTable, GivesNone};

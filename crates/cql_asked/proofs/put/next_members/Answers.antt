@@ -2,7 +2,7 @@ use Rattle.std.proofs.Common.{◌≡◌, ◌-◌, Some, ◌∙◌, arith}
 use Rattle.json.specs.Json.{read_key, value}
 use Rattle.json.proofs.Grammar.{read_key-shorter}
 use Rattle.serde_json.specs.Data.{put}
-use Rattle.cql_asked.proofs.Turns.{member_read, members_over}
+use Rattle.cql_lines.proofs.Turns.{member_read, members_over}
 use Rattle.cql_asked.proofs.put.next_members.Goals as goal
 
 pub members-preserved : goal.members-preserved

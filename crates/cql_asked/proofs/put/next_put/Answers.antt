@@ -4,7 +4,7 @@ use Rattle.json.specs.Json.{members, value, parse_map}
 use Rattle.json.proofs.Grammar.{value-begin_object}
 use Rattle.serde_json.specs.Data.{object}
 use Rattle.serde_json.specs.Read.{of_json, converted}
-use Rattle.cql_asked.proofs.Turns.{converted-object}
+use Rattle.cql_lines.proofs.Turns.{converted-object}
 use Rattle.cql_asked.proofs.put.next_put.Goals as goal
 
 pub returns : goal.returns

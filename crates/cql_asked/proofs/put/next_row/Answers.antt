@@ -4,7 +4,7 @@ use Rattle.json.specs.Json.{items, value, parse_map}
 use Rattle.json.proofs.Grammar.{value-begin_array}
 use Rattle.serde_json.specs.Data.{array}
 use Rattle.serde_json.specs.Read.{of_json, converted}
-use Rattle.cql_asked.proofs.Turns.{converted-array}
+use Rattle.cql_lines.proofs.Turns.{converted-array}
 use Rattle.cql_asked.proofs.put.next_row.Goals as goal
 
 pub returns-clause-ok : goal.returns-clause-ok

@@ -4,7 +4,7 @@ use Rattle.json.specs.Reads.{token_of}
 use Rattle.serde_json.specs.Data.{number, string}
 use Rattle.serde_json.specs.Read.{number_of}
 use Rattle.serde_json.specs.Find.{as_i64}
-use Rattle.cql_asked.specs.View.{num_view}
+use Rattle.cql_lines.specs.View.{num_view}
 use Rattle.cql_asked.proofs.Puts.{reads_number, reads_string}
 use Rattle.cql_asked.proofs.put.next_value.Goals as goal
 

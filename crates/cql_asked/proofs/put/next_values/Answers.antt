@@ -2,7 +2,7 @@ use Rattle.std.proofs.Common.{◌≡◌, ◌∷◌, ◌-◌, ◌<◌, length, So
 use Rattle.json.specs.Token.{Token}
 use Rattle.json.specs.Json.{after_end_array, value, parse_map}
 use Rattle.serde_json.specs.Data.{no_items, item}
-use Rattle.cql_asked.proofs.Turns.{item_read, items_over}
+use Rattle.cql_lines.proofs.Turns.{item_read, items_over}
 use Rattle.cql_asked.specs.Put.{Reads}
 use Rattle.cql_asked.proofs.Puts.{going_on, items_before, none_before, one_before, all_before, one_more_value}
 use Rattle.cql_asked.proofs.put.next_values.Goals as goal

@@ -3,7 +3,7 @@ use Rattle.std.proofs.Common.{◌≡◌, ℕ, ◌≤◌, length, Some}
 use Rattle.json.specs.Json.{items, value, parse_map}
 use Rattle.serde_json.specs.Data.{Items}
 use Rattle.serde_json.specs.Read.{of_items, converted}
-use Rattle.cql_asked.specs.Tree.{all_of}
+use Rattle.cql_lines.specs.Tree.{all_of}
 use Rattle.cql_asked.specs.Command.{value_of}
 use Rattle.cql_asked.proofs.Puts.{items_before}
 use Rattle.cql_asked.proofs.put.next_values.Given as goal

@@ -4,7 +4,7 @@ use Rattle.json.specs.Lex.{tokens}
 use Rattle.serde_json.specs.Data.{object}
 use Rattle.serde_json.specs.Read.{read}
 use Rattle.cql_asked.specs.Put.{Reads}
-use Rattle.cql_asked.proofs.Turns.{whole_read}
+use Rattle.cql_lines.proofs.Turns.{whole_read}
 use Rattle.cql_asked.proofs.Puts.{called}
 use Rattle.cql_asked.proofs.put.read_put.Goals as goal
 

@@ -1,6 +1,6 @@
 use Rattle.std.proofs.Common.{◌≡◌, true, false, sym, ◌∙◌}
 use Rattle.serde_json.specs.View.{view}
-use Rattle.cql_asked.proofs.Trees.{tree_of-read, tree_of-refused}
+use Rattle.cql_lines.proofs.Trees.{tree_of-read, tree_of-refused}
 use Rattle.cql_asked.proofs.tenants.tree_of.Goals as goal
 
 pub returns-in-Ok-clause-ok : goal.returns-in-Ok-clause-ok

@@ -1,5 +1,5 @@
 use Rattle.std.proofs.Common.{◌≡◌, None, subst}
-use Rattle.cql_asked.specs.Tree.{tree_of}
+use Rattle.cql_lines.specs.Tree.{tree_of}
 use Rattle.cql_asked.specs.Rules.{Breaks}
 use Rattle.cql_asked.proofs.WithTree.{json_has_no_tree}
 use Rattle.cql_wire.proofs.Tabling.{behind}

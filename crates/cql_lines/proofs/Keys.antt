@@ -8,9 +8,9 @@ use Rattle.std.specs.Ordering.{nat_cmp, match_ordering}
 use Rattle.serde_json.specs.Data.{Data, Members, no_members, member, put}
 use Rattle.serde_json.specs.View.{members_view as map_view}
 use Rattle.serde_json.proofs.Views.{Entry as MapEntry}
-use Rattle.cql_asked.specs.Tree.{are_among}
-use Rattle.cql_asked.specs.View.{view, with_members, members_view}
-use Rattle.cql_asked.proofs.Growing.{Entry}
+use Rattle.cql_lines.specs.Tree.{are_among}
+use Rattle.cql_lines.specs.View.{view, with_members, members_view}
+use Rattle.cql_lines.proofs.Growing.{Entry}
 
 list_any-map : (p : List ℕ → Bool) (keys : List (Bor (List ℕ))) → list_any p (map (λ k. k.now) keys) ≡ list_any (λ k. p k.now) keys
 list_any-map p [] = refl

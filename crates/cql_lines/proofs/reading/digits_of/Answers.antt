@@ -1,6 +1,6 @@
 use Rattle.std.proofs.Common.{◌≡◌, ◌==◌, get_or, false, arith}
-use Rattle.cql_asked.proofs.Digits.{of_parsed}
-use Rattle.cql_asked.proofs.reading.digits_of.Goals as goal
+use Rattle.cql_lines.proofs.Digits.{of_parsed}
+use Rattle.cql_lines.proofs.reading.digits_of.Goals as goal
 
 pub returns-in-Ok : goal.returns-in-Ok
 returns-in-Ok c =

@@ -1,8 +1,8 @@
 -- It is left to the members that are left.
 use Rattle.std.proofs.Common.{◌≡◌, map}
 use Rattle.serde_json.specs.View.{members_view}
-use Rattle.cql_asked.specs.Tree.{are_among}
-use Rattle.cql_asked.proofs.values.are_among.Given as goal
+use Rattle.cql_lines.specs.Tree.{are_among}
+use Rattle.cql_lines.proofs.values.are_among.Given as goal
 
 abbrev pub invariant-loop-key : goal.invariant-loop-key
 invariant-loop-key l = are_among (map (λ k. k.now) l.keys) (members_view l.key-iterator) ≡ are_among (map (λ k. k.now) l.keys) (members_view l.members.entries)

@@ -3,12 +3,12 @@ ghost use Rattle.std.specs.Prelude.{◌≡◌, map, option_map, option_and_then,
 ghost use Rattle.std.specs.List.{list_any};
 ghost use Rattle.std.specs.Str.{bytes_eq};
 ghost use Rattle.serde_json.specs.Find.{get, get_member, as_number, as_str, as_array, as_object, as_i64, as_u64};
-ghost use Rattle.cql_asked.specs.Tree.{text_at, whole_at, array_at, optional_text, optional_array, optional_whole, are_among, has_only};
-ghost use Rattle.cql_asked.specs.View.{num_view, view, items_view, members_view};
+ghost use Rattle.cql_lines.specs.Tree.{text_at, whole_at, array_at, optional_text, optional_array, optional_whole, are_among, has_only};
+ghost use Rattle.cql_lines.specs.View.{num_view, view, items_view, members_view};
 
 /// A number of a line.
 #[derive(Clone, Copy, Drop)]
-pub(crate) enum Number {
+pub enum Number {
     /// A whole number of 64 bits without a sign.
     Unsigned(u64),
     /// One below 0, of 64 bits with a sign.
@@ -18,7 +18,8 @@ pub(crate) enum Number {
 }
 
 impl Number {
-    pub(crate) fn as_u64(self) -> Option<u64>
+    /// The number, where it is whole, of 64 bits, and not below 0.
+    pub fn as_u64(self) -> Option<u64>
         ensures { result ≡ as_u64 (num_view self) }
     {
         match self {
@@ -27,7 +28,8 @@ impl Number {
         }
     }
 
-    pub(crate) fn as_i64(self) -> Option<i64>
+    /// The number, where it is whole, of 64 bits with a sign.
+    pub fn as_i64(self) -> Option<i64>
         ensures { result ≡ as_i64 (num_view self) }
     {
         match self {
@@ -45,7 +47,7 @@ impl Number {
 /// The tree of a line. Its texts are the line's own, or unescaped beside it. An object has its
 /// members as they are written: of equal keys the last counts.
 #[derive(Drop)]
-pub(crate) enum Tree<'a> {
+pub enum Tree<'a> {
     Null,
     Bool(bool),
     Number(Number),
@@ -55,7 +57,8 @@ pub(crate) enum Tree<'a> {
 }
 
 impl<'a> Tree<'a> {
-    pub(crate) fn is_object(&self) -> bool
+    /// Whether it is an object.
+    pub fn is_object(&self) -> bool
         ensures { result ≡ is_some (as_object (view self.now)) }
     {
         if let Tree::Object(_) = self {
@@ -65,7 +68,8 @@ impl<'a> Tree<'a> {
         }
     }
 
-    pub(crate) fn as_str(&self) -> Option<&'a str>
+    /// The text that it is, if it is one.
+    pub fn as_str(&self) -> Option<&'a str>
         ensures { option_map (λ s. s.now) result ≡ as_str (view self.now) }
     {
         if let Tree::Text(text) = self {
@@ -75,7 +79,8 @@ impl<'a> Tree<'a> {
         }
     }
 
-    pub(crate) fn as_array(&self) -> Option<&Vec<Tree<'a>>>
+    /// The list that it is, if it is one.
+    pub fn as_array(&self) -> Option<&Vec<Tree<'a>>>
         ensures { option_map (λ v. items_view v.now.items) result ≡ as_array (view self.now) }
     {
         if let Tree::List(items) = self {
@@ -85,7 +90,8 @@ impl<'a> Tree<'a> {
         }
     }
 
-    pub(crate) fn as_i64(&self) -> Option<i64>
+    /// The number that it is, where it is whole, of 64 bits with a sign.
+    pub fn as_i64(&self) -> Option<i64>
         ensures { result ≡ option_and_then as_i64 (as_number (view self.now)) }
     {
         if let Tree::Number(number) = self {
@@ -95,7 +101,8 @@ impl<'a> Tree<'a> {
         }
     }
 
-    pub(crate) fn as_u64(&self) -> Option<u64>
+    /// The number that it is, where it is whole, of 64 bits, and not below 0.
+    pub fn as_u64(&self) -> Option<u64>
         ensures { result ≡ option_and_then as_u64 (as_number (view self.now)) }
     {
         if let Tree::Number(number) = self {
@@ -132,26 +139,29 @@ fn member_at<'v, 'a>(members: &'v Vec<(&'a str, Tree<'a>)>, key: &str) -> Option
     None
 }
 
-pub(crate) fn text_at<'a>(tree: &Tree<'a>, key: &str) -> Option<&'a str>
+/// The text at a key, where this is an object that has one there.
+pub fn text_at<'a>(tree: &Tree<'a>, key: &str) -> Option<&'a str>
     ensures { option_map (λ s. s.now) result ≡ text_at key.now (view tree.now) }
 {
     tree.get(key)?.as_str()
 }
 
-pub(crate) fn whole_at(tree: &Tree<'_>, key: &str) -> Option<u64>
+/// The whole number at a key, where this is an object that has one there, not below 0.
+pub fn whole_at(tree: &Tree<'_>, key: &str) -> Option<u64>
     ensures { result ≡ whole_at key.now (view tree.now) }
 {
     tree.get(key)?.as_u64()
 }
 
-pub(crate) fn array_at<'v, 'a>(tree: &'v Tree<'a>, key: &str) -> Option<&'v Vec<Tree<'a>>>
+/// The list at a key, where this is an object that has one there.
+pub fn array_at<'v, 'a>(tree: &'v Tree<'a>, key: &str) -> Option<&'v Vec<Tree<'a>>>
     ensures { option_map (λ v. items_view v.now.items) result ≡ array_at key.now (view tree.now) }
 {
     tree.get(key)?.as_array()
 }
 
-// The text at a key that may be missing, or None where something else is there.
-pub(crate) fn optional_text<'a>(tree: &Tree<'a>, key: &str) -> Option<Option<&'a str>>
+/// The text at a key that may be missing, or None where something else is there.
+pub fn optional_text<'a>(tree: &Tree<'a>, key: &str) -> Option<Option<&'a str>>
     ensures { option_map (λ o. option_map (λ s. s.now) o) result ≡ optional_text key.now (view tree.now) }
 {
     match tree.get(key) {
@@ -160,11 +170,8 @@ pub(crate) fn optional_text<'a>(tree: &Tree<'a>, key: &str) -> Option<Option<&'a
     }
 }
 
-// The list at a key that may be missing, or None where something else is there.
-pub(crate) fn optional_array<'v, 'a>(
-    tree: &'v Tree<'a>,
-    key: &str,
-) -> Option<Option<&'v Vec<Tree<'a>>>>
+/// The list at a key that may be missing, or None where something else is there.
+pub fn optional_array<'v, 'a>(tree: &'v Tree<'a>, key: &str) -> Option<Option<&'v Vec<Tree<'a>>>>
     ensures { option_map (λ o. option_map (λ v. items_view v.now.items) o) result ≡ optional_array key.now (view tree.now) }
 {
     match tree.get(key) {
@@ -173,8 +180,8 @@ pub(crate) fn optional_array<'v, 'a>(
     }
 }
 
-// The whole number at a key that may be missing, or None where something else is there.
-pub(crate) fn optional_whole(tree: &Tree<'_>, key: &str) -> Option<Option<u64>>
+/// The whole number at a key that may be missing, or None where something else is there.
+pub fn optional_whole(tree: &Tree<'_>, key: &str) -> Option<Option<u64>>
     ensures { result ≡ optional_whole key.now (view tree.now) }
 {
     match tree.get(key) {
@@ -201,8 +208,8 @@ fn are_among(members: &[(&str, Tree<'_>)], keys: &[&str]) -> bool
     true
 }
 
-// Whether it is an object that has no keys but these.
-pub(crate) fn has_only(tree: &Tree<'_>, keys: &[&str]) -> bool
+/// Whether it is an object that has no keys but these.
+pub fn has_only(tree: &Tree<'_>, keys: &[&str]) -> bool
     ensures { result ≡ has_only (map (λ k. k.now) keys.now) (view tree.now) }
 {
     if let Tree::Object(members) = tree {

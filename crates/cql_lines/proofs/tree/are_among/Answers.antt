@@ -1,7 +1,7 @@
-use Rattle.cql_asked.proofs.Keys.{are_among_all_known}
+use Rattle.cql_lines.proofs.Keys.{are_among_all_known}
 use Rattle.std.proofs.lemmas.Grind.{common_steps}
 use Rattle.std.proofs.Common.{arith}
-use Rattle.cql_asked.proofs.tree.are_among.Goals as goal
+use Rattle.cql_lines.proofs.tree.are_among.Goals as goal
 
 pub returns-then-not-is_among : goal.returns-then-not-is_among
 returns-then-not-is_among c = grind (arith, common_steps)

@@ -1,8 +1,8 @@
 use Rattle.std.proofs.Common.{true, false, sym, ap, ◌∙◌}
 use Rattle.std.specs.List.{list_any}
 use Rattle.std.specs.Str.{bytes_eq}
-use Rattle.cql_asked.proofs.Keys.{are_among_more}
-use Rattle.cql_asked.proofs.values.are_among.Goals as goal
+use Rattle.cql_lines.proofs.Keys.{are_among_more}
+use Rattle.cql_lines.proofs.values.are_among.Goals as goal
 
 pub returns-then-not-is_among : goal.returns-then-not-is_among
 returns-then-not-is_among c =

@@ -3,9 +3,9 @@ ghost use Rattle.std.specs.Prelude.{◌≡◌, ◌==◌, ◌<◌, length, slice_
 ghost use Rattle.json.specs.Json.{value, items, members};
 ghost use Rattle.serde_json.specs.Data.{no_members, unsigned};
 ghost use Rattle.serde_json.specs.Read.{number_of, number_from, float_of, of_json, of_items, of_members, converted, read as read_text};
-ghost use Rattle.cql_asked.specs.Reading.{IsRefusal};
-ghost use Rattle.cql_asked.specs.Tree.{tree_of};
-ghost use Rattle.cql_asked.specs.View.{num_view, view, items_view, members_view};
+ghost use Rattle.cql_lines.specs.TreeReading.{IsRefusal};
+ghost use Rattle.cql_lines.specs.Tree.{tree_of};
+ghost use Rattle.cql_lines.specs.View.{num_view, view, items_view, members_view};
 
 use crate::tree::{Number, Tree};
 use fast_float::{Numeral, parse_u64};
@@ -23,7 +23,7 @@ enum TreeError {
 }
 
 impl From<Invalid> for TreeError {
-    ghost use Rattle.cql_asked.specs.declared.reading.TreeError.TheVariants.{Refused};
+    ghost use Rattle.cql_lines.specs.declared.reading.TreeError.TheVariants.{Refused};
 
     ghost from_gives = { λ _ e. e ≡ Refused };
 
@@ -33,7 +33,7 @@ impl From<Invalid> for TreeError {
 }
 
 impl From<AllocError> for TreeError {
-    ghost use Rattle.cql_asked.specs.declared.reading.TreeError.TheVariants.{NoMemory};
+    ghost use Rattle.cql_lines.specs.declared.reading.TreeError.TheVariants.{NoMemory};
 
     ghost from_gives = { λ _ e. e ≡ NoMemory };
 
@@ -43,7 +43,7 @@ impl From<AllocError> for TreeError {
 }
 
 impl<T: Drop> From<AllocFailed<T>> for TreeError {
-    ghost use Rattle.cql_asked.specs.declared.reading.TreeError.TheVariants.{NoMemory};
+    ghost use Rattle.cql_lines.specs.declared.reading.TreeError.TheVariants.{NoMemory};
 
     ghost from_gives = { λ _ e. e ≡ NoMemory };
 
@@ -120,8 +120,8 @@ fn scan_number(text: &str) -> Option<Number>
     }
 }
 
-// The number that a token writes, where it is in range. Most are digits alone.
-pub(crate) fn read_number(text: &str) -> Option<Number>
+/// The number that a token writes, where it is in range. Most are digits alone.
+pub fn read_number(text: &str) -> Option<Number>
     ensures { option_map num_view result ≡ number_of text.now }
 {
     match digits_of(text.as_bytes()) {
@@ -237,8 +237,8 @@ fn read_all<'a>(
     Ok(tree)
 }
 
-// The text of which a line's tree is read, or None where the line isn't UTF-8.
-pub(crate) fn line_text(line: &[u8]) -> Option<&str>
+/// The text of which a line's tree is read, or None where the line isn't UTF-8.
+pub fn line_text(line: &[u8]) -> Option<&str>
     ensures { MatchOption result (tree_of line.now ≡ None)
         (λ text. tree_of line.now ≡ read_text text.now) }
 {
@@ -248,8 +248,8 @@ pub(crate) fn line_text(line: &[u8]) -> Option<&str>
     }
 }
 
-// The tree of a text, or None where it is no JSON. What is unescaped is kept in the scratch.
-pub(crate) fn read_tree<'a>(
+/// The tree of a text, or None where it is no JSON. What is unescaped is kept in the scratch.
+pub fn read_tree<'a>(
     alloc: Global,
     text: &'a str,
     scratch: &'a mut Scratch,

@@ -1,5 +1,5 @@
-use Rattle.cql_asked.proofs.Trees.{text_read, no_text_read}
-use Rattle.cql_asked.proofs.reading.line_text.Goals as goal
+use Rattle.cql_lines.proofs.Trees.{text_read, no_text_read}
+use Rattle.cql_lines.proofs.reading.line_text.Goals as goal
 
 pub returns-in-Ok : goal.returns-in-Ok
 returns-in-Ok c =

@@ -1,7 +1,7 @@
 use Rattle.std.proofs.Common.{◌≡◌, true, false, sym, ◌∙◌}
 use Rattle.serde_json.specs.View.{view}
-use Rattle.cql_asked.proofs.Trees.{tree_of-read, tree_of-refused}
-use Rattle.cql_asked.proofs.values.read_value.Goals as goal
+use Rattle.cql_lines.proofs.Trees.{tree_of-read, tree_of-refused}
+use Rattle.cql_lines.proofs.values.read_value.Goals as goal
 
 pub returns-in-Ok : goal.returns-in-Ok
 returns-in-Ok c = tree_of-read c.args.line.now (view c.in-Ok.tree) c.in-Ok.ensures.ok

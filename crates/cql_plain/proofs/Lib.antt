@@ -1,8 +1,6 @@
 pub mod Logs
 pub mod Telling
 pub mod Choosing
-pub mod Together
-pub mod Sure
 pub mod Filtering
 pub mod Recomputing
 pub mod Held
@@ -11,12 +9,10 @@ pub mod Behind
 pub mod Entries
 pub mod Gathering
 pub mod Linked
-pub mod Knowing
 pub mod Saying
 pub mod Said
 pub mod Grouping
 pub mod Lacking
 pub mod Keeping
 pub mod Shaped
-pub mod Share
 pub mod Crosses

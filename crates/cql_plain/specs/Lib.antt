@@ -1,6 +1,5 @@
 pub mod Logs
 pub mod Telling
-pub mod Chosen
 pub mod Joining
 pub mod JoinRows
 pub mod LastPort

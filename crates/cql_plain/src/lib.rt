@@ -2,7 +2,6 @@
 //! and the bench of them.
 #![tactic(auto)]
 
-mod chosen;
 mod difference;
 mod filtered;
 mod group;
@@ -12,7 +11,6 @@ mod join_copy;
 mod join_rows;
 mod last_port;
 mod made;
-mod numbers;
 mod once;
 mod passed;
 mod plain;
@@ -22,8 +20,6 @@ mod projected;
 mod recomputed;
 mod shape;
 mod shape_copy;
-mod sum;
-mod told;
 
 pub use group::key;
 pub use join_copy::copy_of_join;
@@ -32,4 +28,3 @@ pub use plain::{PlainOperator, plain_bench};
 pub use plain_join::PlainJoin;
 pub use plain_shape::PlainShape;
 pub use shape_copy::copy_of_shape;
-pub use told::{is_open, outcome};

@@ -10,11 +10,11 @@ ghost use Rattle.cql_bag.specs.Law.{ArePositive};
 ghost use Rattle.cql_plain.specs.Adding.{TakesRun, TakesGroup};
 ghost use Rattle.cql_plain.specs.Grouping.{groups_by, entries_from};
 
-use cql_algebra::sum_of;
+use cql_algebra::{evaluate, sum_of};
 use cql_bag::Bag;
 use cql_bag::law::{own_entries, put_all_counts, same_counts};
 use cql_ops::Meter;
-use cql_plan::{Item, evaluate};
+use cql_plan::Item;
 use cql_value::{Row, Same, Value};
 use sqlite_items::at;
 use std::alloc::{AllocError, Global};

@@ -5,9 +5,9 @@ ghost use Rattle.cql_algebra.specs.Shape.{item_value, items_on};
 ghost use Rattle.cql_plain.specs.Made.{AreMade};
 
 use crate::made::{Made, keep, taken};
-use cql_algebra::number_of;
+use cql_algebra::{evaluate, number_of};
 use cql_bag::Change;
-use cql_plan::{Expr, Item, evaluate};
+use cql_plan::{Expr, Item};
 use cql_value::{Row, Value};
 use std::alloc::{AllocError, Global};
 use std::collections::VecDeque;

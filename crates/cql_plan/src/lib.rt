@@ -1,5 +1,5 @@
-//! What is computed for a query: plans, how their expressions and conditions are evaluated, and how a
-//! query is typed and planned.
+//! What is computed for a query: plans, when a row meets a condition, and how a query is typed and
+//! planned.
 #![tactic(auto)]
 
 mod block;
@@ -20,7 +20,7 @@ mod typed;
 
 pub use condition::{Condition, Operand, compares, meets};
 pub use error::{PlanError, PlanFault};
-pub use expr::{Expr, evaluate};
+pub use expr::Expr;
 pub use fault::Fault;
 pub use lookup::{Lookup, Readable};
 pub use node::{Item, Join, Node, OperatorKind, SetOp, Shape};

@@ -1,5 +1,5 @@
 use Rattle.std.proofs.Common.{rules}
-use Rattle.cql_plan.proofs.expr.compute.Goals as goal
+use Rattle.cql_algebra.proofs.evaluation.compute.Goals as goal
 
 pub returns-in-Some : goal.returns-in-Some
 returns-in-Some c = search rules

@@ -12,11 +12,11 @@ ghost use Rattle.cql_eval.specs.Shown.{StandsFor, Tells, IsShown, AreSame, IsQui
 ghost use Rattle.cql_eval.specs.Warm.{IsKept, StandsBehind};
 
 use crate::answered::Answer;
-use crate::bags::Room;
 use crate::pin::Pin;
 use crate::shown::{LastTold, WalkState, nothing_shown, open, same_output, step};
 use crate::warm::{LastAnswer, remember, resume};
 use cql_algebra::{Block, Output, Runs};
+use cql_bag::Room;
 use cql_ops::{BenchOf, Operator};
 use cql_plan::OutputKind;
 use cql_value::Items;

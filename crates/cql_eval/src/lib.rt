@@ -3,7 +3,6 @@
 #![tactic(auto)]
 
 mod answered;
-mod bags;
 mod evaluate;
 mod evaluator;
 mod pin;

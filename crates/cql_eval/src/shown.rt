@@ -14,13 +14,12 @@ ghost use Rattle.cql_eval.specs.Relation.{bags_at, relation_at};
 ghost use Rattle.cql_eval.specs.Seen.{windows_seen};
 ghost use Rattle.cql_eval.specs.Shown.{StandsFor, LeadsTo, Tells, bags_held, IsReady, IsShown};
 
-use crate::bags::{Room, add_rows, parted, take_rows};
 use crate::pin::Pin;
 use crate::seen_walk::SeenWalk;
 use crate::walks::{advance, restart, start};
 use cql_algebra::Output;
 use cql_bag::law::{minus_counts, put_all_counts, same_counts, take_counts};
-use cql_bag::{Bag, Change, rest_from, rest_of};
+use cql_bag::{Bag, Change, Room, add_rows, parted, rest_from, rest_of, take_rows};
 use cql_ops::{BenchOf, Operator, Outcome};
 use cql_plan::{Fault, OutputKind};
 use std::alloc::{AllocError, Global};

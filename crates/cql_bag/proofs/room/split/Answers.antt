@@ -1,6 +1,6 @@
 use Rattle.std.proofs.lemmas.Grind.{common_steps}
 use Rattle.std.proofs.Common.{arith}
-use Rattle.cql_eval.proofs.bags.split.Goals as goal
+use Rattle.cql_bag.proofs.room.split.Goals as goal
 
 pub loop-change-preserved : goal.loop-change-preserved
 loop-change-preserved c = record { came = grind (arith, common_steps); left = grind (arith, common_steps) }

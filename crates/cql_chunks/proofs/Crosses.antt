@@ -5,7 +5,7 @@ use Rattle.std.proofs.alloc.Global.TheSendSync as heap
 use Rattle.std.below.std_heap.proofs.GlobalAllocator.TheSendSync as frees
 use Rattle.cql_chunks.proofs.SeqCrosses.{seq_send, seq_sync}
 use Rattle.cql_chunks.proofs.plain.Plain.TheSendSync as plain
-use Rattle.cql_chunks.specs.contracts.tree.TreeRows as tree
+use Rattle.cql_chunks.specs.contracts.tree_rows.TreeRows as tree
 use Rattle.cql_chunks.specs.contracts.chunks.Form as form
 use Rattle.cql_chunks.specs.contracts.chunks.Chunks as chunks
 

@@ -8,7 +8,7 @@ use crate::run::Run;
 use crate::same::are_joined_same;
 use crate::seq::Seq;
 use crate::stretch::Stretch;
-use crate::tree::TreeRows;
+use crate::tree_rows::TreeRows;
 use cql_value::{Same, Timed};
 use std::alloc::{AllocError, Global};
 use std::marker::Model;

@@ -12,7 +12,7 @@ mod run;
 mod same;
 mod seq;
 mod stretch;
-mod tree;
+mod tree_rows;
 mod waste;
 mod words;
 

@@ -1,6 +1,6 @@
 // The callers who are connected: who waits, whose turn it is, and whose time has passed.
 
-use crate::connection::Limits;
+use crate::limits::Limits;
 use crate::turns::{Task, Turns};
 use cql_hall::EndReason;
 use cql_sessions::{Connected, WaitsFor};

@@ -2,15 +2,15 @@
 //! a worker and whose turn it is, and whose time has passed.
 #![tactic(auto)]
 
-mod connection;
 mod floor;
 mod house;
 mod hub;
+mod limits;
 mod lookout;
 mod turns;
 
-pub use connection::Limits;
 pub use floor::{Floor, Turn};
 pub use house::House;
 pub use hub::{Door, Hub, Wires};
+pub use limits::Limits;
 pub use turns::{Task, Turns};

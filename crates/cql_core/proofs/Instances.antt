@@ -13,7 +13,7 @@ use Rattle.cql_core.specs.Machine.{opening}
 use Rattle.cql_core.specs.View.{view}
 use Rattle.cql_core.specs.Solo.{nothing_known, solo}
 use Rattle.cql_core.specs.Headline.{Made, IsLegal, IsHistoryLaw, sent}
-use Rattle.cql_core.specs.declared.journal.Mark.TheVariants as mark
+use Rattle.cql_core.specs.declared.mark.Mark.TheVariants as mark
 use Rattle.cql_core.specs.Cql.{cql}
 use Rattle.cql_core.specs.Journal.{Noted, IsJournal, IsTold, IsJournalLaw}
 

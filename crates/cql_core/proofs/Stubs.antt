@@ -6,7 +6,7 @@ use Rattle.std.proofs.lemmas.Bool.Decides.{nat_tests}
 use Rattle.cql_value.specs.Element.{Element}
 use Rattle.cql_window.specs.declared.window.Window.{Window}
 use Rattle.cql_window.specs.Window.{content, beyond, charge}
-use Rattle.cql_window.proofs.Law.{content_later, beyond_later, charge_law}
+use Rattle.cql_window.proofs.Laws.{content_later, beyond_later, charge_law}
 use Rattle.cql_store.specs.Held.{Held, fed, advanced, pinned}
 use Rattle.cql_core.specs.Source.{Source, same_source, BoundInput}
 use Rattle.cql_core.specs.Language.{content_of}

@@ -3,7 +3,7 @@ use denote.Param.Send.{IsSend, sendable}
 use Rattle.std.proofs.alloc.Global.TheSendSync as heap
 use Rattle.cql_groups.proofs.keyed_shape.ShapeState.TheSendSync as kept
 use Rattle.sqlite_items.proofs.items.Items.TheSendSync as items
-use Rattle.cql_groups.proofs.part.AccumulatorKind.TheSendSync as asked
+use Rattle.cql_groups.proofs.accumulator.AccumulatorKind.TheSendSync as asked
 use Rattle.cql_groups.proofs.layout.ItemSource.TheSendSync as source
 use Rattle.cql_groups.specs.contracts.layout.Layout as layout
 use Rattle.cql_groups.specs.contracts.keyed_shape.KeyedShape as keyed_shape

@@ -29,7 +29,7 @@ use Rattle.cql_ops.specs.Linear.{with_entry, with_change}
 use Rattle.cql_ops.specs.Settle.{is_among}
 use Rattle.cql_groups.specs.declared.grouped.Group.{Group}
 use Rattle.cql_groups.specs.declared.layout.Layout.{Layout}
-use Rattle.cql_groups.specs.declared.part.AccumulatorKind.{AccumulatorKind}
+use Rattle.cql_groups.specs.declared.accumulator.AccumulatorKind.{AccumulatorKind}
 use Rattle.cql_groups.proofs.PartLaws.{group_after, group_types, row_is, lacks_is}
 use Rattle.cql_groups.proofs.GroupKeys.{among_lacking}
 use Rattle.cql_groups.proofs.Changes.{group_changed, group_stays, can_change}

@@ -6,7 +6,7 @@ use Rattle.cql_value.proofs.Members.{get_push}
 use Rattle.cql_plan.specs.declared.node.Item.{Item}
 use Rattle.cql_plan.specs.declared.node.Item.TheVariants as i
 use Rattle.cql_groups.specs.Layouts.{asks, IsOther, IsGrownBy, AreApart, IsAskedIn, IsSourceOf, AreSources}
-use Rattle.cql_groups.specs.declared.part.AccumulatorKind.{AccumulatorKind}
+use Rattle.cql_groups.specs.declared.accumulator.AccumulatorKind.{AccumulatorKind}
 use Rattle.cql_groups.specs.declared.layout.ItemSource.{ItemSource}
 use Rattle.cql_groups.specs.declared.layout.ItemSource.TheVariants as s
 use Rattle.cql_groups.proofs.Keyed.{all_more}

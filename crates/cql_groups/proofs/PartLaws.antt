@@ -28,10 +28,10 @@ use Rattle.cql_groups.specs.Parts.{part_of, part_changed, is_outside}
 use Rattle.cql_groups.specs.Layouts.{place_step, place_in, asks, IsAskedIn, IsSourceOf, IsLayout, sum_in, values_in, source_value, row_of_parts}
 use Rattle.cql_groups.specs.GroupLaws.{Laws}
 use Rattle.cql_groups.specs.Grouped.{IsGroupOf, IsChangedGroup, one_if}
-use Rattle.cql_groups.specs.declared.part.AccumulatorKind.{AccumulatorKind}
-use Rattle.cql_groups.specs.declared.part.AccumulatorKind.TheVariants as ask
-use Rattle.cql_groups.specs.declared.part.Accumulator.{Accumulator}
-use Rattle.cql_groups.specs.declared.part.Accumulator.TheVariants as part
+use Rattle.cql_groups.specs.declared.accumulator.AccumulatorKind.{AccumulatorKind}
+use Rattle.cql_groups.specs.declared.accumulator.AccumulatorKind.TheVariants as ask
+use Rattle.cql_groups.specs.declared.accumulator.Accumulator.{Accumulator}
+use Rattle.cql_groups.specs.declared.accumulator.Accumulator.TheVariants as part
 use Rattle.cql_groups.specs.declared.layout.ItemSource.{ItemSource}
 use Rattle.cql_groups.specs.declared.layout.ItemSource.TheVariants as s
 use Rattle.cql_groups.specs.declared.layout.Layout.{Layout}

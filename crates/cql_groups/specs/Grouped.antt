@@ -23,7 +23,7 @@ use Rattle.cql_ops.specs.Settle.{is_among}
 use Rattle.cql_groups.specs.declared.grouped.Group.{Group}
 use Rattle.cql_groups.specs.declared.layout.Layout.{Layout}
 use Rattle.cql_groups.specs.declared.layout.ItemSource.{ItemSource}
-use Rattle.cql_groups.specs.declared.part.AccumulatorKind.{AccumulatorKind}
+use Rattle.cql_groups.specs.declared.accumulator.AccumulatorKind.{AccumulatorKind}
 
 -- what is kept of the rows of a key: how many there are, one row that has the key, and what is asked of columns
 pub record IsGroupOf (l : Layout) (key : List Value) (rows : Counts) (g : Group) : Type 0 where

@@ -12,10 +12,10 @@ use Rattle.cql_plan.specs.Expr.{within}
 use Rattle.cql_algebra.specs.Shape.{all_of}
 use Rattle.cql_algebra.specs.GroupChanges.{first_of, last_of}
 use Rattle.cql_groups.specs.Keyed.{IsKeyed}
-use Rattle.cql_groups.specs.declared.part.AccumulatorKind.{AccumulatorKind}
-use Rattle.cql_groups.specs.declared.part.AccumulatorKind.TheVariants as ask
-use Rattle.cql_groups.specs.declared.part.Accumulator.{Accumulator}
-use Rattle.cql_groups.specs.declared.part.Accumulator.TheVariants as part
+use Rattle.cql_groups.specs.declared.accumulator.AccumulatorKind.{AccumulatorKind}
+use Rattle.cql_groups.specs.declared.accumulator.AccumulatorKind.TheVariants as ask
+use Rattle.cql_groups.specs.declared.accumulator.Accumulator.{Accumulator}
+use Rattle.cql_groups.specs.declared.accumulator.Accumulator.TheVariants as part
 use Rattle.cql_groups.specs.declared.layout.ItemSource.{ItemSource}
 use Rattle.cql_groups.specs.declared.layout.ItemSource.TheVariants as s
 use Rattle.cql_groups.specs.declared.layout.Layout.{Layout}

@@ -8,10 +8,10 @@ use Rattle.cql_plan.specs.Expr.{within}
 use Rattle.cql_algebra.specs.Shape.{total, key_of}
 use Rattle.cql_algebra.specs.ShapeLaws.{number_in}
 use Rattle.cql_algebra.specs.GroupChanges.{column_bag}
-use Rattle.cql_groups.specs.declared.part.AccumulatorKind.{AccumulatorKind}
-use Rattle.cql_groups.specs.declared.part.AccumulatorKind.TheVariants as ask
-use Rattle.cql_groups.specs.declared.part.Accumulator.{Accumulator}
-use Rattle.cql_groups.specs.declared.part.Accumulator.TheVariants.{Sum, Values}
+use Rattle.cql_groups.specs.declared.accumulator.AccumulatorKind.{AccumulatorKind}
+use Rattle.cql_groups.specs.declared.accumulator.AccumulatorKind.TheVariants as ask
+use Rattle.cql_groups.specs.declared.accumulator.Accumulator.{Accumulator}
+use Rattle.cql_groups.specs.declared.accumulator.Accumulator.TheVariants.{Sum, Values}
 
 -- what is asked of a column, over the rows of a group: the exact total, or the bag of the values
 abbrev pub part_of : Counts → AccumulatorKind → Accumulator

@@ -10,13 +10,13 @@ ghost use Rattle.cql_ops.specs.Linear.{with_change};
 ghost use Rattle.cql_ops.specs.declared.error.OpError.TheVariants.{NoMemory, Overflow};
 ghost use Rattle.cql_plain.specs.Shaped.{TellsShape, FailsToShape};
 
+use crate::accumulator::{Accumulator, AccumulatorKind, change_parts, new_parts, some_outside};
 use crate::layout::{ItemSource, Layout};
-use crate::part::{Accumulator, AccumulatorKind, change_parts, new_parts, some_outside};
 use crate::row::row_of_parts;
 use cql_algebra::law::{
     change_types_law, group_law, group_types_law, grouped_column_law, key_law, max_law, min_law,
 };
-use cql_algebra::pushes::{
+use cql_algebra::pushed_law::{
     ends_law, fewer_law, key_change_law, key_count_law, more_law, of_groups_law, one_group_law,
 };
 use cql_bag::law::{own_entries, put_all_counts, same_counts, take_counts};

@@ -4,7 +4,7 @@ ghost use Rattle.std.specs.List.{AllByRecursion};
 ghost use Rattle.cql_groups.specs.Keyed.{IsKeyed};
 ghost use Rattle.cql_groups.specs.Layouts.{place_in, asks, IsOther, IsGrownBy, IsSourceOf, IsLayout};
 
-use crate::part::AccumulatorKind;
+use crate::accumulator::AccumulatorKind;
 use cql_plain::copy_of_shape;
 use cql_plan::{Expr, Item, Shape};
 use cql_value::Items;

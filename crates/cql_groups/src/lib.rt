@@ -2,11 +2,11 @@
 //! the groups that were pushed.
 #![tactic(auto)]
 
+mod accumulator;
 mod group_shape;
 mod grouped;
 mod keyed_shape;
 mod layout;
-mod part;
 mod row;
 
 pub use group_shape::GroupShape;

@@ -4,8 +4,8 @@ ghost use Rattle.std.specs.Option.{option_copied};
 ghost use Rattle.cql_algebra.specs.GroupChanges.{first_of, last_of};
 ghost use Rattle.cql_groups.specs.Layouts.{sum_in, values_in, source_value, row_of_parts};
 
+use crate::accumulator::{Accumulator, number_within};
 use crate::layout::ItemSource;
-use crate::part::{Accumulator, number_within};
 use cql_bag::Bag;
 use cql_value::{Row, Value};
 use sqlite_items::at;

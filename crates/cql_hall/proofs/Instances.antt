@@ -9,7 +9,7 @@ use Rattle.cql_core.specs.declared.command.Command.TheVariants.{Stream}
 use Rattle.cql_core.specs.declared.refusal.Refusal.TheVariants.{StreamExists}
 use Rattle.cql_core.specs.Told.{Told, Done, Refused, Says}
 use Rattle.cql_core.specs.Machine.{opening}
-use Rattle.cql_core.specs.declared.journal.Mark.TheVariants as mark
+use Rattle.cql_core.specs.declared.mark.Mark.TheVariants as mark
 use Rattle.cql_core.specs.Journal.{IsJournal}
 use Rattle.cql_hall.specs.Audit.{Journal, Heard, LeavesFree, Agrees, AllAgree, FirstFails}
 use Rattle.cql_hall.specs.Laws.{IsCalledOnce, HasOneAnswer, AgreesEach, HasEachCallOnce}

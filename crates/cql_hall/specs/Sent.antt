@@ -3,7 +3,7 @@ use Rattle.std.specs.Prelude.{◌≡◌, ℕ, ◌+◌, ◌<◌, Bool, true, ◌&
 use Rattle.std.specs.Borrow.{Bor}
 use Rattle.cql_core.specs.Told.{Stepped}
 use Rattle.cql_core.specs.Steps.{answered_by}
-use Rattle.cql_hall.specs.declared.lobby.Receipt.{Receipt}
+use Rattle.cql_hall.specs.declared.hall.Receipt.{Receipt}
 use Rattle.cql_hall.specs.Audit.{Journal, Called, Heard, is_want}
 use Rattle.cql_hall.specs.Alone.{HoldsAlone}
 use Rattle.cql_hall.specs.Tracks.{is_at}

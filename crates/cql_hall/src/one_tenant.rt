@@ -9,8 +9,8 @@ ghost use Rattle.cql_hall.specs.Sent.{sent_as, is_before, FailsFirst, FailsAmong
 ghost use Rattle.cql_hall.specs.declared.audits.AuditError.TheVariants as error;
 
 use crate::audits::AuditError;
+use crate::hall::Receipt;
 use crate::journal::Entry;
-use crate::lobby::Receipt;
 use crate::replaying::{is_reply_of, step_again};
 use crate::sent::{by_place, sent_by, unplaced};
 use cql_core::{Core, Step, TenantId, TenantTable};

@@ -11,8 +11,8 @@ ghost use Rattle.cql_hall.specs.Tracks.{claim_seen, AreRight};
 ghost use Rattle.cql_hall.specs.declared.audits.AuditError.TheVariants as error;
 
 use crate::audits::AuditError;
+use crate::hall::Receipt;
 use crate::journal::Entry;
-use crate::lobby::Receipt;
 use cql_core::{Core, Mark, Refusal, Reply, Step, TenantTable};
 use std::alloc::Global;
 

@@ -6,7 +6,7 @@ ghost use Rattle.cql_hall.specs.Sent.{sent_as, is_sent, sent_by, IsWithin, Misse
 ghost use Rattle.cql_hall.specs.declared.audits.AuditError.TheVariants as error;
 
 use crate::audits::AuditError;
-use crate::lobby::Receipt;
+use crate::hall::Receipt;
 use cql_core::TenantId;
 use std::alloc::Global;
 

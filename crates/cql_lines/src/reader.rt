@@ -6,7 +6,7 @@ ghost use Rattle.json.specs.Json.{read_key};
 ghost use Rattle.json.specs.Reads.{token_of};
 ghost use Rattle.cql_lines.specs.Plain.{Passes, IsScalar};
 
-use crate::cursor::TextCursor;
+use crate::text_cursor::TextCursor;
 use json::Token;
 use std::marker::Model;
 

@@ -10,8 +10,8 @@ ghost use Rattle.cql_plain.specs.Logs.{logged, logged_bag, told_all, told_image}
 ghost use Rattle.cql_plain.specs.Shaped.{KeepsRows, TellsShape, FailsToShape};
 
 use crate::items::row_of_items;
+use crate::log::{Log, adds_law, tells_law};
 use crate::made::Made;
-use crate::passed::{Log, adds_law, tells_law};
 use cql_algebra::law::item_types_law;
 use cql_bag::Change;
 use cql_bag::law::{put_all_counts, same_counts, take_counts};

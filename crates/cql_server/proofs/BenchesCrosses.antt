@@ -20,8 +20,8 @@ use Rattle.cql_eval.specs.contracts.pool.Pooled as pooled
 use Rattle.cql_core.proofs.CrossCores.{pin_send, pin_sync}
 use Rattle.cql_server.specs.contracts.answers.Answers as answers
 use Rattle.cql_server.specs.contracts.answers.UnderWay as under_way
-use Rattle.cql_server.specs.contracts.warm.Borrower as borrower
-use Rattle.cql_server.specs.contracts.warm.SharedPool as shared_pool
+use Rattle.cql_server.specs.contracts.shared_pool.Borrower as borrower
+use Rattle.cql_server.specs.contracts.shared_pool.SharedPool as shared_pool
 
 pub kept_send : IsSend kept.the_row
 kept_send = search (sendable, arc.the_send, heap.the_send, heap.the_sync, frees.the_frees, pin_send, pin_sync, last_told.the_field_send) depth 20

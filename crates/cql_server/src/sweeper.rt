@@ -4,7 +4,7 @@ ghost use Rattle.cql_server.specs.declared.failure.Failure.TheVariants as failur
 
 use crate::failure::Failure;
 use crate::held::tell_held;
-use crate::warm::SharedPool;
+use crate::shared_pool::SharedPool;
 use cql_core::{Operator, TenantTable};
 use cql_hall::{Gate, Hall, Journal, Point};
 use crossbeam_channel::Receiver;

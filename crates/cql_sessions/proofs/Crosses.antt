@@ -6,12 +6,12 @@ use Rattle.std.proofs.alloc.Global.TheSendSync as heap
 use Rattle.std.proofs.Crossing.{crosses}
 use Rattle.std.below.std_heap.proofs.GlobalAllocator.TheSendSync as frees
 use Rattle.cql_lines.proofs.intake.Intake.TheSendSync as intake
-use Rattle.cql_hall.proofs.lobby.Seat.TheSendSync as seat
+use Rattle.cql_hall.proofs.hall.Seat.TheSendSync as seat
 use Rattle.cql_hall.proofs.Crosses.{receipt_row_send}
 use Rattle.cql_sessions.specs.contracts.caller.Caller as caller
 use Rattle.cql_sessions.specs.contracts.ending.Ending as ending
 use Rattle.cql_sessions.specs.contracts.guest.Guest as guest
-use Rattle.cql_sessions.specs.contracts.link.Connection as link
+use Rattle.cql_sessions.specs.contracts.connection.Connection as link
 use Rattle.cql_sessions.specs.contracts.visit.Visit as visit
 
 pub ending_send : IsSend (ending.the_field).row

@@ -11,8 +11,8 @@ use Rattle.std.specs.Option.{IfSome}
 use Rattle.std.specs.Io.KnownBytes.{Consumes, IsAtEnd, Keeps}
 use Rattle.std.proofs.KnownBytes.{Consumes-nil, Consumes-trans, Consumes-kept}
 use Rattle.cql_tenants.specs.declared.tenants.Tenant.{Tenant}
-use Rattle.cql_hall.specs.declared.lobby.Receipt.{Receipt}
-use Rattle.cql_hall.specs.declared.lobby.Seat.{Seat}
+use Rattle.cql_hall.specs.declared.hall.Receipt.{Receipt}
+use Rattle.cql_hall.specs.declared.hall.Seat.{Seat}
 use Rattle.cql_lines.specs.declared.intake.Taken.{Taken}
 use Rattle.cql_lines.specs.Coming.{HasCome}
 use Rattle.cql_lines.specs.Pieces.{Takes}

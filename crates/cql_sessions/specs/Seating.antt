@@ -3,7 +3,7 @@ use Rattle.std.specs.Prelude.{◌≡◌, ℕ, ◌⊎◌, Bool, true, false, not,
 use Rattle.std.specs.Arc.{arc_value}
 use Rattle.std.specs.Io.KnownBytes.{Consumes, IsAtEnd}
 use Rattle.cql_tenants.specs.declared.tenants.Tenant.{Tenant}
-use Rattle.cql_hall.specs.declared.lobby.Receipt.{Receipt}
+use Rattle.cql_hall.specs.declared.hall.Receipt.{Receipt}
 use Rattle.cql_lines.specs.Coming.{HasCome}
 use Rattle.cql_lines.specs.Text.{LineText, lines_of}
 use Rattle.cql_sessions.specs.declared.caller.Caller.{Caller}

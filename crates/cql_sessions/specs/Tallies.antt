@@ -1,7 +1,7 @@
 -- Receipts of a session.
 use Rattle.std.specs.Prelude.{◌≡◌, ℕ, Bool, true, false, List, [], Option, None, Some, All, is_some, sum_by, if◌then◌else◌}
-use Rattle.cql_hall.specs.declared.lobby.Seat.{Seat}
-use Rattle.cql_hall.specs.declared.lobby.Receipt.{Receipt}
+use Rattle.cql_hall.specs.declared.hall.Seat.{Seat}
+use Rattle.cql_hall.specs.declared.hall.Receipt.{Receipt}
 
 -- how many receipts have a place
 abbrev pub placed : List Receipt → ℕ

@@ -2,7 +2,7 @@
 ghost use Rattle.std.specs.Prelude.{◌≡◌, ◌≢◌, [], true, Some, Ok, IfOk};
 ghost use Rattle.cql_sessions.specs.Tallies.{Tallies};
 
-use crate::asked::{Request, prepared_of};
+use crate::request::{Request, prepared_of};
 use crate::sessions::SessionEnd;
 use cql_core::{Evaluator, Reply, TenantId, TenantTable};
 use cql_hall::{Gate, Hall, Journal, Kind, Point, Receipt, Seat};

@@ -2,9 +2,9 @@
 ghost use Rattle.std.specs.Prelude.{◌≡◌, ◌≤◌, [], length, IfOk};
 
 use crate::caller::{LineOutcome, Service};
+use crate::connection::{Connection, Outbox, read_once};
 use crate::desk::Desk;
 use crate::ending::Ending;
-use crate::link::{Connection, Outbox, read_once};
 use crate::visit::Visit;
 use cql_core::{Evaluator, TenantId};
 use cql_hall::{Gate, Journal};

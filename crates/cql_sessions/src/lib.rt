@@ -2,13 +2,13 @@
 //! connection that never waits for long.
 #![tactic(auto)]
 
-mod asked;
 mod caller;
+mod connection;
 mod desk;
 mod ending;
 mod guest;
-mod link;
 mod login;
+mod request;
 mod sessions;
 mod visit;
 

@@ -12,7 +12,7 @@ use Rattle.cql_window.specs.Pin.{AreRows}
 use Rattle.cql_window.specs.Places.{end_in}
 use Rattle.cql_window.specs.Window.{AreAscending, front_len, kept, content, beyond, count_before, last_of_parts}
 use Rattle.cql_window.proofs.Ends.{before_mono, before_rest}
-use Rattle.cql_window.proofs.Law.{kept_le}
+use Rattle.cql_window.proofs.Laws.{kept_le}
 use Rattle.cql_window.proofs.Newest.{parts_twice}
 use Rattle.cql_window.proofs.Coming.{more_come}
 use Rattle.cql_window.specs.Coming.{with_all, AreNewestOf}

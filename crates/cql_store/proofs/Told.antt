@@ -9,7 +9,7 @@ use Rattle.cql_window.specs.declared.window.Window.{Window}
 use Rattle.cql_window.specs.declared.window.Window.TheVariants.{Range, Rows, All as all, Parts}
 use Rattle.cql_window.specs.Window.{front_len, kept, content, beyond, charge}
 use Rattle.cql_window.proofs.Ends.{front_le, front_more}
-use Rattle.cql_window.proofs.Law.{content_later, beyond_later, charge_law}
+use Rattle.cql_window.proofs.Laws.{content_later, beyond_later, charge_law}
 use Rattle.cql_store.proofs.Keeps.{slot_map}
 use Rattle.cql_store.specs.Calls.{Call, Attach, Append, Advance, Detach, Makes, Make, Said, said_by, said, held_by, held_if_any, IsStubLaw}
 use Rattle.cql_store.specs.Held.{Held, Stubs, stub_of, fed, fed_at, advanced}

@@ -19,7 +19,7 @@
 #![tactic(auto)]
 
 mod coming;
-mod kept;
+mod kept_parts;
 pub mod law;
 mod made;
 mod moves;

@@ -8,7 +8,7 @@ ghost use Rattle.cql_window.specs.Window.{AreAscending, count_before, front_len,
 ghost use Rattle.cql_store.specs.Held.{advanced, HasParts, CanAdvance, IsReady, pinned};
 ghost use Rattle.cql_store.specs.Places.{shown, shifted, greatest, IsSound, IsPlaced};
 
-use crate::kept::KeptParts;
+use crate::kept_parts::KeptParts;
 use crate::stub::{Stub, StubRows};
 use cql_chunks::Chunks;
 use cql_value::{Timed, TryClone};

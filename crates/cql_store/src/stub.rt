@@ -2,7 +2,7 @@
 ghost use Rattle.std.specs.Prelude.{◌≡◌, ◌++◌, [], length, IfOk, OnOk};
 ghost use Rattle.cql_store.specs.Places.{emptied, limit};
 
-use crate::kept::KeptParts;
+use crate::kept_parts::KeptParts;
 use cql_chunks::{Chunks, Waste};
 use cql_value::Timed;
 use cql_window::Window;

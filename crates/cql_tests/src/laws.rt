@@ -23,7 +23,7 @@ use cql_tenants::law::{directory_law, grant_law};
 use cql_text::read_law;
 use cql_value::law::types_law;
 use cql_value::stream_law::place_law;
-use cql_window::laws::{all_law, held_law, parts_law, range_law, rows_law};
+use cql_window::law::{all_law, held_law, parts_law, range_law, rows_law};
 use cql_window::places_law::{all_places_law, chain_law, narrow_law, twice_law, wide_law};
 
 #[test]

@@ -1,6 +1,6 @@
 use denote.Param.Send.{sendable}
 use Rattle.std.proofs.alloc.Global.TheSendSync as heap
-use Rattle.cql_hall.proofs.lobby.Seat.TheSendSync as seat
+use Rattle.cql_hall.proofs.hall.Seat.TheSendSync as seat
 use Rattle.cql_hall_tests.proofs.holding.Holding.TheSendSync as holding
 use Rattle.cql_hall.proofs.Crosses.{hall_sync, kept_row_send}
 use Rattle.cql_hall_tests.proofs.halls.fetch_beside.Goals as goal

@@ -3,7 +3,7 @@ use Rattle.std.proofs.Common.{◌≡◌, All, Some, arith, subst, sym}
 use Rattle.std.proofs.lemmas.List.Elements.{All-push}
 use Rattle.cql_core.specs.Source.{source_of}
 use Rattle.cql_core.specs.Rows.{rows_held}
-use Rattle.cql_core.specs.declared.held.HeldStream.{HeldStream}
+use Rattle.cql_core.specs.declared.held_stream.HeldStream.{HeldStream}
 use Rattle.cql_core.proofs.machine.Core.add_held.Goals as goal
 
 pub returns : goal.returns

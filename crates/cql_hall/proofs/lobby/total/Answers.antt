@@ -1,6 +1,0 @@
-use Rattle.std.proofs.lemmas.Grind.{common_steps}
-use Rattle.std.proofs.Common.{arith}
-use Rattle.cql_hall.proofs.lobby.total.Goals as goal
-
-pub loop-seat-preserved : goal.loop-seat-preserved
-loop-seat-preserved c = grind (arith, common_steps)

@@ -1,0 +1,5 @@
+use Rattle.cql_window.proofs.Language as language
+use Rattle.cql_window.proofs.law.all_law.Goals as goal
+
+pub returns : goal.returns
+returns c = language.all_law

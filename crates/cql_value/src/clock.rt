@@ -1,5 +1,5 @@
 // The clock of a stream.
-ghost use Rattle.std.specs.Prelude.{◌≡◌, ◌+◌, ◌≤◌, ◌^◌, OnOk, OnErr};
+ghost use Rattle.std.specs.Prelude.{◌≡◌, ◌+◌, ◌≤◌, ◌^◌, None, OnOk, OnErr};
 ghost use Rattle.std.specs.Result.{result_err};
 ghost use Rattle.cql_value.specs.Clock.{time_fault};
 
@@ -53,17 +53,25 @@ impl Clock {
         self.opened
     }
 
-    // Why the stream doesn't take the time, if it doesn't.
-    fn fault(&self, at: u64) -> Option<ClockError>
-        ensures { result ≡ time_fault self.now at }
+    // Whether the stream takes the time.
+    pub(crate) fn takes(&self, at: u64) -> Result<(), ClockError>
+        ensures { result_err result ≡ time_fault self.now at }
     {
         if at > GREATEST {
-            Some(ClockError::AtTooLarge)
+            Err(ClockError::AtTooLarge)
         } else if at < self.opened {
-            Some(ClockError::Late)
+            Err(ClockError::Late)
         } else {
-            None
+            Ok(())
         }
+    }
+
+    // A row came at a time that the stream takes.
+    pub(crate) fn came(&mut self, at: u64)
+        requires { time_fault self.old at ≡ None }
+        ensures { self.new ≡ at }
+    {
+        self.opened = at;
     }
 
     /// A row comes at this time: no earlier one is taken any more. One that is refused changes
@@ -73,9 +81,7 @@ impl Clock {
         ensures ok { OnOk result (self.new ≡ at) }
         ensures err { OnErr result (self.new ≡ self.old) }
     {
-        if let Some(fault) = self.fault(at) {
-            return Err(fault);
-        }
+        self.takes(at)?;
         self.opened = at;
         Ok(())
     }
@@ -87,9 +93,7 @@ impl Clock {
         ensures ok { OnOk result (self.new ≡ at + 1) }
         ensures err { OnErr result (self.new ≡ self.old) }
     {
-        if let Some(fault) = self.fault(at) {
-            return Err(fault);
-        }
+        self.takes(at)?;
         self.opened = at + 1;
         Ok(())
     }

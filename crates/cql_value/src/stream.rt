@@ -4,13 +4,10 @@ ghost use Rattle.std.specs.Result.{result_err};
 ghost use Rattle.cql_value.specs.Clock.{time_fault};
 ghost use Rattle.cql_value.specs.Taking.{row_refused, time_refused, opens};
 
-use crate::clock::{Clock, ClockError};
+use crate::clock::Clock;
 use crate::refusal::StreamRefusal;
 use crate::row::Row;
 use crate::schema::Schema;
-
-/// The greatest instant, in ticks.
-const GREATEST: u64 = 4_611_686_018_427_387_903;
 
 /// A stream: its columns, and its clock.
 pub struct Stream {
@@ -28,19 +25,6 @@ impl Drop for Stream {
 }
 
 impl Stream {
-    // Whether the stream takes a time.
-    fn takes(&self, at: u64) -> Result<(), ClockError>
-        ensures { result_err result ≡ time_fault self.now.clock at }
-    {
-        if at > GREATEST {
-            return Err(ClockError::AtTooLarge);
-        }
-        if at < self.clock.opened() {
-            return Err(ClockError::Late);
-        }
-        Ok(())
-    }
-
     /// Whether the stream takes a row at a time, in ticks. Takes no memory.
     pub fn admit(&self, at: u64, row: &Row) -> Result<(), StreamRefusal>
         ensures refused { result_err result ≡ row_refused self.now at row.now }
@@ -49,7 +33,7 @@ impl Stream {
         if self.schema.check(row).is_err() {
             return Err(StreamRefusal::WrongRow);
         }
-        self.takes(at)?;
+        self.clock.takes(at)?;
         Ok(())
     }
 
@@ -58,7 +42,7 @@ impl Stream {
         requires { time_fault self.old.clock at ≡ None }
         ensures { self.new ≡ opens at self.old }
     {
-        let _put = self.clock.put(at);
+        self.clock.came(at);
     }
 
     /// A heartbeat of this time, in ticks. Takes no memory.

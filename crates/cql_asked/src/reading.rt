@@ -137,7 +137,9 @@ fn read<'a>(alloc: Global, reader: &mut Reader<'a>, depth: usize) -> Result<Tree
     ensures shorter { OnOk result (length reader.new < length reader.old) }
     ensures err { IsRefusal result → converted of_json (value depth reader.old) ≡ None }
 {
-    let token = reader.next().ok_or(Fault::Refused)?;
+    let Some(token) = reader.next() else {
+        return Err(Fault::Refused);
+    };
     match token {
         Token::String(text) => Ok(Tree::Text(text)),
         Token::Number(text) => match read_number(text) {

@@ -156,7 +156,7 @@ pub(crate) fn optional_text<'a>(tree: &Tree<'a>, key: &str) -> Option<Option<&'a
 {
     match tree.get(key) {
         None => Some(None),
-        Some(found) => Some(Some(found.as_str()?)),
+        Some(found) => found.as_str().map(Some),
     }
 }
 
@@ -169,7 +169,7 @@ pub(crate) fn optional_array<'v, 'a>(
 {
     match tree.get(key) {
         None => Some(None),
-        Some(found) => Some(Some(found.as_array()?)),
+        Some(found) => found.as_array().map(Some),
     }
 }
 
@@ -179,14 +179,14 @@ pub(crate) fn optional_whole(tree: &Tree<'_>, key: &str) -> Option<Option<u64>>
 {
     match tree.get(key) {
         None => Some(None),
-        Some(found) => Some(Some(found.as_u64()?)),
+        Some(found) => found.as_u64().map(Some),
     }
 }
 
 pub(crate) fn is_among(key: &str, keys: &[&str]) -> bool
     ensures { result ≡ list_any (λ known. bytes_eq known.now key.now) keys.now }
 {
-    keys.iter().any(|known| *known == key)
+    keys.contains(&key)
 }
 
 #[tactic(auto, using(crate::proofs::Keys::are_among_all_known))]

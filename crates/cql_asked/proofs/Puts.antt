@@ -145,3 +145,9 @@ module _ (p : Put) (ms : Members) (h : Holds p ms) where
 pub called : (o : Option Data) (p : Put) (ms : Members) (r : Result (Option (List ℕ) × Command) NoPut) → o ≡ Some (object ms) → Holds p ms → IfOk r (IsCall p) → IfOk r (λ call. of_data o ≡ Ok call)
 called o p ms (Ok call) is holds asked = ap of_data is ∙ asked ms holds
 called o p ms (Err e) is holds asked = tt
+
+-- ---- results
+
+pub if_ok : {A E : Type 0} (r : Result A E) {P Q : A → Type 0} → ((x : A) → P x → Q x) → IfOk r P → IfOk r Q
+if_ok (Ok x) step p = step x p
+if_ok (Err e) step p = p

@@ -92,8 +92,12 @@ fn next_value(alloc: Global, reader: &mut Reader<'_>) -> Result<Value, NoPut>
     let token = reader.scalar()?;
     match token {
         Token::Number(text) => {
-            let number = read_number(text).ok_or(NoPut::Other)?;
-            let number = number.as_i64().ok_or(NoPut::Other)?;
+            let Some(number) = read_number(text) else {
+                return Err(NoPut::Other);
+            };
+            let Some(number) = number.as_i64() else {
+                return Err(NoPut::Other);
+            };
             Ok(Value::Number(number))
         }
         Token::String(text) => {
@@ -123,8 +127,7 @@ fn next_row(alloc: Global, reader: &mut Reader<'_>) -> Result<Vec<Value>, NoPut>
     ensures shorter { OnOk result (length reader.new < length reader.old) }
 {
     reader.begin_array()?;
-    let values = next_values(alloc, reader)?;
-    Ok(values)
+    next_values(alloc, reader)
 }
 
 /// What is read of a put so far.
@@ -236,8 +239,7 @@ fn next_put<'a>(alloc: Global, reader: &mut Reader<'a>) -> Result<Put<'a>, NoPut
     ensures { IfOk result (λ put. ReadsPut reader.old put reader.new) }
 {
     reader.begin_object()?;
-    let put = next_members(alloc, reader)?;
-    Ok(put)
+    next_members(alloc, reader)
 }
 
 // The put that a text is, if it is one.

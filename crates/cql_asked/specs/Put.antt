@@ -46,6 +46,10 @@ pub record Holds (p : Put) (ms : Members) : Type 0 where
   pub row : option_map values_of (get_member (codes "row") ms) ≡ option_map (λ v. Some v.items) p.row
   pub keys : are_among (keys_of kinds.Put) ms ≡ true
 
+-- the members with one more
+abbrev pub Adds : Put → Put → List ℕ → Data → Type 0
+Adds old new key d = (ms : Members) → Holds old ms → Holds new (put key d ms)
+
 -- the value of a key was added
 abbrev pub Takes : Put → Put → List ℕ → List Token → List Token → Type 0
 Takes old new key before after = (d : Data) × Reads 126 before d after × ((ms : Members) → Holds old ms → Holds new (put key d ms))

@@ -7,7 +7,7 @@ ghost use Rattle.std.specs.Prelude.{◌≡◌, ◌<◌, length, Some, Ok, option
 ghost use Rattle.serde_json.specs.Data.{string, number, unsigned, no_members};
 ghost use Rattle.serde_json.specs.Read.{read};
 ghost use Rattle.cql_asked.specs.Command.{of_data};
-ghost use Rattle.cql_asked.specs.Put.{Reads, ReadsValue, ReadsRow, ReadsItems, ReadsMembers, ReadsPut, Holds, Takes, IsCall};
+ghost use Rattle.cql_asked.specs.Put.{Reads, ReadsValue, ReadsRow, ReadsItems, ReadsMembers, ReadsPut, Holds, Adds, Takes, IsCall};
 
 use crate::named::Named;
 use crate::reading::read_number;
@@ -164,6 +164,24 @@ impl<'a> Put<'a> {
         }
     }
 
+    // Takes a text that stands at a key of a put.
+    fn take_text(&mut self, key: &str, text: &'a str) -> Result<(), NoPut>
+        ensures { OnOk result (Adds self.old self.new key.now (string text.now)) }
+    {
+        match key {
+            "do" => {
+                if text != "put" {
+                    return Err(NoPut::Other);
+                }
+                self.is_put = true;
+            }
+            "stream" => self.stream = Some(text),
+            "tenant" => self.tenant = Some(text),
+            _ => return Err(NoPut::Other),
+        }
+        Ok(())
+    }
+
     // Takes what stands at a key of a put.
     fn take(&mut self, alloc: Global, reader: &mut Reader<'a>, key: &str) -> Result<(), NoPut>
         ensures ok { OnOk result (Takes self.old self.new key.now reader.old reader.new) }
@@ -171,16 +189,11 @@ impl<'a> Put<'a> {
     {
         match key {
             "at" => self.at = Some(next_whole(reader)?),
-            "do" => {
-                if next_text(reader)? != "put" {
-                    return Err(NoPut::Other);
-                }
-                self.is_put = true;
-            }
             "row" => self.row = Some(next_row(alloc, reader)?),
-            "stream" => self.stream = Some(next_text(reader)?),
-            "tenant" => self.tenant = Some(next_text(reader)?),
-            _ => return Err(NoPut::Other),
+            _ => {
+                let text = next_text(reader)?;
+                return self.take_text(key, text);
+            }
         }
         Ok(())
     }
@@ -189,23 +202,23 @@ impl<'a> Put<'a> {
     fn command(self, alloc: Global) -> Result<(Option<Named<'a>>, Command), NoPut>
         ensures { IfOk result (λ call. IsCall self.entry call) }
     {
+        if !self.is_put {
+            return Err(NoPut::Other);
+        }
         let Put {
-            is_put,
+            is_put: _,
             tenant,
             stream,
             at,
             row,
         } = self;
-        if !is_put {
+        let Some(row) = row else {
             return Err(NoPut::Other);
-        }
+        };
         let Some(at) = at else {
             return Err(NoPut::Other);
         };
         let Some(stream) = stream else {
-            return Err(NoPut::Other);
-        };
-        let Some(row) = row else {
             return Err(NoPut::Other);
         };
         let row = Row::new(alloc, row)?;

@@ -58,10 +58,6 @@ Takes old new key before after = (d : Data) × Reads 126 before d after × ((ms 
 abbrev pub ReadsMembers : List Token → Put → List Token → Type 0
 ReadsMembers before p after = (ms : Members) × (converted (λ ms. of_members ms no_members) (members (value 126) (length before) before) ≡ Some (ms, after)) × Holds p ms
 
--- an object
-abbrev pub ReadsPut : List Token → Put → List Token → Type 0
-ReadsPut before p after = (ms : Members) × Reads 127 before (object ms) after × Holds p ms
-
 -- it is what an object of these members asks
 abbrev pub IsCall : Put → Option (List ℕ) × Command → Type 0
 IsCall p call = (ms : Members) → Holds p ms → of_data (Some (object ms)) ≡ Ok call

@@ -7,7 +7,7 @@ ghost use Rattle.std.specs.Prelude.{◌≡◌, ◌<◌, length, Some, Ok, option
 ghost use Rattle.serde_json.specs.Data.{string, number, unsigned, no_members};
 ghost use Rattle.serde_json.specs.Read.{read};
 ghost use Rattle.cql_asked.specs.Command.{of_data};
-ghost use Rattle.cql_asked.specs.Put.{Reads, ReadsValue, ReadsRow, ReadsItems, ReadsMembers, ReadsPut, Holds, Adds, Takes, IsCall};
+ghost use Rattle.cql_asked.specs.Put.{Reads, ReadsValue, ReadsRow, ReadsItems, ReadsMembers, Holds, Adds, Takes, IsCall};
 
 use crate::named::Named;
 use crate::reading::read_number;
@@ -247,14 +247,6 @@ fn next_members<'a>(alloc: Global, reader: &mut Reader<'a>) -> Result<Put<'a>, N
     Ok(put)
 }
 
-// The put that is next.
-fn next_put<'a>(alloc: Global, reader: &mut Reader<'a>) -> Result<Put<'a>, NoPut>
-    ensures { IfOk result (λ put. ReadsPut reader.old put reader.new) }
-{
-    reader.begin_object()?;
-    next_members(alloc, reader)
-}
-
 // The put that a text is, if it is one.
 pub(crate) fn read_put<'a>(
     alloc: Global,
@@ -263,7 +255,8 @@ pub(crate) fn read_put<'a>(
     ensures { IfOk result (λ call. of_data (read text.now) ≡ Ok call) }
 {
     let mut reader = Reader::new(text);
-    let put = next_put(alloc, &mut reader)?;
+    reader.begin_object()?;
+    let put = next_members(alloc, &mut reader)?;
     if !reader.is_at_end() {
         return Err(NoPut::Other);
     }

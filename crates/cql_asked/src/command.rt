@@ -331,21 +331,6 @@ fn by_tree<'a>(
     of_tree(alloc, &tree)
 }
 
-// The command of a text: a put, or else what its tree says.
-fn of_text<'a>(
-    alloc: Global,
-    text: &'a str,
-    scratch: &mut Scratch,
-) -> Result<(Option<Named<'a>>, Command), LineFault>
-    ensures { Means (of_data (read text.now)) result }
-{
-    match read_put(alloc, text) {
-        Ok(call) => Ok(call),
-        Err(NoPut::Other) => by_tree(alloc, text, scratch),
-        Err(NoPut::NoMemory) => Err(LineFault::NoMemory),
-    }
-}
-
 /// As `read_command`, but a name that stands in the line isn't copied.
 #[tactic(auto, unfolding(crate::specs::Command::command_of))]
 pub fn read_addressed<'a>(
@@ -355,9 +340,13 @@ pub fn read_addressed<'a>(
 ) -> Result<(Option<Named<'a>>, Command), LineFault>
     ensures { Means (command_of line.now) result }
 {
-    match line_text(line) {
-        Some(text) => of_text(alloc, text, scratch),
-        None => Err(LineFault::BadLine),
+    let Some(text) = line_text(line) else {
+        return Err(LineFault::BadLine);
+    };
+    match read_put(alloc, text) {
+        Ok(call) => Ok(call),
+        Err(NoPut::Other) => by_tree(alloc, text, scratch),
+        Err(NoPut::NoMemory) => Err(LineFault::NoMemory),
     }
 }
 

@@ -19,7 +19,7 @@ use json::Token;
 use std::alloc::{AllocError, AllocFailed, Global};
 
 /// Why no put was read.
-#[derive(Clone, Copy, Drop, PartialEq, Eq)]
+#[derive(Clone, Copy, Drop)]
 pub(crate) enum NoPut {
     /// The line is another command's, or to be refused.
     Other,

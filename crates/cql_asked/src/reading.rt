@@ -192,8 +192,7 @@ fn no_members_at<'a>(alloc: Global, depth: usize) -> Result<Vec<(&'a str, Tree<'
     ensures { IfOk result (λ v. v.items ≡ []) }
 {
     if depth == MAX_DEPTH - 1 {
-        let room = Vec::with_capacity(alloc, 6)?;
-        return Ok(room);
+        return Vec::with_capacity(alloc, 6);
     }
     Ok(Vec::new(alloc))
 }

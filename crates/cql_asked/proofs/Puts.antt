@@ -1,6 +1,6 @@
 -- Lemmas on what is read of a put.
 use Rattle.std.proofs.Common.{◌≡◌, ℕ, Bool, true, false, ◌&&◌, List, [], ◌∷◌, ◌++◌, Option, Some, None, is_some, option_map, option_and_then, Vec, Global, Bor, bytes_eq, refl, sym, ap, ◌∙◌}
-use Rattle.std.specs.Prelude.{codes, Result, Ok, Err, IfOk}
+use Rattle.std.specs.Prelude.{codes, Result, Ok, Err, IfOk, OnOk}
 use Rattle.std.specs.List.{list_any}
 use Rattle.std.proofs.lemmas.Bool.{false≢true}
 use Rattle.std.proofs.lemmas.Slice.Eq.{bytes_eq-Decides}
@@ -145,3 +145,13 @@ module _ (p : Put) (ms : Members) (h : Holds p ms) where
 pub called : (o : Option Data) (p : Put) (ms : Members) (r : Result (Option (List ℕ) × Command) NoPut) → o ≡ Some (object ms) → Holds p ms → IfOk r (IsCall p) → IfOk r (λ call. of_data o ≡ Ok call)
 called o p ms (Ok call) is holds asked = ap of_data is ∙ asked ms holds
 called o p ms (Err e) is holds asked = tt
+
+-- ---- results
+
+pub if_ok : {A E : Type 0} (r : Result A E) {P Q : A → Type 0} → ((x : A) → P x → Q x) → IfOk r P → IfOk r Q
+if_ok (Ok x) step p = step x p
+if_ok (Err e) step p = p
+
+pub if_on : {A E : Type 0} (r : Result A E) {P Q : Type 0} → (P → Q) → OnOk r P → OnOk r Q
+if_on (Ok x) step p = step p
+if_on (Err e) step p = p

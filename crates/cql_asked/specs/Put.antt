@@ -46,6 +46,10 @@ pub record Holds (p : Put) (ms : Members) : Type 0 where
   pub row : option_map values_of (get_member (codes "row") ms) ≡ option_map (λ v. Some v.items) p.row
   pub keys : are_among (keys_of kinds.Put) ms ≡ true
 
+-- the members with one more
+abbrev pub Adds : Put → Put → List ℕ → Data → Type 0
+Adds old new key d = (ms : Members) → Holds old ms → Holds new (put key d ms)
+
 -- the value of a key was added
 abbrev pub Takes : Put → Put → List ℕ → List Token → List Token → Type 0
 Takes old new key before after = (d : Data) × Reads 126 before d after × ((ms : Members) → Holds old ms → Holds new (put key d ms))
@@ -53,10 +57,6 @@ Takes old new key before after = (d : Data) × Reads 126 before d after × ((ms 
 -- the rest of an object
 abbrev pub ReadsMembers : List Token → Put → List Token → Type 0
 ReadsMembers before p after = (ms : Members) × (converted (λ ms. of_members ms no_members) (members (value 126) (length before) before) ≡ Some (ms, after)) × Holds p ms
-
--- an object
-abbrev pub ReadsPut : List Token → Put → List Token → Type 0
-ReadsPut before p after = (ms : Members) × Reads 127 before (object ms) after × Holds p ms
 
 -- it is what an object of these members asks
 abbrev pub IsCall : Put → Option (List ℕ) × Command → Type 0

@@ -17,7 +17,7 @@ use cql_lines::tree::{
 };
 use cql_value::{Items, Row, Text, Value};
 use json::Scratch;
-use std::alloc::{AllocError, Global};
+use std::alloc::Global;
 
 /// The word of a command: what stands at the key `do`.
 #[derive(Clone, Copy)]
@@ -111,12 +111,18 @@ fn row_of(alloc: Global, items: &[Tree<'_>]) -> Result<Row, LineFault>
 fn column_of(alloc: Global, tree: &Tree<'_>) -> Result<ColumnText, LineFault>
     ensures { Means (ok_or (column_of (view tree.now)) LineFault.BadKey) result }
 {
-    let texts = tree.as_array().ok_or(LineFault::BadKey)?;
+    let Some(texts) = tree.as_array() else {
+        return Err(LineFault::BadKey);
+    };
     let [name, kind] = texts.as_slice() else {
         return Err(LineFault::BadKey);
     };
-    let name = name.as_str().ok_or(LineFault::BadKey)?;
-    let kind = kind.as_str().ok_or(LineFault::BadKey)?;
+    let Some(name) = name.as_str() else {
+        return Err(LineFault::BadKey);
+    };
+    let Some(kind) = kind.as_str() else {
+        return Err(LineFault::BadKey);
+    };
     let name = Text::new(alloc, name)?;
     let kind = Text::new(alloc, kind)?;
     Ok(ColumnText { name, kind })
@@ -149,7 +155,9 @@ fn names_of(alloc: Global, items: &[Tree<'_>]) -> Result<Items<Text>, LineFault>
 {
     let mut names = Vec::new(alloc);
     for item in items {
-        let name = item.as_str().ok_or(LineFault::BadKey)?;
+        let Some(name) = item.as_str() else {
+            return Err(LineFault::BadKey);
+        };
         names.push(Text::new(alloc, name)?)?;
     }
     Ok(Items::from_vec(names))
@@ -268,7 +276,7 @@ fn of_word(alloc: Global, word: Word, tree: &Tree<'_>) -> Result<Command, LineFa
 }
 
 // The tenant that the line names, if it names one.
-fn tenant_of(alloc: Global, tree: &Tree<'_>) -> Result<Option<Text>, LineFault>
+fn tenant_of<'a>(alloc: Global, tree: &Tree<'_>) -> Result<Option<Named<'a>>, LineFault>
     ensures { Means (ok_or (optional_text (codes "tenant") (view tree.now)) LineFault.BadKey) result }
 {
     match optional_text(tree, "tenant") {
@@ -276,12 +284,16 @@ fn tenant_of(alloc: Global, tree: &Tree<'_>) -> Result<Option<Text>, LineFault>
         Some(None) => Ok(None),
         Some(Some(text)) => {
             let name = Text::new(alloc, text)?;
-            Ok(Some(name))
+            Ok(Some(Named::of_copy(name)))
         }
     }
 }
 
-fn of_keys(alloc: Global, word: Word, tree: &Tree<'_>) -> Result<(Option<Text>, Command), LineFault>
+fn of_keys<'a>(
+    alloc: Global,
+    word: Word,
+    tree: &Tree<'_>,
+) -> Result<(Option<Named<'a>>, Command), LineFault>
     ensures { Means (of_keys word (view tree.now)) result }
 {
     if !has_only(tree, word.keys()) {
@@ -292,81 +304,31 @@ fn of_keys(alloc: Global, word: Word, tree: &Tree<'_>) -> Result<(Option<Text>, 
     Ok((tenant, command))
 }
 
-fn of_tree(alloc: Global, tree: &Tree<'_>) -> Result<(Option<Text>, Command), LineFault>
+fn of_tree<'a>(alloc: Global, tree: &Tree<'_>) -> Result<(Option<Named<'a>>, Command), LineFault>
     ensures { Means (of_data (Some (view tree.now))) result }
 {
     if !tree.is_object() {
         return Err(LineFault::BadLine);
     }
     let text = text_at(tree, "do").ok_or(LineFault::BadCommand)?;
-    let word = Word::read(text).ok_or(LineFault::BadCommand)?;
+    let Some(word) = Word::read(text) else {
+        return Err(LineFault::BadCommand);
+    };
     of_keys(alloc, word, tree)
 }
 
 // The command of a text, by its tree.
-fn by_tree(
+fn by_tree<'a>(
     alloc: Global,
     text: &str,
     scratch: &mut Scratch,
-) -> Result<(Option<Text>, Command), LineFault>
+) -> Result<(Option<Named<'a>>, Command), LineFault>
     ensures { Means (of_data (read text.now)) result }
 {
     let Some(tree) = read_tree(alloc, text, scratch)? else {
         return Err(LineFault::BadLine);
     };
     of_tree(alloc, &tree)
-}
-
-// A name that was copied.
-fn named<'a>(text: Option<Text>) -> Option<Named<'a>>
-    ensures { result ≡ text }
-{
-    match text {
-        Some(text) => Some(Named::of_copy(text)),
-        None => None,
-    }
-}
-
-// A name of its own.
-fn owned(alloc: Global, name: Option<Named<'_>>) -> Result<Option<Text>, AllocError>
-    ensures { IfOk result (λ text. text ≡ name.entry) }
-{
-    match name {
-        Some(name) => {
-            let text = name.into_text(alloc)?;
-            Ok(Some(text))
-        }
-        None => Ok(None),
-    }
-}
-
-// The command of a text, by its tree, with the name that was copied.
-fn named_by_tree<'a>(
-    alloc: Global,
-    text: &str,
-    scratch: &mut Scratch,
-) -> Result<(Option<Named<'a>>, Command), LineFault>
-    ensures { Means (of_data (read text.now)) result }
-{
-    match by_tree(alloc, text, scratch) {
-        Ok((tenant, command)) => Ok((named(tenant), command)),
-        Err(fault) => Err(fault),
-    }
-}
-
-// The command of a text: a put, or else what its tree says.
-fn of_text<'a>(
-    alloc: Global,
-    text: &'a str,
-    scratch: &mut Scratch,
-) -> Result<(Option<Named<'a>>, Command), LineFault>
-    ensures { Means (of_data (read text.now)) result }
-{
-    match read_put(alloc, text) {
-        Ok(call) => Ok(call),
-        Err(NoPut::Other) => named_by_tree(alloc, text, scratch),
-        Err(NoPut::NoMemory) => Err(LineFault::NoMemory),
-    }
 }
 
 /// As `read_command`, but a name that stands in the line isn't copied.
@@ -378,9 +340,13 @@ pub fn read_addressed<'a>(
 ) -> Result<(Option<Named<'a>>, Command), LineFault>
     ensures { Means (command_of line.now) result }
 {
-    match line_text(line) {
-        Some(text) => of_text(alloc, text, scratch),
-        None => Err(LineFault::BadLine),
+    let Some(text) = line_text(line) else {
+        return Err(LineFault::BadLine);
+    };
+    match read_put(alloc, text) {
+        Ok(call) => Ok(call),
+        Err(NoPut::Other) => by_tree(alloc, text, scratch),
+        Err(NoPut::NoMemory) => Err(LineFault::NoMemory),
     }
 }
 
@@ -399,7 +365,10 @@ pub fn read_command(
 {
     match read_addressed(alloc, line, scratch) {
         Ok((tenant, command)) => {
-            let tenant = owned(alloc, tenant)?;
+            let tenant = match tenant {
+                Some(name) => Some(name.into_text(alloc)?),
+                None => None,
+            };
             Ok((tenant, command))
         }
         Err(fault) => Err(fault),

@@ -3,7 +3,7 @@ ghost use Rattle.std.specs.Prelude.{◌≡◌, ◌==◌, Some, IfOk, slice_get};
 ghost use Rattle.std.specs.Bool.{Decides};
 ghost use Rattle.std.specs.Str.{bytes_eq};
 ghost use Rattle.serde_json.specs.View.{view};
-ghost use Rattle.cql_asked.specs.Login.{is_key_at, login_with, login_in, login_of, named_in, named_of, LogsIn};
+ghost use Rattle.cql_asked.specs.Login.{is_key_at, login_in, login_of, named_in, named_of, LogsIn};
 
 use crate::fault::LineFault;
 use cql_lines::values::{has_only, read_value, text_at};
@@ -51,13 +51,6 @@ fn is_key_at(table: &TenantTable, id: TenantId, key: &str) -> bool
     }
 }
 
-fn login_with(table: &TenantTable, name: &str, key: &str) -> Option<TenantId>
-    ensures { result ≡ login_with table.now name.now key.now }
-{
-    let id = table.find(name)?;
-    is_key_at(table, id, key).then_some(id)
-}
-
 fn login_in(table: &TenantTable, tree: &Json) -> Option<TenantId>
     ensures { result ≡ login_in table.now (view tree.now) }
 {
@@ -66,7 +59,8 @@ fn login_in(table: &TenantTable, tree: &Json) -> Option<TenantId>
     }
     let name = text_at(tree, "tenant")?;
     let key = text_at(tree, "key")?;
-    login_with(table, name, key)
+    let id = table.find(name)?;
+    is_key_at(table, id, key).then_some(id)
 }
 
 /// The tenant of the table that a line, without its line feed, logs in. A login is an object with

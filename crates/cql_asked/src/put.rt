@@ -7,7 +7,7 @@ ghost use Rattle.std.specs.Prelude.{◌≡◌, ◌<◌, length, Some, Ok, option
 ghost use Rattle.serde_json.specs.Data.{string, number, unsigned, no_members};
 ghost use Rattle.serde_json.specs.Read.{read};
 ghost use Rattle.cql_asked.specs.Command.{of_data};
-ghost use Rattle.cql_asked.specs.Put.{Reads, ReadsValue, ReadsRow, ReadsItems, ReadsMembers, ReadsPut, Holds, Takes, IsCall};
+ghost use Rattle.cql_asked.specs.Put.{Reads, ReadsValue, ReadsRow, ReadsItems, ReadsMembers, Holds, Adds, Takes, IsCall};
 
 use crate::named::Named;
 use cql_core::Command;
@@ -19,7 +19,7 @@ use json::Token;
 use std::alloc::{AllocError, AllocFailed, Global};
 
 /// Why no put was read.
-#[derive(Clone, Copy, Drop, PartialEq, Eq)]
+#[derive(Clone, Copy, Drop)]
 pub(crate) enum NoPut {
     /// The line is another command's, or to be refused.
     Other,
@@ -92,8 +92,12 @@ fn next_value(alloc: Global, reader: &mut Reader<'_>) -> Result<Value, NoPut>
     let token = reader.scalar()?;
     match token {
         Token::Number(text) => {
-            let number = read_number(text).ok_or(NoPut::Other)?;
-            let number = number.as_i64().ok_or(NoPut::Other)?;
+            let Some(number) = read_number(text) else {
+                return Err(NoPut::Other);
+            };
+            let Some(number) = number.as_i64() else {
+                return Err(NoPut::Other);
+            };
             Ok(Value::Number(number))
         }
         Token::String(text) => {
@@ -123,8 +127,7 @@ fn next_row(alloc: Global, reader: &mut Reader<'_>) -> Result<Vec<Value>, NoPut>
     ensures shorter { OnOk result (length reader.new < length reader.old) }
 {
     reader.begin_array()?;
-    let values = next_values(alloc, reader)?;
-    Ok(values)
+    next_values(alloc, reader)
 }
 
 /// What is read of a put so far.
@@ -161,6 +164,24 @@ impl<'a> Put<'a> {
         }
     }
 
+    // Takes a text that stands at a key of a put.
+    fn take_text(&mut self, key: &str, text: &'a str) -> Result<(), NoPut>
+        ensures { OnOk result (Adds self.old self.new key.now (string text.now)) }
+    {
+        match key {
+            "do" => {
+                if text != "put" {
+                    return Err(NoPut::Other);
+                }
+                self.is_put = true;
+            }
+            "stream" => self.stream = Some(text),
+            "tenant" => self.tenant = Some(text),
+            _ => return Err(NoPut::Other),
+        }
+        Ok(())
+    }
+
     // Takes what stands at a key of a put.
     fn take(&mut self, alloc: Global, reader: &mut Reader<'a>, key: &str) -> Result<(), NoPut>
         ensures ok { OnOk result (Takes self.old self.new key.now reader.old reader.new) }
@@ -168,16 +189,11 @@ impl<'a> Put<'a> {
     {
         match key {
             "at" => self.at = Some(next_whole(reader)?),
-            "do" => {
-                if next_text(reader)? != "put" {
-                    return Err(NoPut::Other);
-                }
-                self.is_put = true;
-            }
             "row" => self.row = Some(next_row(alloc, reader)?),
-            "stream" => self.stream = Some(next_text(reader)?),
-            "tenant" => self.tenant = Some(next_text(reader)?),
-            _ => return Err(NoPut::Other),
+            _ => {
+                let text = next_text(reader)?;
+                return self.take_text(key, text);
+            }
         }
         Ok(())
     }
@@ -186,23 +202,23 @@ impl<'a> Put<'a> {
     fn command(self, alloc: Global) -> Result<(Option<Named<'a>>, Command), NoPut>
         ensures { IfOk result (λ call. IsCall self.entry call) }
     {
+        if !self.is_put {
+            return Err(NoPut::Other);
+        }
         let Put {
-            is_put,
+            is_put: _,
             tenant,
             stream,
             at,
             row,
         } = self;
-        if !is_put {
+        let Some(row) = row else {
             return Err(NoPut::Other);
-        }
+        };
         let Some(at) = at else {
             return Err(NoPut::Other);
         };
         let Some(stream) = stream else {
-            return Err(NoPut::Other);
-        };
-        let Some(row) = row else {
             return Err(NoPut::Other);
         };
         let row = Row::new(alloc, row)?;
@@ -231,15 +247,6 @@ fn next_members<'a>(alloc: Global, reader: &mut Reader<'a>) -> Result<Put<'a>, N
     Ok(put)
 }
 
-// The put that is next.
-fn next_put<'a>(alloc: Global, reader: &mut Reader<'a>) -> Result<Put<'a>, NoPut>
-    ensures { IfOk result (λ put. ReadsPut reader.old put reader.new) }
-{
-    reader.begin_object()?;
-    let put = next_members(alloc, reader)?;
-    Ok(put)
-}
-
 // The put that a text is, if it is one.
 pub(crate) fn read_put<'a>(
     alloc: Global,
@@ -248,7 +255,8 @@ pub(crate) fn read_put<'a>(
     ensures { IfOk result (λ call. of_data (read text.now) ≡ Ok call) }
 {
     let mut reader = Reader::new(text);
-    let put = next_put(alloc, &mut reader)?;
+    reader.begin_object()?;
+    let put = next_members(alloc, &mut reader)?;
     if !reader.is_at_end() {
         return Err(NoPut::Other);
     }

@@ -1,6 +1,5 @@
 //! Which rule a tenants line breaks.
-ghost use Rattle.std.specs.Prelude.{◌≡◌, ◌<◌, length, codes, is_some, IfSome};
-ghost use Rattle.serde_json.specs.Find.{get, as_object};
+ghost use Rattle.std.specs.Prelude.{◌≡◌, ◌<◌, length, codes, IfSome};
 ghost use Rattle.serde_json.specs.View.{view, items_view};
 ghost use Rattle.cql_tenants.specs.Tenants.{is_within};
 ghost use Rattle.cql_lines.specs.Tree.{text_at, whole_at};
@@ -10,23 +9,24 @@ use crate::tenants::TENANT_KEYS;
 use cql_lines::values::{array_at, has_only, text_at, whole_at};
 use cql_value::name::is_name;
 use serde_json::Value as Json;
+use std::fmt;
 use thiserror::Error;
 
 /// A key of a tenant in a tenants line.
-#[derive(Clone, Copy, Debug, PartialEq, Eq, Error)]
+#[derive(Clone, Copy, Debug, PartialEq, Eq)]
 pub enum TenantKey {
-    #[error("hold")]
     Hold,
-    #[error("key")]
     Key,
-    #[error("name")]
     Name,
-    #[error("queries")]
     Queries,
-    #[error("result")]
     Result,
-    #[error("streams")]
     Streams,
+}
+
+impl fmt::Display for TenantKey {
+    fn fmt<W: fmt::Write>(&self, f: &mut fmt::Formatter<W>) -> fmt::Result {
+        f.write_str(self.word())
+    }
 }
 
 impl TenantKey {
@@ -106,18 +106,6 @@ fn is_within(low: u64, high: u64, n: u64) -> bool
     low <= n && n <= high
 }
 
-fn is_object(tree: &Json) -> bool
-    ensures { result ≡ is_some (as_object (view tree.now)) }
-{
-    tree.as_object().is_some()
-}
-
-fn has(tree: &Json, key: &str) -> bool
-    ensures { result ≡ is_some (get key.now (view tree.now)) }
-{
-    tree.get(key).is_some()
-}
-
 // Whether a whole number of the range stands at the key.
 fn is_number(tree: &Json, key: &str, low: u64, high: u64) -> bool
     ensures { result ≡ is_number low high (whole_at key.now (view tree.now)) }
@@ -152,7 +140,7 @@ fn is_named(tree: &Json) -> bool
 fn key_passes(tree: &Json, key: TenantKey, passes: bool) -> Option<TenantRule>
     ensures { result ≡ key_passes key (view tree.now) passes }
 {
-    if !has(tree, key.word()) {
+    if tree.get(key.word()).is_none() {
         return Some(TenantRule::Has(key));
     }
     if passes {
@@ -183,7 +171,7 @@ fn keys_rule(tree: &Json) -> Option<TenantRule>
 fn rule_of_tenant(tree: &Json) -> Option<TenantRule>
     ensures { result ≡ rule_of_tenant (view tree.now) }
 {
-    if !is_object(tree) {
+    if tree.as_object().is_none() {
         return Some(TenantRule::IsObject);
     }
     if !has_only(tree, TENANT_KEYS) {

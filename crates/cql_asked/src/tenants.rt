@@ -17,7 +17,7 @@ use thiserror::Error;
 pub(crate) const TENANT_KEYS: &[&str] = &["hold", "key", "name", "queries", "result", "streams"];
 
 // Why a tree gives no table.
-#[derive(Clone, Copy, Drop, PartialEq, Eq)]
+#[derive(Clone, Copy, Drop)]
 enum NoTable {
     Refused,
     NoMemory,

@@ -137,7 +137,9 @@ fn read<'a>(alloc: Global, reader: &mut Reader<'a>, depth: usize) -> Result<Tree
     ensures shorter { OnOk result (length reader.new < length reader.old) }
     ensures err { IsRefusal result → converted of_json (value depth reader.old) ≡ None }
 {
-    let token = reader.next().ok_or(TreeError::Refused)?;
+    let Some(token) = reader.next() else {
+        return Err(TreeError::Refused);
+    };
     match token {
         Token::String(text) => Ok(Tree::Text(text)),
         Token::Number(text) => match read_number(text) {
@@ -190,8 +192,7 @@ fn no_members_at<'a>(alloc: Global, depth: usize) -> Result<Vec<(&'a str, Tree<'
     ensures { IfOk result (λ v. v.items ≡ []) }
 {
     if depth == MAX_DEPTH - 1 {
-        let room = Vec::with_capacity(alloc, 6)?;
-        return Ok(room);
+        return Vec::with_capacity(alloc, 6);
     }
     Ok(Vec::new(alloc))
 }

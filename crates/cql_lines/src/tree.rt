@@ -166,7 +166,7 @@ pub fn optional_text<'a>(tree: &Tree<'a>, key: &str) -> Option<Option<&'a str>>
 {
     match tree.get(key) {
         None => Some(None),
-        Some(found) => Some(Some(found.as_str()?)),
+        Some(found) => found.as_str().map(Some),
     }
 }
 
@@ -176,7 +176,7 @@ pub fn optional_array<'v, 'a>(tree: &'v Tree<'a>, key: &str) -> Option<Option<&'
 {
     match tree.get(key) {
         None => Some(None),
-        Some(found) => Some(Some(found.as_array()?)),
+        Some(found) => found.as_array().map(Some),
     }
 }
 
@@ -186,14 +186,14 @@ pub fn optional_whole(tree: &Tree<'_>, key: &str) -> Option<Option<u64>>
 {
     match tree.get(key) {
         None => Some(None),
-        Some(found) => Some(Some(found.as_u64()?)),
+        Some(found) => found.as_u64().map(Some),
     }
 }
 
 pub(crate) fn is_among(key: &str, keys: &[&str]) -> bool
     ensures { result ≡ list_any (λ known. bytes_eq known.now key.now) keys.now }
 {
-    keys.iter().any(|known| *known == key)
+    keys.contains(&key)
 }
 
 #[tactic(auto, using(crate::proofs::Keys::are_among_all_known))]

@@ -5,8 +5,8 @@ use Rattle.cql_asked.proofs.command.names_of.Goals as goal
 pub loop-item-preserved : goal.loop-item-preserved
 loop-item-preserved c = grind (arith, common_steps)
 
-pub returns-in_err-name : goal.returns-in_err-name
-returns-in_err-name c = grind (arith, common_steps)
+pub returns-in_default : goal.returns-in_default
+returns-in_default c = grind (arith, common_steps)
 
 pub returns : goal.returns
 returns c = grind (arith, common_steps)

@@ -8,13 +8,13 @@ use Rattle.cql_lines.specs.View.{num_view}
 use Rattle.cql_asked.proofs.Puts.{reads_number, reads_string}
 use Rattle.cql_asked.proofs.put.next_value.Goals as goal
 
-pub returns-in_ok-number-in-Number-2-clause-ok : goal.returns-in_ok-number-in-Number-2-clause-ok
-returns-in_ok-number-in-Number-2-clause-ok c =
+pub returns-in-Some-as_i64-clause-ok : goal.returns-in-Some-as_i64-clause-ok
+returns-in-Some-as_i64-clause-ok c =
     let first : c.args.reader.now ≡ token_of c.in_ok-token.token ∷ c.scalar.new.self = grind arith in
     let is : c.args.reader.now ≡ Token.number c.in-Number.text.now ∷ c.scalar.new.self = grind (arith, first) in
-    let x = num_view c.in_ok-number-in-Number.number in
+    let x = num_view c.in-Some.number in
     let read : number_of c.in-Number.text.now ≡ Some x = grind arith in
-    let whole : as_i64 x ≡ Some c.in_ok-number-in-Number-2.number = grind arith in
+    let whole : as_i64 x ≡ Some c.in-Some-as_i64.number = grind arith in
     (number x, reads_number 125 c.args.reader.now c.in-Number.text.now x c.scalar.new.self is read, rw whole (search rules))
 
 pub returns-in_ok-text-in-String-clause-ok : goal.returns-in_ok-text-in-String-clause-ok

@@ -1,3 +1,4 @@
+use Rattle.std.proofs.lemmas.Grind.{common_steps}
 use Rattle.std.proofs.Common.{◌≡◌, ◌∷◌, ◌-◌, ◌<◌, length, Some, sym, ap, ◌∙◌, arith}
 use Rattle.json.specs.Token.{Token}
 use Rattle.json.specs.Json.{after_end_array, value, parse_map}
@@ -40,3 +41,9 @@ returns-clause-ok c =
     let r = c.take_end_array.new.self in
     let closed : l.reader ≡ Token.end_array ∷ r = grind arith in
     (ds, l.invariant.5 ∙ ap (parse_map (items_before ds)) (items_over p n l.reader r l.invariant.2 (ap after_end_array closed)) ∙ all_before ds r, l.invariant.4)
+
+pub returns-clause-shorter : goal.returns-clause-shorter
+returns-clause-shorter c = grind (arith, common_steps)
+
+pub values-smaller : goal.values-smaller
+values-smaller c = grind (arith, common_steps)

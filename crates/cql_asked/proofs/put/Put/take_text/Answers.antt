@@ -1,0 +1,25 @@
+use Rattle.std.proofs.Common.{◌≡◌, true, bytes_eq, refl, arith}
+use Rattle.std.specs.Prelude.{codes}
+use Rattle.std.proofs.lemmas.Slice.Eq.{bytes_eq-Decides}
+use Rattle.cql_asked.proofs.Puts.{holds_word, holds_tenant, holds_stream}
+use Rattle.cql_asked.proofs.put.Put.take_text.Goals as goal
+
+pub returns-else-ne : goal.returns-else-ne
+returns-else-ne c =
+    let same : bytes_eq c.args.key.now (codes "do") ≡ true = grind arith in
+    let named = (bytes_eq-Decides c.args.key.now (codes "do")).0 same in
+    let is : bytes_eq c.args.text.now (codes "put") ≡ true = grind arith in
+    let said = (bytes_eq-Decides c.args.text.now (codes "put")).0 is in
+    λ ms h. rw (named, said) (holds_word c.args.self.now ms h _ refl)
+
+pub returns-in-stream : goal.returns-in-stream
+returns-in-stream c =
+    let same : bytes_eq c.args.key.now (codes "stream") ≡ true = grind arith in
+    let named = (bytes_eq-Decides c.args.key.now (codes "stream")).0 same in
+    λ ms h. rw named (holds_stream c.args.self.now ms h c.args.text _ refl)
+
+pub returns-in-tenant : goal.returns-in-tenant
+returns-in-tenant c =
+    let same : bytes_eq c.args.key.now (codes "tenant") ≡ true = grind arith in
+    let named = (bytes_eq-Decides c.args.key.now (codes "tenant")).0 same in
+    λ ms h. rw named (holds_tenant c.args.self.now ms h c.args.text _ refl)

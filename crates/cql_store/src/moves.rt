@@ -50,8 +50,8 @@ fn rows_before(rows: &Chunks, from: usize, end: u64) -> usize
     rows_between(rows, from, rows.len(), end)
 }
 
-// How many rows of a stretch a range of so many ticks, seen up to before the end, no longer
-// reaches.
+// How many of some rows are older than a range of so many ticks reaches back from before the
+// end.
 fn rows_past(rows: &Chunks, from: usize, to: usize, ticks: u64, end: u64) -> usize
     requires order { from ≤ to }
     requires within { to ≤ length rows.now }
@@ -62,8 +62,8 @@ fn rows_past(rows: &Chunks, from: usize, to: usize, ticks: u64, end: u64) -> usi
     rows_between(rows, from, to, end.saturating_sub(ticks + 1))
 }
 
-// The place, from the front, before which the rows came before the end that the window looks up to
-// at the cursor.
+// The place of the first row at or behind the end up to which the window looks at the cursor, from
+// the front.
 // Only rows from the place that was counted to are looked at.
 fn counted_at(stub: &Stub, rows: &Chunks, gone: usize, to: u64) -> usize
     requires sound { IsSound rows.now (shifted gone stub.now) }

@@ -50,8 +50,8 @@ fn rows_before(rows: &Chunks, from: usize, end: u64) -> usize
     rows_between(rows, from, rows.len(), end)
 }
 
-// How many of some rows are older than a range of so many ticks reaches back from before the
-// end.
+// How many of the rows between two places are older than what a range of so many ticks reaches,
+// which is seen up to before the end.
 fn rows_past(rows: &Chunks, from: usize, to: usize, ticks: u64, end: u64) -> usize
     requires order { from ≤ to }
     requires within { to ≤ length rows.now }
@@ -62,8 +62,7 @@ fn rows_past(rows: &Chunks, from: usize, to: usize, ticks: u64, end: u64) -> usi
     rows_between(rows, from, to, end.saturating_sub(ticks + 1))
 }
 
-// The place of the first row at or behind the end up to which the window looks at the cursor, from
-// the front.
+// The place of the first row that the window doesn't look at yet at the cursor, by the rows' times.
 // Only rows from the place that was counted to are looked at.
 fn counted_at(stub: &Stub, rows: &Chunks, gone: usize, to: u64) -> usize
     requires sound { IsSound rows.now (shifted gone stub.now) }

@@ -95,7 +95,7 @@ pub struct Warm<O> {
     // No more rows were pushed since the operators were started.
     pushed: usize,
     // When it was put back, in seconds.
-    used: u64,
+    pub(crate) used: u64,
 }
 
 impl<O: Operator> Warm<O> {
@@ -146,39 +146,6 @@ impl<O: Operator> Warm<O> {
     // Whether it stands for a query, and was put back before the time.
     pub(crate) fn is_unused(&self, since: u64) -> bool {
         self.kept.is_some() && self.used < since
-    }
-
-    // The same, put back at the time.
-    pub(crate) fn put_back(self, now: u64) -> Warm<O>
-        requires { IsWarm O.seen_in self }
-        ensures { IsWarm O.seen_in result }
-    {
-        let Warm {
-            bench,
-            kept,
-            pushed,
-            used: _,
-        } = self;
-        Warm {
-            bench,
-            kept,
-            pushed,
-            used: now,
-        }
-    }
-
-    // The same, which goes on with no pin.
-    pub(crate) fn forgotten(self) -> Warm<O>
-        requires { IsWarm O.seen_in self }
-        ensures { IsWarm O.seen_in result }
-    {
-        let Warm {
-            bench,
-            kept: _,
-            pushed: _,
-            used: _,
-        } = self;
-        Warm::new(bench)
     }
 
     /// Lets go of what is kept, and of the rows that the operators hold.

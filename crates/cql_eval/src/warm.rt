@@ -266,12 +266,21 @@ fn seem_same(alloc: Global, pin: &Pin, kept: &Kept, cursor: u64) -> Result<bool,
     }
     let ended = walks_at(alloc, before, cursor)?;
     let begun = walks_at(alloc, pin, pin.from())?;
-    Ok(
-        ended
-            .iter()
-            .zip(begun.iter())
-            .all(|(ended, begun)| ended.seems_same(begun)),
-    )
+    Ok(seem_held_same(&ended, &begun))
+}
+
+// Whether walks seem to hold what others do, each in its place.
+fn seem_held_same<'a, 'b>(first: &[SeenWalk<'a>], second: &[SeenWalk<'b>]) -> bool {
+    let inputs = first.len();
+    if inputs != second.len() {
+        return false;
+    }
+    for input in 0..inputs {
+        if !first[input].seems_same(&second[input]) {
+            return false;
+        }
+    }
+    true
 }
 
 // The walks over a pin at its first cursor, where the kept one holds the same there, on its way or at

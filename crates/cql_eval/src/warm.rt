@@ -236,8 +236,9 @@ pub(crate) fn walks_at<'a>(
     let inputs = pin.plan().inputs();
     let windows = pin.windows();
     let mut walks = Vec::new(alloc);
-    for (input, window) in inputs.iter().zip(windows) {
-        let walk = SeenWalk::at(alloc, window, input.places.as_slice(), cursor)?;
+    for input in 0..windows.len() {
+        let places = inputs[input].places.as_slice();
+        let walk = SeenWalk::at(alloc, &windows[input], places, cursor)?;
         walks.push(walk)?;
     }
     Ok(walks)

@@ -324,7 +324,6 @@ fn go_back<O: Operator>(
     ensures bench { IsBench O.seen_in bench.new }
     ensures shown { IfOk result (λ last. IsShown pin.now pin.now.from walks.now last (bench_seen O.seen_in bench.new)) }
 {
-    let _ = pin.windows();
     let begins = pin.from();
     let before = kept.pin();
     if begins == before.next() {

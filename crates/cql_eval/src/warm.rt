@@ -179,20 +179,21 @@ impl<O: Operator> Warm<O> {
     {
         self.bench.cancellation().clear();
         let pin = Arc::new(alloc, pin)?;
-        if pin.from() == pin.next() {
-            let blocks = nothing_asked(alloc, &pin);
+        let asked: &Pin = &pin;
+        if asked.from() == asked.next() {
+            let blocks = nothing_asked(alloc, asked);
             return Ok(Answer::new(pin, Items::from_vec(blocks), 0, false));
         }
         let kept = match self.kept.take() {
-            Some(kept) if kept.rows_back(&pin) <= pin.rows_held().max(FEW_BACK) => Some(kept),
+            Some(kept) if kept.rows_back(asked) <= asked.rows_held().max(FEW_BACK) => Some(kept),
             _ => None,
         };
         let before = match &kept {
-            Some(kept) => self.pushed.saturating_add(kept.rows_back(&pin)),
+            Some(kept) => self.pushed.saturating_add(kept.rows_back(asked)),
             None => 0,
         };
-        self.pushed = before.saturating_add(pin.rows_to_push(kept.is_some()));
-        match evaluate(alloc, &mut self.bench, &pin, kept) {
+        self.pushed = before.saturating_add(asked.rows_to_push(kept.is_some()));
+        match evaluate(alloc, &mut self.bench, asked, kept) {
             Ok((blocks, turns, went_on, last)) => {
                 self.keep(alloc, &pin, last);
                 Ok(Answer::new(pin, Items::from_vec(blocks), turns, went_on))

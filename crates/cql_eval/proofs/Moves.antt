@@ -1,5 +1,6 @@
 -- What came and what left as a walk went on.
-use Rattle.std.proofs.Common.{◌≡◌, List, ◌++◌, sym, ap, subst, ◌∙◌}
+use Rattle.std.proofs.Common.{◌≡◌, ◌<◌, ℕ, List, ◌++◌, length, slice_set, sym, ap, subst, ◌∙◌, arith}
+use Rattle.std.proofs.lemmas.Grind.{common_steps}
 use Rattle.std.proofs.lemmas.List.Sorted.{IsPermutation-append_comm, IsPermutation-sym, IsPermutation-trans}
 use Rattle.cql_value.specs.Element.{Element}
 use Rattle.cql_value.specs.declared.schema.ColumnType.{ColumnType}
@@ -7,7 +8,11 @@ use Rattle.cql_window.specs.declared.span.Moved.{Moved}
 use Rattle.cql_window.specs.Span.{rows_in, rows_left}
 use Rattle.cql_window.specs.Span.{rows_of as rows_pinned}
 use Rattle.cql_window.specs.Walk.{IsExchange}
-use Rattle.cql_eval.specs.Pin.{AreOf}
+use Rattle.cql_bag.specs.Bag.{Counts}
+use Rattle.cql_ops.specs.Bench.{BenchSeen}
+use Rattle.cql_ops.specs.Running.{contents_of}
+use Rattle.cql_eval.specs.Pin.{PinSeen, AreOf}
+use Rattle.cql_eval.specs.Shown.{HasPushed}
 use Rattle.cql_eval.specs.Seen.{SeenWalked, SeenWindow, rows_seen, seen_by, IsMove}
 use Rattle.cql_eval.proofs.Holding.{came_columns, exchange_columns, left_columns, now_columns}
 
@@ -39,3 +44,9 @@ pub backwards : (before came left now : List Element) → IsExchange before came
 backwards before came left now moved =
     IsPermutation-trans (now ++ left) (left ++ now) (came ++ before) (IsPermutation-append_comm now left)
     (IsPermutation-trans (left ++ now) (before ++ came) (came ++ before) (IsPermutation-sym (before ++ came) (left ++ now) moved) (IsPermutation-append_comm before came))
+
+-- the input is still one after its bag was changed
+pub within_after : (p : PinSeen) (i : ℕ) (bag : Counts) (o after : BenchSeen) → HasPushed p i bag o after → i < length (contents_of p.plan o) → i < length (contents_of p.plan after)
+within_after p i bag o after pushed lt =
+    let contents : contents_of p.plan after ≡ slice_set (contents_of p.plan o) i bag = pushed.contents in
+    grind (arith, common_steps)

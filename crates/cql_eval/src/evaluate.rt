@@ -1,14 +1,14 @@
 // The answer to a fetch.
-ghost use Rattle.std.specs.Prelude.{◌≡◌, ◌↔◌, ◌⊎◌, ◌≤◌, ◌<◌, ◌+◌, ◌*◌, ◌^◌, ℕ, length, IfOk, IfSome, OnOk, IsTrue};
+ghost use Rattle.std.specs.Prelude.{◌≡◌, ◌↔◌, ◌⊎◌, ◌≤◌, ◌<◌, ◌+◌, ◌*◌, ℕ, List, length, IfOk, IfSome, OnOk, IsTrue};
 ghost use Rattle.std.specs.List.{All, Contains};
-ghost use Rattle.std.specs.List.Sorted.{IsStrictlyIncreasing};
-ghost use Rattle.cql_bag.specs.Bag.{Counts};
-ghost use Rattle.cql_ops.specs.Bench.{IsBench, bench_seen};
+ghost use Rattle.cql_ops.specs.Bench.{BenchSeen, IsBench, bench_seen};
+ghost use Rattle.cql_ops.specs.Running.{told_of};
 ghost use Rattle.cql_algebra.specs.Runs.{StandFor};
 ghost use Rattle.cql_plan.specs.declared.plan.OutputKind.TheVariants.{Rstream};
 ghost use Rattle.cql_eval.specs.Answer.{IsAnswer, rows_in};
 ghost use Rattle.cql_eval.specs.Relation.{relation_at, output_at};
-ghost use Rattle.cql_eval.specs.Shown.{StandsFor, Tells, IsShown, AreSame, IsQuiet, IsQuietUntil, first_change, next_of};
+ghost use Rattle.cql_eval.specs.Seen.{SeenWalked};
+ghost use Rattle.cql_eval.specs.Shown.{StandsFor, Tells, IsReady, HasCome, IsStill, AreLeft, AreSame, first_change, next_of};
 ghost use Rattle.cql_eval.specs.Warm.{IsKept, StandsBehind};
 
 use crate::answered::Answer;
@@ -69,39 +69,24 @@ pub(crate) fn evaluate<O: Operator>(
     ensures answer { IfOk result (λ r. IsAnswer (record { pin = pin.now; blocks = r.0.items; turns = r.1 })) }
     ensures kept { IfOk result (λ r. IfSome r.3 (λ last. IsKept pin.now last (bench_seen O.seen_in bench.new))) }
 {
-    if pin.from() == pin.next() {
+    let end = pin.next();
+    if pin.from() == end {
         return Ok((nothing_asked(alloc, pin), 0, false, None));
     }
     let mut runs = Runs::new(alloc, pin.from());
     let instants = later_changes(alloc, pin)?;
     let mut left = instants.as_slice();
     let mut rows = Room::new(alloc);
-    let (mut shown, went_on) = begin(
-        alloc,
-        bench,
-        pin,
-        kept,
-        &mut runs,
-        &mut rows,
-        next_of(left, pin.next()),
-    )?;
-    let mut turns = 1;
+    let until = next_of(left, end);
+    let (mut shown, went_on) = begin(alloc, bench, pin, kept, &mut runs, &mut rows, until)?;
     while let Some((_, later)) = left.split_first() {
         bench.cancellation().look()?;
         left = later;
-        shown = change(
-            alloc,
-            bench,
-            pin,
-            shown,
-            &mut runs,
-            &mut rows,
-            next_of(left, pin.next()),
-        )?;
-        turns += 1;
+        let until = next_of(left, end);
+        shown = change(alloc, bench, pin, shown, &mut runs, &mut rows, until)?;
     }
     let last = remember(alloc, bench, pin, shown);
-    Ok((runs.finish(), turns, went_on, last))
+    Ok((runs.finish(), 1 + instants.len() as u64, went_on, last))
 }
 
 // The instants from the first one at which a window's content may change, in whatever order.
@@ -121,10 +106,8 @@ fn candidates(alloc: Global, pin: &Pin) -> Result<Vec<u64>, AllocError>
 
 // The instants at which the relation may change after it was computed once.
 fn later_changes(alloc: Global, pin: &Pin) -> Result<Vec<u64>, AllocError>
-    ensures rising { IfOk result (λ v. IsStrictlyIncreasing v.items) }
-    ensures within { IfOk result (λ v. All (λ t. (first_change pin.now ≤ t) × (t < pin.now.next)) v.items) }
     ensures few { IfOk result (λ v. length v.items ≤ 2 * rows_in pin.now.windows) }
-    ensures every { IfOk result (λ v. (t : ℕ) → first_change pin.now ≤ t → t < pin.now.next → Contains v.items t ⊎ IsQuiet pin.now t) }
+    ensures left { IfOk result (λ v. AreLeft pin.now (first_change pin.now) v.items) }
 {
     let mut instants = candidates(alloc, pin)?;
     instants.sort()?;
@@ -157,11 +140,8 @@ fn hold(
     runs: &mut Runs,
     until: u64,
 ) -> Result<(), AllocError>
-    requires forward { runs.old.next ≤ until }
-    requires bound { until ≤ 2 ^ 62 }
-    requires quiet { IsQuietUntil pin.now runs.old.next until }
-    ensures next { OnOk result (runs.new.next ≡ until) }
-    ensures stand { OnOk result ((told : Counts) → StandsFor pin.now.plan.output last.now told (relation_at pin.now runs.old.next) → StandFor (output_at pin.now) pin.now.from runs.old → StandFor (output_at pin.now) pin.now.from runs.new) }
+    requires { IsStill pin.now runs.old.next until }
+    ensures { OnOk result ((ks : List SeenWalked) (o : BenchSeen) → IsReady pin.now until ks o → StandsFor pin.now.plan.output last.now (told_of pin.now.plan o) (relation_at pin.now runs.old.next) → StandFor (output_at pin.now) pin.now.from runs.old → HasCome pin.now until runs.new ks last.now o) }
 {
     let next = runs.next();
     let kind = pin.plan().output();
@@ -179,13 +159,10 @@ fn hold(
 
 // Takes what was told at the next instant, if anything was; else nothing changes there either.
 fn take_told(pin: &Pin, runs: &mut Runs, told: Option<Output>, until: u64) -> Result<(), AllocError>
-    requires forward { runs.old.next < until }
-    requires bound { until ≤ 2 ^ 62 }
-    requires quiet { IsQuietUntil pin.now (runs.old.next + 1) until }
+    requires still { IsStill pin.now (runs.old.next + 1) until }
     requires told { Tells pin.now.plan.output told (relation_at pin.now runs.old.next) (relation_at pin.now (runs.old.next + 1)) }
     requires stand { StandFor (output_at pin.now) pin.now.from runs.old }
-    ensures next { OnOk result ((runs.old.next ≤ runs.new.next) × (runs.new.next ≤ until)) }
-    ensures quiet { OnOk result (IsQuietUntil pin.now runs.new.next until) }
+    ensures still { OnOk result (IsStill pin.now runs.new.next until) }
     ensures same { OnOk result (relation_at pin.now runs.new.next ≡ relation_at pin.now (runs.old.next + 1)) }
     ensures stand { OnOk result (StandFor (output_at pin.now) pin.now.from runs.new) }
 {
@@ -216,16 +193,10 @@ fn change<'a, O: Operator>(
     until: u64,
 ) -> Result<WalkState<'a>, AllocError>
     requires bench { IsBench O.seen_in bench.old }
-    requires based { pin.now.base ≤ runs.old.next }
-    requires forward { runs.old.next < until }
-    requires bound { until ≤ 2 ^ 62 }
-    requires shown { IsShown pin.now runs.old.next shown.walks.items shown.last (bench_seen O.seen_in bench.old) }
-    requires quiet { IsQuietUntil pin.now (runs.old.next + 1) until }
-    requires stand { StandFor (output_at pin.now) pin.now.from runs.old }
+    requires come { HasCome pin.now runs.old.next runs.old shown.walks.items shown.last (bench_seen O.seen_in bench.old) }
+    requires still { IsStill pin.now (runs.old.next + 1) until }
     ensures bench { IsBench O.seen_in bench.new }
-    ensures shown { IfOk result (λ s. IsShown pin.now until s.walks.items s.last (bench_seen O.seen_in bench.new)) }
-    ensures next { OnOk result (runs.new.next ≡ until) }
-    ensures stand { OnOk result (StandFor (output_at pin.now) pin.now.from runs.new) }
+    ensures come { IfOk result (λ s. HasCome pin.now until runs.new s.walks.items s.last (bench_seen O.seen_in bench.new)) }
 {
     let at = runs.next();
     let (shown, told) = step(alloc, bench, pin, shown, at + 1, rows)?;
@@ -249,14 +220,10 @@ fn begin<'a, O: Operator>(
     requires bench { IsBench O.seen_in bench.old }
     requires kept { IfSome kept (λ k. StandsBehind k (bench_seen O.seen_in bench.old)) }
     requires next { runs.old.next ≡ pin.now.from }
-    requires forward { first_change pin.now ≤ until }
-    requires bound { until ≤ 2 ^ 62 }
-    requires quiet { IsQuietUntil pin.now (first_change pin.now) until }
+    requires still { IsStill pin.now (first_change pin.now) until }
     requires stand { StandFor (output_at pin.now) pin.now.from runs.old }
     ensures bench { IsBench O.seen_in bench.new }
-    ensures shown { IfOk result (λ r. IsShown pin.now until r.0.walks.items r.0.last (bench_seen O.seen_in bench.new)) }
-    ensures next { OnOk result (runs.new.next ≡ until) }
-    ensures stand { OnOk result (StandFor (output_at pin.now) pin.now.from runs.new) }
+    ensures come { IfOk result (λ r. HasCome pin.now until runs.new r.0.walks.items r.0.last (bench_seen O.seen_in bench.new)) }
 {
     if let Some(kept) = kept {
         if let Some(resumed) = resume(alloc, bench, pin, kept)? {

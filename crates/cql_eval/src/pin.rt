@@ -99,9 +99,12 @@ impl Pin {
 
     // Whether some window is one of parts.
     pub(crate) fn has_parts(&self) -> bool {
-        self.windows
-            .iter()
-            .any(|it| matches!(it.window(), Window::Parts { .. }))
+        for window in self.windows() {
+            if matches!(window.window(), Window::Parts { .. }) {
+                return true;
+            }
+        }
+        false
     }
 
     // Whether a cursor is from the first instant on, up to behind the last.

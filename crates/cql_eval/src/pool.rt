@@ -53,22 +53,33 @@ impl<O: Operator> Pool<O> {
     // The place of a bench that seems to go on with a pin, or else of one that seems to stand for its
     // query, if one does.
     fn place_of(&self, alloc: Global, pin: &Pin) -> Option<usize> {
-        let mut benches = self.benches.iter();
-        if let Some(place) = benches.position(|bench| bench.seems_to_go_on(alloc, pin)) {
-            return Some(place);
+        for place in 0..self.benches.len() {
+            if self.benches[place].seems_to_go_on(alloc, pin) {
+                return Some(place);
+            }
         }
-        self.benches
-            .iter()
-            .position(|bench| bench.seems_to_stand_for(alloc, pin))
+        for place in 0..self.benches.len() {
+            if self.benches[place].seems_to_stand_for(alloc, pin) {
+                return Some(place);
+            }
+        }
+        None
     }
 
     // Takes out a bench that stands for no query, or the one that was put back before all others.
     fn take_spare(&mut self) -> Option<Warm<O>>
         ensures { IfSome result (IsWarm O.seen_in) }
     {
-        let place = self.benches.iter().position(|bench| bench.is_empty());
-        let bench = take_at(&mut self.benches, place.unwrap_or(0))?;
-        Some(bench.forgotten())
+        let mut spare = 0;
+        for place in 0..self.benches.len() {
+            if self.benches[place].is_empty() {
+                spare = place;
+                break;
+            }
+        }
+        let mut bench = take_at(&mut self.benches, spare)?;
+        bench.kept = None;
+        Some(bench)
     }
 
     /// Takes out a bench that seems to go on with the pin; else one that seems to stand for its query,
@@ -88,18 +99,23 @@ impl<O: Operator> Pool<O> {
     pub fn take_unused(&mut self, since: u64) -> Option<Warm<O>>
         ensures { IfSome result (IsWarm O.seen_in) }
     {
-        let place = self
-            .benches
-            .iter()
-            .position(|bench| bench.is_unused(since))?;
-        take_at(&mut self.benches, place)
+        let mut unused = self.benches.len();
+        for place in 0..self.benches.len() {
+            if self.benches[place].is_unused(since) {
+                unused = place;
+                break;
+            }
+        }
+        take_at(&mut self.benches, unused)
     }
 
     /// Puts back a bench that was taken out, at the time, in seconds. There is room for it.
     pub fn put(&mut self, bench: Warm<O>, now: u64)
         requires { IsWarm O.seen_in bench }
     {
-        let _ = self.benches.push(bench.put_back(now));
+        let mut bench = bench;
+        bench.used = now;
+        let _ = self.benches.push(bench);
     }
 }
 

@@ -269,12 +269,11 @@ pub(crate) fn ask<O: Operator>(
 {
     let outcome = bench.emit(alloc, pin.plan(), pin.limit())?;
     match outcome {
-        Outcome::Changed(changes) => Ok(Outcome::Changed(changes)),
-        Outcome::Held(fault) => Ok(Outcome::Held(fault)),
         Outcome::Faulty(fault) => {
             restart(alloc, bench, pin, walks)?;
             Ok(Outcome::Faulty(fault))
         }
+        outcome => Ok(outcome),
     }
 }
 

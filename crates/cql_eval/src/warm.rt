@@ -95,7 +95,7 @@ pub struct Warm<O> {
     // No more rows were pushed since the operators were started.
     pushed: usize,
     // When it was put back, in seconds.
-    used: u64,
+    pub(crate) used: u64,
 }
 
 impl<O: Operator> Warm<O> {
@@ -148,39 +148,6 @@ impl<O: Operator> Warm<O> {
         self.kept.is_some() && self.used < since
     }
 
-    // The same, put back at the time.
-    pub(crate) fn put_back(self, now: u64) -> Warm<O>
-        requires { IsWarm O.seen_in self }
-        ensures { IsWarm O.seen_in result }
-    {
-        let Warm {
-            bench,
-            kept,
-            pushed,
-            used: _,
-        } = self;
-        Warm {
-            bench,
-            kept,
-            pushed,
-            used: now,
-        }
-    }
-
-    // The same, which goes on with no pin.
-    pub(crate) fn forgotten(self) -> Warm<O>
-        requires { IsWarm O.seen_in self }
-        ensures { IsWarm O.seen_in result }
-    {
-        let Warm {
-            bench,
-            kept: _,
-            pushed: _,
-            used: _,
-        } = self;
-        Warm::new(bench)
-    }
-
     /// Lets go of what is kept, and of the rows that the operators hold.
     pub fn clear(&mut self, alloc: Global)
         requires { IsWarm O.seen_in self.old }
@@ -212,20 +179,21 @@ impl<O: Operator> Warm<O> {
     {
         self.bench.cancellation().clear();
         let pin = Arc::new(alloc, pin)?;
-        if pin.from() == pin.next() {
-            let blocks = nothing_asked(alloc, &pin);
+        let asked: &Pin = &pin;
+        if asked.from() == asked.next() {
+            let blocks = nothing_asked(alloc, asked);
             return Ok(Answer::new(pin, Items::from_vec(blocks), 0, false));
         }
         let kept = match self.kept.take() {
-            Some(kept) if kept.rows_back(&pin) <= pin.rows_held().max(FEW_BACK) => Some(kept),
+            Some(kept) if kept.rows_back(asked) <= asked.rows_held().max(FEW_BACK) => Some(kept),
             _ => None,
         };
         let before = match &kept {
-            Some(kept) => self.pushed.saturating_add(kept.rows_back(&pin)),
+            Some(kept) => self.pushed.saturating_add(kept.rows_back(asked)),
             None => 0,
         };
-        self.pushed = before.saturating_add(pin.rows_to_push(kept.is_some()));
-        match evaluate(alloc, &mut self.bench, &pin, kept) {
+        self.pushed = before.saturating_add(asked.rows_to_push(kept.is_some()));
+        match evaluate(alloc, &mut self.bench, asked, kept) {
             Ok((blocks, turns, went_on, last)) => {
                 self.keep(alloc, &pin, last);
                 Ok(Answer::new(pin, Items::from_vec(blocks), turns, went_on))
@@ -269,8 +237,9 @@ pub(crate) fn walks_at<'a>(
     let inputs = pin.plan().inputs();
     let windows = pin.windows();
     let mut walks = Vec::new(alloc);
-    for (input, window) in inputs.iter().zip(windows) {
-        let walk = SeenWalk::at(alloc, window, input.places.as_slice(), cursor)?;
+    for input in 0..windows.len() {
+        let places = inputs[input].places.as_slice();
+        let walk = SeenWalk::at(alloc, &windows[input], places, cursor)?;
         walks.push(walk)?;
     }
     Ok(walks)
@@ -299,12 +268,21 @@ fn seem_same(alloc: Global, pin: &Pin, kept: &LastAnswer, cursor: u64) -> Result
     }
     let ended = walks_at(alloc, before, cursor)?;
     let begun = walks_at(alloc, pin, pin.from())?;
-    Ok(
-        ended
-            .iter()
-            .zip(begun.iter())
-            .all(|(ended, begun)| ended.seems_same(begun)),
-    )
+    Ok(seem_held_same(&ended, &begun))
+}
+
+// Whether walks seem to hold what others do, each in its place.
+fn seem_held_same<'a, 'b>(first: &[SeenWalk<'a>], second: &[SeenWalk<'b>]) -> bool {
+    let inputs = first.len();
+    if inputs != second.len() {
+        return false;
+    }
+    for input in 0..inputs {
+        if !first[input].seems_same(&second[input]) {
+            return false;
+        }
+    }
+    true
 }
 
 // The walks over a pin at its first cursor, where the kept one holds the same there, on its way or at
@@ -347,7 +325,6 @@ fn go_back<O: Operator>(
     ensures bench { IsBench O.seen_in bench.new }
     ensures shown { IfOk result (λ last. IsShown pin.now pin.now.from walks.now last (bench_seen O.seen_in bench.new)) }
 {
-    let _ = pin.windows();
     let begins = pin.from();
     let before = kept.pin();
     if begins == before.next() {

@@ -14,3 +14,15 @@ returns-in-Ok-push_back-clause-rows c =
 
 pub returns-in-Ok-push_back-clause-are_full : goal.returns-in-Ok-push_back-clause-are_full
 returns-in-Ok-push_back-clause-are_full c = grind (arith, common_steps)
+
+pub returns-in-Err-clause-are_full : goal.returns-in-Err-clause-are_full
+returns-in-Err-clause-are_full c = grind (arith, common_steps)
+
+pub returns-in-Err-clause-short : goal.returns-in-Err-clause-short
+returns-in-Err-clause-short c = grind (arith, common_steps)
+
+pub returns-in-Ok-push_back-clause-room : goal.returns-in-Ok-push_back-clause-room
+returns-in-Ok-push_back-clause-room c = grind (arith, common_steps)
+
+pub returns-in-Ok-push_back-clause-short : goal.returns-in-Ok-push_back-clause-short
+returns-in-Ok-push_back-clause-short c = grind (arith, common_steps)

@@ -10,3 +10,15 @@ returns-clause-words c = grind (arith, common_steps)
 
 pub returns-clause-numbers : goal.returns-clause-numbers
 returns-clause-numbers c = grind (arith, common_steps)
+
+pub returns-in_err-ok-2-clause-numbers : goal.returns-in_err-ok-2-clause-numbers
+returns-in_err-ok-2-clause-numbers c = grind (arith, common_steps)
+
+pub returns-in_err-ok-2-clause-words : goal.returns-in_err-ok-2-clause-words
+returns-in_err-ok-2-clause-words c = grind (arith, common_steps)
+
+pub returns-in_err-ok-clause-numbers : goal.returns-in_err-ok-clause-numbers
+returns-in_err-ok-clause-numbers c = grind (arith, common_steps)
+
+pub returns-in_err-ok-clause-words : goal.returns-in_err-ok-clause-words
+returns-in_err-ok-clause-words c = grind (arith, common_steps)

@@ -1,32 +1,29 @@
 use Rattle.std.proofs.Common.{subst, ◌∙◌}
 use Rattle.cql_ops.specs.Bench.{BenchSeen, bench_seen}
 use Rattle.cql_ops.specs.Running.{IsOutcome}
-use Rattle.cql_ops.specs.declared.running.Outcome.TheVariants.{Changed, Held}
-use Rattle.cql_eval.proofs.Steps.{leads_on, leads_anew}
+use Rattle.cql_eval.proofs.Steps.{runs_on, leads_on, leads_anew}
 use Rattle.cql_eval.proofs.shown.ask.Goals as goal
 
 pub restart-requires-clause-walks : goal.restart-requires-clause-walks
 restart-requires-clause-walks g c = (c.args.cursor, c.requires.ready.walks)
 
-pub returns-in-Changed-clause-leads : goal.returns-in-Changed-clause-leads
-returns-in-Changed-clause-leads g c =
+pub returns-in_default-clause-leads : goal.returns-in_default-clause-leads
+returns-in_default-clause-leads g c =
     let p = c.args.pin.now in
     let o : BenchSeen = bench_seen g.O.Operator.seen_in c.args.bench.now in
     let after : BenchSeen = bench_seen g.O.Operator.seen_in c.emit.new.self in
     let out : IsOutcome p.plan p.limit o after c.in_ok-outcome.outcome
     = subst (λ n. IsOutcome p.plan n o after c.in_ok-outcome.outcome) c.limit.ensures (subst (λ q. IsOutcome q c.limit.result o after c.in_ok-outcome.outcome) c.plan.ensures.value c.in_ok-outcome.ensures.outcome) in
-    let is = subst (IsOutcome p.plan p.limit o after) c.in-Changed.is out in
-    leads_on p c.args.cursor (Changed c.in-Changed.changes) o after c.requires.based (c.requires.ready.contents ∙ c.requires.bags) is (λ f e. cc)
+    leads_on p c.args.cursor c.in_ok-outcome.outcome o after c.requires.based (c.requires.ready.contents ∙ c.requires.bags) out c.in_default.not-Faulty
 
-pub returns-in-Held-clause-leads : goal.returns-in-Held-clause-leads
-returns-in-Held-clause-leads g c =
+pub returns-in_default-clause-ready : goal.returns-in_default-clause-ready
+returns-in_default-clause-ready g c =
     let p = c.args.pin.now in
     let o : BenchSeen = bench_seen g.O.Operator.seen_in c.args.bench.now in
     let after : BenchSeen = bench_seen g.O.Operator.seen_in c.emit.new.self in
     let out : IsOutcome p.plan p.limit o after c.in_ok-outcome.outcome
     = subst (λ n. IsOutcome p.plan n o after c.in_ok-outcome.outcome) c.limit.ensures (subst (λ q. IsOutcome q c.limit.result o after c.in_ok-outcome.outcome) c.plan.ensures.value c.in_ok-outcome.ensures.outcome) in
-    let is = subst (IsOutcome p.plan p.limit o after) c.in-Held.is out in
-    leads_on p c.args.cursor (Held c.in-Held.fault) o after c.requires.based (c.requires.ready.contents ∙ c.requires.bags) is (λ f e. cc)
+    runs_on p c.args.cursor c.args.walks.now c.in_ok-outcome.outcome o after c.requires.ready out c.in_default.not-Faulty
 
 pub returns-in_ok-restart-in-Faulty-clause-leads : goal.returns-in_ok-restart-in-Faulty-clause-leads
 returns-in_ok-restart-in-Faulty-clause-leads g c =

@@ -1,3 +1,4 @@
+use Rattle.std.proofs.lemmas.Grind.{common_steps}
 use Rattle.std.proofs.Common.{◌≡◌, ◌<◌, ◌++◌, [], length, drop, map, refl, sym, subst, ◌∙◌, arith}
 use Rattle.cql_bag.specs.Bag.{bag_of}
 use Rattle.cql_plan.specs.Ports.{ports}
@@ -89,3 +90,9 @@ returns-clause-back g c =
     let all = map (reached c.args.cursor) (windows_seen p) in
     let none : c.loop-walk.walks.items ≡ [] = no_length c.loop-walk.walks.items (omega (arith, c.in_default.ensures.cases.0, c.loop-walk.walks.ok)) in
     all_back p c.args.cursor all c.loop-walk.walks.items (bench_seen g.O.Operator.seen_in c.args.bench.now) (bench_seen g.O.Operator.seen_in c.loop-walk.bench) refl none c.loop-walk.invariant.ready c.loop-walk.invariant.told
+
+pub loop-walk-smaller : goal.loop-walk-smaller
+loop-walk-smaller g c = grind (arith, common_steps)
+
+pub retreat_one-requires-clause-within : goal.retreat_one-requires-clause-within
+retreat_one-requires-clause-within g c = grind (arith, common_steps)

@@ -13,7 +13,7 @@ use Rattle.cql_eval.specs.Seen.{SeenWalked, seen_by, content_seen}
 use Rattle.cql_eval.specs.Shown.{rows_of, changes_of}
 use Rattle.cql_eval.proofs.Exchange.{Exchanged, can_come, window_moved}
 use Rattle.cql_eval.proofs.Holding.{port_after, pushed_both}
-use Rattle.cql_eval.proofs.Moves.{came_of, left_of, left_is, columns_of, backwards}
+use Rattle.cql_eval.proofs.Moves.{came_of, left_of, left_is, columns_of, within_after, backwards}
 use Rattle.cql_eval.proofs.walks.retreat_one.Goals as goal
 
 pub push_rows-requires-clause-columns : goal.push_rows-requires-clause-columns
@@ -71,3 +71,15 @@ returns-clause-pushed g c =
     (λ pushed. pushed_both p c.args.input _ _ (bag_of (rows_of c.args.walk.held)) o mid after c.in_ok-push_rows.ensures.pushed pushed
     ((λ i. changed_by (changes_of false (seen_by k (c.rows-came.ensures i))) (here i)) ∙ back.done))
     c.push_rows-2.ensures.pushed
+
+pub push_rows-requires-2-clause-input : goal.push_rows-requires-2-clause-input
+push_rows-requires-2-clause-input g c = c.requires.input
+
+pub push_rows-requires-2-clause-within : goal.push_rows-requires-2-clause-within
+push_rows-requires-2-clause-within g c = within_after c.args.pin.now c.args.input _ (bench_seen g.O.Operator.seen_in c.args.bench.now) (bench_seen g.O.Operator.seen_in c.push_rows.new.bench) c.in_ok-push_rows.ensures.pushed c.requires.within
+
+pub rows-came-requires : goal.rows-came-requires
+rows-came-requires g c = c.in_ok-walk.ensures.moved.came
+
+pub returns-clause-bench : goal.returns-clause-bench
+returns-clause-bench g c = c.push_rows-2.ensures.bench

@@ -19,7 +19,7 @@ returns-then-begins-next-clause-shown g c =
     let meets = c.requires.meets in
     let ends : p.next ≡ q.from = omega (arith, c.if-begins-next.true, c.from-begins.ensures.value, c.next.ensures.value, ap (λ (r : PinSeen). r.next) c.pin-before.ensures) in
     subst (λ l. IsShown q q.from ks l o) (sym c.into_last.ensures)
-    (resumed p q c.args.kept.last ks o meets.plan meets.limit meets.based c.windows.ensures.pin.windows c.requires.walks (ap (λ n. bags_at n (windows_seen p)) ends ∙ meets.same) c.requires.kept)
+    (resumed p q c.args.kept.last ks o meets.plan meets.limit meets.based c.from-begins.ensures.pin.windows c.requires.walks (ap (λ n. bags_at n (windows_seen p)) ends ∙ meets.same) c.requires.kept)
 
 -- the bench was taken back to where the pin begins
 pub ask-requires-clause-ready : goal.ask-requires-clause-ready
@@ -31,7 +31,7 @@ ask-requires-clause-ready g c =
     let mid : BenchSeen = bench_seen g.O.Operator.seen_in c.retreat.new.bench in
     let back : IsBack p q.from o mid
     = subst (λ r. IsBack r q.from o mid) c.pin-before.ensures (subst (λ n. IsBack c.pin-before.result.now n o mid) c.from-begins.ensures.value c.in_ok-retreat.ensures.back) in
-    subst (λ n. IsReady q n ks mid) (sym c.from-begins.ensures.value) (met_ready c.args.kept q ks o mid c.requires.meets c.requires.walks c.windows.ensures.pin.windows back)
+    subst (λ n. IsReady q n ks mid) (sym c.from-begins.ensures.value) (met_ready c.args.kept q ks o mid c.requires.meets c.requires.walks c.from-begins.ensures.pin.windows back)
 
 pub ask-requires-clause-bags : goal.ask-requires-clause-bags
 ask-requires-clause-bags g c =

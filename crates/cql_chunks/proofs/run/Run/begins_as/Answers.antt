@@ -1,3 +1,4 @@
+use Rattle.std.proofs.lemmas.Grind.{common_steps}
 use Rattle.std.proofs.Common.{◌*◌, ◌≤◌, ◌<◌, length, take, arith, sym, subst, ap, ◌∙◌, length-take}
 use Rattle.cql_chunks.specs.Beside.{IsBeside}
 use Rattle.cql_chunks.proofs.Beside.{beside_long, beside_same}
@@ -40,3 +41,9 @@ returns c =
       λ is. sym one ∙ same.0 (c.are_equal.ensures.0 is) ∙ other,
       λ is. c.are_equal.ensures.1 (same.1 (one ∙ is ∙ sym other)),
     )
+
+pub slice_bounds-are_same-end : goal.slice_bounds-are_same-end
+slice_bounds-are_same-end c = grind (arith, common_steps)
+
+pub slice_bounds-are_same-end-then-self-eq0 : goal.slice_bounds-are_same-end-then-self-eq0
+slice_bounds-are_same-end-then-self-eq0 c = grind (arith, common_steps)

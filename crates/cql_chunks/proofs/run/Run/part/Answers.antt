@@ -1,3 +1,4 @@
+use Rattle.std.proofs.lemmas.Grind.{common_steps}
 use Rattle.std.proofs.Common.{◌≤◌, length, arith, ap}
 use Rattle.std.proofs.Math.Nat.{mul-le-mul_left}
 use Rattle.cql_chunks.proofs.Beside.{beside_long, beside_part}
@@ -37,3 +38,9 @@ invariant_of-result c =
     let s = c.self.inside in
     let within : c.args.to ≤ length s.rows.now = omega (arith, c.requires.within, ap length c.self.view_is) in
     beside_part s.width c.args.from c.args.to s.words.now s.rows.now c.self.invariant c.requires.order within
+
+pub slice_bounds-result-count-2 : goal.slice_bounds-result-count-2
+slice_bounds-result-count-2 c = grind (arith, common_steps)
+
+pub slice_bounds-result-start-2 : goal.slice_bounds-result-start-2
+slice_bounds-result-start-2 c = grind (arith, common_steps)

@@ -1,3 +1,4 @@
+use Rattle.std.proofs.lemmas.Grind.{common_steps}
 use Rattle.std.proofs.Common.{◌≡◌, ◌+◌, ◌-◌, [], ◌++◌, arith, ap, sym, ◌∙◌, length, drop, take}
 use Rattle.std.proofs.lemmas.List.{nil_from_length}
 use Rattle.cql_chunks.proofs.Rows.{stretch_more}
@@ -14,3 +15,6 @@ returns-clause-rows c =
     ∙ sym (stretch_more s.at s.to (length c.run-run.result) all c.run-run.result c.run-run.ensures.rows c.run-run.ensures.within)
     ∙ ap (λ l. run ++ (l ++ take (s.to - (s.at + length run)) (drop (s.at + length run) all))) (sym none)
     ∙ ap (λ n. run ++ (s.near.now ++ take (s.to - (s.at + n)) (drop (s.at + n) all))) (sym c.len.ensures)
+
+pub returns-then-self-clause-none : goal.returns-then-self-clause-none
+returns-then-self-clause-none c = grind (arith, common_steps)

@@ -1,0 +1,27 @@
+use Rattle.std.proofs.lemmas.Grind.{common_steps}
+use Rattle.std.proofs.Common.{arith}
+use Rattle.cql_eval.proofs.warm.Warm.answer.Goals as goal
+
+pub evaluate-requires-clause-kept : goal.evaluate-requires-clause-kept
+evaluate-requires-clause-kept g c = grind (arith, common_steps)
+
+pub new-requires-in-Ok : goal.new-requires-in-Ok
+new-requires-in-Ok g c = grind (arith, common_steps)
+
+pub new-requires-then-from-next : goal.new-requires-then-from-next
+new-requires-then-from-next g c = grind (arith, common_steps)
+
+pub nothing_asked-blocks-requires : goal.nothing_asked-blocks-requires
+nothing_asked-blocks-requires g c = grind (arith, common_steps)
+
+pub returns-in-Err-clause-warm : goal.returns-in-Err-clause-warm
+returns-in-Err-clause-warm g c = grind (arith, common_steps)
+
+pub returns-in-Ok-clause-pin : goal.returns-in-Ok-clause-pin
+returns-in-Ok-clause-pin g c = grind (arith, common_steps)
+
+pub returns-in-Ok-clause-warm : goal.returns-in-Ok-clause-warm
+returns-in-Ok-clause-warm g c = grind (arith, common_steps)
+
+pub returns-then-from-next-clause-pin : goal.returns-then-from-next-clause-pin
+returns-then-from-next-clause-pin g c = grind (arith, common_steps)

@@ -6,7 +6,7 @@ use Rattle.cql_value.specs.Element.{Element}
 use Rattle.cql_window.specs.declared.window.Window.{Window}
 use Rattle.cql_window.specs.declared.window.Window.TheVariants.{Range, Rows, All as all, Parts}
 use Rattle.cql_window.specs.Window.{front_len, count_before, last_of_parts, count_part, kept, content, beyond}
-use Rattle.cql_window.proofs.Exchanges.{each_drop}
+use Rattle.cql_eval.proofs.Resumed.{each_kept}
 use Rattle.cql_store.specs.Held.{Held, fed, pinned}
 use Rattle.cql_store.proofs.Next.{all_split}
 use Rattle.cql_window.specs.RowPlaces.{at_places, all_places}
@@ -159,25 +159,6 @@ module _ (t : ℕ) (d : List Home) (p : Source) (x : Element) (has : Reaches 0 (
   pub put_full_queries : (qs : List (Named Shade)) → AllFull t d qs → AllFull t d (each (put_shade p x) qs)
   put_full_queries [] full = full
   put_full_queries (q ∷ qs) full = (put_full_or q.item.places_of q.item.plan q.item.stubs full.0, put_full_queries qs full.1)
-
--- A LATER CURSOR
-all_if : (P : Element → Type 0) (b : Bool) (x : Element) (xs : List Element) → P x → AllByRecursion P xs → AllByRecursion P (if b then x ∷ xs else xs)
-all_if P true x xs px h = (px, h)
-all_if P false x xs px h = h
-
-all_filter : (P : Element → Type 0) (q : Element → Bool) (xs : List Element) → AllByRecursion P xs → AllByRecursion P (filter q xs)
-all_filter P q [] h = h
-all_filter P q (x ∷ xs) h = all_if P (q x) x (filter q xs) h.0 (all_filter P q xs h.1)
-
-all_parts : (P : Element → Type 0) (columns : List ℕ) (n : ℕ) (xs : List Element) → AllByRecursion P xs → AllByRecursion P (last_of_parts columns n xs)
-all_parts P columns n [] h = h
-all_parts P columns n (x ∷ xs) h = all_if P (nat_lt (count_part columns x.row xs) n) x (last_of_parts columns n xs) h.0 (all_parts P columns n xs h.1)
-
-all_kept : (P : Element → Type 0) (w : Window) (c : ℕ) (xs : List Element) → AllByRecursion P xs → AllByRecursion P (kept w c xs)
-all_kept P (Range len slide) c xs h = all_filter P _ xs h
-all_kept P (Rows count slide) c xs h = each_drop P _ xs h
-all_kept P all c xs h = h
-all_kept P (Parts columns count) c xs h = all_parts P columns count xs h
 
 module _ (t : ℕ) (d : List Home) (to : ℕ) where
   ack_seen_one : (inputs : List BoundInput) (s : ShadeStub) → FullStub t d inputs s → stub_seen (ack_shade_stub to s) ≡ ack_shown to (stub_seen s)
@@ -361,7 +342,7 @@ content_seen t d inputs next c s full =
     let old = s.held.content in
     let cut = take (count_before next s.held.unseen) s.held.unseen in
     let rows : AllByRecursion P (old ++ cut) = all_front P old s.held.unseen (count_before next s.held.unseen) full.rows in
-    let within : AllByRecursion P (content wide c old cut) = all_kept P wide c (old ++ take (front_len wide c cut) cut) (all_front P old cut (front_len wide c cut) rows) in
+    let within : AllByRecursion P (content wide c old cut) = each_kept P wide c (old ++ take (front_len wide c cut) cut) (all_front P old cut (front_len wide c cut) rows) in
     ap (λ w. narrowed_all ps (content w c old cut)) full.window
     ∙ sym (twice ps (content wide c old cut) within)
     ∙ ap (narrowed_all (all_places (length ps))) (sym (narrow_law ps s.window c old cut rows).content)

@@ -9,6 +9,7 @@ use Rattle.cql_value.specs.Order.{row_cmp}
 use Rattle.cql_value.specs.declared.value.Value.{Value}
 use Rattle.cql_value.proofs.Members.{here, nothing, cases, each, filtered, there, mapped}
 use Rattle.cql_value.proofs.Ties.{tied}
+use Rattle.cql_algebra.proofs.AllOf.{missing, missed}
 use Rattle.cql_bag.specs.Bag.{Counts, IsBag, size_of}
 use Rattle.cql_bag.specs.Changes.{changed, CanChange}
 use Rattle.cql_bag.specs.declared.change.Change.{Change}
@@ -108,30 +109,6 @@ zip_at P (a ∷ xs) (b ∷ ys) x all c = elim (cases a x xs c) [
   | inl e ↦ (b, subst (λ y. P y b) e all.0)
   | inr d ↦ zip_at P xs ys x all.1 d
 ]
-
--- of values one is missing
-rest_missing : {A : Type 0} (y : A) (r : Option (List A)) → with_first (Some y) r ≡ None → r ≡ None
-rest_missing y None h = refl
-rest_missing y (Some l) h = absurd cc
-
-still_missing : {A : Type 0} (o : Option A) → with_first o None ≡ None
-still_missing None = refl
-still_missing (Some x) = refl
-
-module _ {A B : Type 0} (f : A → Option B) where
-  missing : (xs : List A) → all_of (map f xs) ≡ None → (x : A) × Contains xs x × (f x ≡ None)
-  missing [] h = absurd cc
-  missing (x ∷ xs) h = elim (f x) as (λ o. f x ≡ o → with_first o (all_of (map f xs)) ≡ None → (y : A) × Contains (x ∷ xs) y × (f y ≡ None)) [
-    | None ↦ λ e h. (x, here x xs, e)
-    | Some y ↦ λ e h. let r = missing xs (rest_missing y (all_of (map f xs)) h) in (r.0, there x r.0 xs r.1, r.2)
-  ] refl h
-
-  missed : (xs : List A) (x : A) → Contains xs x → f x ≡ None → all_of (map f xs) ≡ None
-  missed [] x c e = absurd (nothing x c)
-  missed (y ∷ xs) x c e = elim (cases y x xs c) [
-    | inl s ↦ ap (λ o. with_first o (all_of (map f xs))) (ap f s ∙ e)
-    | inr d ↦ ap (with_first (f y)) (missed xs x d e) ∙ still_missing (f y)
-  ]
 
 from_none : {A : Type 0} (o : Option A) → is_none o ≡ true → o ≡ None
 from_none None h = refl

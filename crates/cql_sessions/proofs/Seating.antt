@@ -383,12 +383,6 @@ pub further : (table : List Tenant) (old mid new : Visit) (used next : List ℕ)
     → ((came : List ℕ) → Visits table came mid → Visits table (came ++ next) new) → (came : List ℕ) → Visits table came old → Visits table (came ++ (used ++ next)) new
 further table old mid new used next one two came visits = subst (λ l. Visits table l new) (append_assoc came used next) (two (came ++ used) (one came visits))
 
--- the front of the rest was taken
-pub rest_taken : (all used rest : List ℕ) (n : ℕ) → all ≡ used ++ rest → all ≡ (used ++ take n rest) ++ take (length rest - n) (drop n rest)
-rest_taken all used rest n is =
-    is ∙ ap (λ l. used ++ l) (sym (take-append-drop n rest)) ∙ sym (append_assoc used (take n rest) (drop n rest))
-    ∙ ap (λ l. (used ++ take n rest) ++ l) (sym (take_all (length rest - n) (drop n rest) (omega (arith, length-drop n rest))))
-
 pub none_left : (xs : List ℕ) → (length xs == 0) ≡ true → xs ≡ []
 none_left [] e = refl
 none_left (x ∷ xs) e = absurd (let long : length (x ∷ xs) ≡ 0 = eqb-true (length (x ∷ xs)) 0 e in omega arith)

@@ -219,21 +219,6 @@ go_sound rows to counted ahead gone k s ready count within order front bound par
       | inr parts ↦ parts_sound rows to counted ahead gone k s parts is count within order front (partly parts) keeps
     ]
 
--- what a window of parts keeps is the newest of its parts
-pub own_newest : (rows : List Element) (columns : List ℕ) (count : ℕ) (s : Stub) → s.window ≡ Parts columns count → IsSound rows s → AreNewestOf columns count s.kept
-own_newest rows columns count s window is =
-    let own : (s.first ≡ s.seen) × (last_of_parts columns count s.kept ≡ s.kept) = subst (λ w. IsKept w s.kept s.first s.seen) window is.kept in
-    own.1
-
--- where a window of parts passes no row, it keeps what it has
-pub none_passed : (rows : List Element) (to : ℕ) (columns : List ℕ) (count : ℕ) (s : Stub) → s.window ≡ Parts columns count → IsSound rows s → 0 ≡ front_len s.window to (drop s.seen rows) → s.kept ≡ content (Parts columns count) to (s.kept ++ take (s.seen - s.first) (drop s.first rows)) (drop s.seen rows)
-none_passed rows to columns count s window is none =
-    let own : (s.first ≡ s.seen) × (last_of_parts columns count s.kept ≡ s.kept) = subst (λ w. IsKept w s.kept s.first s.seen) window is.kept in
-    let no_more : s.seen - s.first ≡ 0 = omega (arith, own.0) in
-    let no_front : front_len (Parts columns count) to (drop s.seen rows) ≡ 0 = sym (none ∙ ap (λ w. front_len w to (drop s.seen rows)) window) in
-    let settled : s.kept ++ take (s.seen - s.first) (drop s.first rows) ≡ s.kept = ap (λ n. s.kept ++ take n (drop s.first rows)) no_more ∙ append-nil s.kept in
-    sym own.1 ∙ ap (last_of_parts columns count) (sym (ap (λ n. (s.kept ++ take (s.seen - s.first) (drop s.first rows)) ++ take n (drop s.seen rows)) no_front ∙ append-nil (s.kept ++ take (s.seen - s.first) (drop s.first rows)) ∙ settled))
-
 -- where it passes some, it keeps what these make of what it has
 pub some_passed : (rows : List Element) (to : ℕ) (columns : List ℕ) (count ahead : ℕ) (s : Stub) → s.window ≡ Parts columns count → IsSound rows s → 0 < count → ahead ≡ front_len s.window to (drop s.seen rows) → with_all columns count s.kept (take ahead (drop s.seen rows)) ≡ content (Parts columns count) to (s.kept ++ take (s.seen - s.first) (drop s.first rows)) (drop s.seen rows)
 some_passed rows to columns count ahead s window is some front =

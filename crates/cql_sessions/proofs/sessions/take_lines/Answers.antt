@@ -1,5 +1,6 @@
 use Rattle.std.proofs.Common.{◌++◌, [], take, refl, sym, ◌∙◌}
-use Rattle.cql_sessions.proofs.Seating.{clash, nowhere, further, rest_taken, none_left, used_served, used_stops, all_used}
+use Rattle.cql_lines.proofs.Writing.{moves_front}
+use Rattle.cql_sessions.proofs.Seating.{clash, nowhere, further, none_left, used_served, used_stops, all_used}
 use Rattle.cql_sessions.proofs.sessions.take_lines.Goals as goal
 
 pub loop-visit-init : goal.loop-visit-init
@@ -23,7 +24,7 @@ loop-visit-preserved g c =
       input = c.in_ok-step.ensures.input ∙ c.loop-visit.invariant.input;
       seats = (
         used ++ take count rest,
-        rest_taken c.args.bytes.now used rest count is,
+        moves_front c.args.bytes.now used rest count is,
         further c.args.service.now.table.now c.args.visit.now c.loop-visit.visit c.take_line.new.self used (take count rest) seats (c.in_ok-step.ensures.seats (sym c.is_over.ensures ∙ c.if-not-is_over.true)),
       );
     }

@@ -1,20 +1,20 @@
 #!/usr/bin/env python3
 """Prints each block of a query once, also where the cqld is stopped and started anew.
 
-usage: examples/consume.py --port N --tenant NAME --query NAME --places FOLDER
+usage: examples/consume.py --port N --tenant NAME --query NAME --offsets FOLDER
            [--out FILE] [--until INSTANT] [--poll SECONDS]
 
-The consumer's place is kept in FOLDER/QUERY: up to which instant all was taken, and the block that
+The consumer's offset is kept in FOLDER/QUERY: up to which instant all was taken, and the block that
 ends there and may go on. A block is printed when it is at its end, whole, as a line of JSON. So
 what is printed doesn't depend on when the server was stopped, or when it was asked. On a server
 started anew the consumer waits until the query is made and fed again (examples/feed.py does both),
-and goes on at its place.
+and goes on at its offset.
 
-With --out the blocks go to a file. The place knows how long that file is, and what stands behind is
+With --out the blocks go to a file. The offset knows how long that file is, and what stands behind is
 cut off at the start: so each block is there once even if the consumer itself is killed. Without it
 the blocks of its last answer may then be printed again.
 
-What it waits for, a server, a place at one or the query, it says on standard error within five
+What it waits for, a server, a slot at one or the query, it says on standard error within five
 seconds. The key is taken from the environment variable CQL_KEY. The consumer ends once all below INSTANT was
 taken, else it runs until it is interrupted. The status is 1 where it can't go on, 2 for its words.
 """
@@ -35,7 +35,7 @@ from romburik import Block, Session, WholeBlocks
 
 
 @dataclass(frozen=True)
-class Place:
+class Offset:
     """Up to which instant all was taken, the block that may go on there, and the output's bytes."""
 
     next: int = 0
@@ -43,16 +43,16 @@ class Place:
     bytes: int = 0
 
     @staticmethod
-    def read(path: pathlib.Path) -> "Place":
+    def read(path: pathlib.Path) -> "Offset":
         try:
             kept = json.loads(path.read_text(encoding="utf-8"))
         except FileNotFoundError:
-            return Place()
+            return Offset()
         held = kept["held"]
-        return Place(kept["next"], Block.of(held) if held else None, kept["bytes"])
+        return Offset(kept["next"], Block.of(held) if held else None, kept["bytes"])
 
     def write(self, path: pathlib.Path) -> None:
-        """Writes the place so that the file has the old one or this one, whatever happens."""
+        """Writes the offset so that the file has the old one or this one, whatever happens."""
         held = json.loads(self.held.line()) if self.held else None
         text = json.dumps({"bytes": self.bytes, "held": held, "next": self.next})
         with tempfile.NamedTemporaryFile("w", dir=path.parent, delete=False) as file:
@@ -67,24 +67,24 @@ def say(text: str) -> None:
 
 
 def consume(session: Session, words: argparse.Namespace, out: BinaryIO) -> None:
-    """Prints blocks from the consumer's place on, and keeps its place."""
-    path = pathlib.Path(words.places, words.query)
-    place = Place.read(path)
+    """Prints blocks from the consumer's offset on, and keeps its offset."""
+    path = pathlib.Path(words.offsets, words.query)
+    offset = Offset.read(path)
     if words.out:
-        out.truncate(place.bytes)
-    blocks = WholeBlocks(place.held)
-    if words.until is not None and place.next >= words.until:
+        out.truncate(offset.bytes)
+    blocks = WholeBlocks(offset.held)
+    if words.until is not None and offset.next >= words.until:
         return
-    answers = session.answers(words.query, since=place.next, poll=words.poll, patience=None)
+    answers = session.answers(words.query, since=offset.next, poll=words.poll, patience=None)
     for answer in answers:
         lines = b"".join(block.line().encode() + b"\n" for block in blocks.take(answer))
         out.write(lines)
         out.flush()
         if words.out:
             os.fsync(out.fileno())
-        place = Place(answer.next, blocks.held, place.bytes + len(lines))
-        place.write(path)
-        if words.until is not None and place.next >= words.until:
+        offset = Offset(answer.next, blocks.held, offset.bytes + len(lines))
+        offset.write(path)
+        if words.until is not None and offset.next >= words.until:
             return
 
 
@@ -107,7 +107,7 @@ def main(given: Optional[Sequence[str]] = None) -> int:
     parser.add_argument("--port", type=int, required=True)
     parser.add_argument("--tenant", required=True)
     parser.add_argument("--query", required=True)
-    parser.add_argument("--places", required=True, help="the folder of the consumers' places")
+    parser.add_argument("--offsets", required=True, help="the folder of the consumers' offsets")
     parser.add_argument("--out", help="a file for the blocks")
     parser.add_argument("--until", type=int, help="the instant at which it ends")
     parser.add_argument("--poll", type=float, default=0.2, help="seconds between fetches (0.2)")

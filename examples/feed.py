@@ -1,7 +1,7 @@
 #!/usr/bin/env python3
 """Puts the lines of a log, and puts them again where a cqld was started anew.
 
-usage: examples/feed.py --port N --tenant NAME --setup FILE --log FILE --places FOLDER
+usage: examples/feed.py --port N --tenant NAME --setup FILE --log FILE --offsets FOLDER
            [--ahead ROWS] [--reach TICKS] [--poll SECONDS]
 
 A cqld keeps nothing when it stops. What lasts stands in front of it, here as two files of commands,
@@ -12,7 +12,7 @@ more of it.
 Where a connection is lost the feeder connects anew. A server without streams was started anew: it
 is told the setup and then the log from its beginning. With --reach, lines are left out which are
 too old for windows that look back so many ticks from where the slowest consumer is. Each query is
-acknowledged up to the place of its consumer (examples/consume.py), the `next` of FOLDER/QUERY; so
+acknowledged up to the offset of its consumer (examples/consume.py), the `next` of FOLDER/QUERY; so
 each consumer goes on where it was, and is told what it would have been told without the stop.
 
 The feeder is at most ROWS rows ahead of the slowest consumer, but for rows of one instant, and for
@@ -22,11 +22,11 @@ rows and those together: each query needs a consumer, and each stream lines in t
 heartbeats if no rows.
 
 A connection may be lost while the server goes on. Then the times that the streams still take say
-which lines came in; where they fit two places of the log, as with several rows at one instant, the
+which lines came in; where they fit two lines of the log, as with several rows at one instant, the
 feeder ends rather than put a row twice or leave one out. A new start of the server sets that
 right.
 
-What it waits for, a server or a place at one, it says on standard error within five seconds. The
+What it waits for, a server or a slot at one, it says on standard error within five seconds. The
 key is taken from the environment variable CQL_KEY. The feeder runs until it is interrupted. The
 status is 1 where it can't go on, 2 for its words.
 
@@ -39,7 +39,7 @@ value of a record, and a line's number its offset: Log.lines then assigns the pa
 the offset and polls. No offset is committed, since it is the server that forgets, not the feeder.
 The topic has to keep its records for as long as windows look back from the slowest consumer, and
 with --reach the first offset is found by offsetsForTimes, where records have the times of their
-lines. The setup is a file as here. A consumer keeps its place where its output goes, in the same
+lines. The setup is a file as here. A consumer keeps its offset where its output goes, in the same
 transaction: as records of the output's topic, or in the rows of a database.
 """
 import argparse
@@ -153,7 +153,7 @@ class Feeder:
         if self._words.reach is None:
             return 0
         names = [it["name"] for it in self._setup if it["do"] == "query"]
-        least = min(map(self._place, names), default=0) - 1 - self._words.reach
+        least = min(map(self._offset, names), default=0) - 1 - self._words.reach
         lines = self._log.lines(0)
         return sum(1 for _ in itertools.takewhile(lambda line: line["at"] < least, lines))
 
@@ -172,10 +172,10 @@ class Feeder:
             raise CannotGoOn("it isn't known which lines came in; start the server anew")
         return fits[0]
 
-    def _place(self, query: str) -> int:
+    def _offset(self, query: str) -> int:
         """The instant up to which the query's consumer has taken all."""
         try:
-            with open(os.path.join(self._words.places, query), encoding="utf-8") as file:
+            with open(os.path.join(self._words.offsets, query), encoding="utf-8") as file:
                 return int(json.load(file)["next"])
         except FileNotFoundError:
             return 0
@@ -222,12 +222,12 @@ class Feeder:
         final = min((it.open for it in listing.streams), default=0)
         slowest = final
         for query in listing.queries:
-            place = min(self._place(query.name), final)
-            if place > query.next:
+            offset = min(self._offset(query.name), final)
+            if offset > query.next:
                 # the consumer may have acknowledged more meanwhile
                 with contextlib.suppress(romburik.Behind):
-                    session.ack(query.name, place)
-            slowest = min(slowest, max(place, query.next))
+                    session.ack(query.name, offset)
+            slowest = min(slowest, max(offset, query.next))
         return slowest, final
 
 
@@ -238,7 +238,7 @@ def main(given: Optional[Sequence[str]] = None) -> int:
     parser.add_argument("--tenant", required=True)
     parser.add_argument("--setup", required=True, help="streams, grants and queries")
     parser.add_argument("--log", required=True, help="puts and heartbeats")
-    parser.add_argument("--places", required=True, help="the folder of the consumers' places")
+    parser.add_argument("--offsets", required=True, help="the folder of the consumers' offsets")
     parser.add_argument("--ahead", type=int, default=100, help="rows ahead of consumers (100)")
     parser.add_argument("--reach", type=int, help="ticks that windows look back")
     parser.add_argument("--poll", type=float, default=0.2, help="seconds between looks (0.2)")

@@ -1218,7 +1218,7 @@ def said_within(children, seconds):
 
 
 def waits_are_told(program):
-    """Who waits for a server, a place at one or a query says so within five seconds."""
+    """Who waits for a server, a slot at one or a query says so within five seconds."""
     with tempfile.TemporaryDirectory() as folder, contextlib.ExitStack() as open_ones:
         server = open_ones.enter_context(Server(program, TENANTS, callers=1))
         other = open_ones.enter_context(Server(program, TENANTS))
@@ -1237,20 +1237,20 @@ def waits_are_told(program):
 
         nobody = free_port()
         for script in consume, feed:
-            start([*script, "--places", folder], nobody)
-            start([*script, "--places", folder], server.port)
-        start([*consume, "--places", folder], other.port)
+            start([*script, "--offsets", folder], nobody)
+            start([*script, "--offsets", folder], server.port)
+        start([*consume, "--offsets", folder], other.port)
         start(["-m", "romburik", "--follow", "q"], server.port)
         start(["-m", "romburik", "watch", "q"], other.port)
         found = said_within(children, 5)
     for name, said, wanted in zip(
         (
             "a consumer without a server",
-            "a consumer without a place",
+            "a consumer without a slot",
             "a feeder without a server",
-            "a feeder without a place",
+            "a feeder without a slot",
             "a consumer without a query",
-            "a terminal without a place",
+            "a terminal without a slot",
             "a watch without a query",
         ),
         found,
@@ -1279,8 +1279,8 @@ class Feed:
         self.folder = pathlib.Path(folder)
         self.texts = texts
         self.log = log
-        self.places = self.folder / "places"
-        self.places.mkdir()
+        self.offsets = self.folder / "offsets"
+        self.offsets.mkdir()
         queries = [{"do": "query", "name": name, "text": text} for name, text in texts.items()]
         (self.folder / "setup").write_bytes(b"".join(line_of(**it) for it in (*SETUP, *queries)))
         (self.folder / "log").write_bytes(b"".join(log))
@@ -1297,7 +1297,7 @@ class Feed:
     def start(self, name, port, *words):
         """Starts the feeder, or the consumer of a query."""
         script = FEED if name == "feed" else CONSUME
-        words = ["--port", str(port), "--tenant", "a", "--places", self.places, *words]
+        words = ["--port", str(port), "--tenant", "a", "--offsets", self.offsets, *words]
         with open(self.folder / "errors", "ab") as errors:
             self.children[name] = subprocess.Popen(
                 [sys.executable, script, "--poll", "0.01", *words],
@@ -1421,7 +1421,7 @@ def feeder_waits_for_consumers(program):
     log.sort(key=lambda line: json.loads(line)["at"])
     with tempfile.TemporaryDirectory() as folder, Feed(folder, TEXTS, log) as feed:
         for query in TEXTS:
-            (feed.places / query).write_text('{"next":30}')
+            (feed.offsets / query).write_text('{"next":30}')
         with Server(program, tenants("a")) as server, session(server) as it:
             feed.feed(server.port)
             wait_for(lambda: [one.next for one in it.list().queries] == [30] * 3)
@@ -1448,7 +1448,7 @@ def feeder_is_started_anew(program):
             wait_for(feed.has_ended)
         yield "a feeder started anew", difference(feed.printed(), wanted)
         with open(feed.folder / "came", "ab") as out, Server(program, tenants("a")) as server:
-            out.write(b"what its place doesn't know of")
+            out.write(b"what its offset doesn't know of")
             out.flush()
             feed.consume(server.port, "came", 201)
             wait_for(feed.has_ended)

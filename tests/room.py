@@ -114,7 +114,7 @@ FEW, MANY = 1_000, 3_000
 # A put of a row and its part in the fetch make so many requests, and a tenth more are too many.
 REQUESTS = (
     ("a linear query", "s", "Select Istream(*) From s [Range 100]", 6.1),
-    ("a sliding group", "s", "Select Istream(g, Count(*), Sum(v)) From s [Range 100] Group By g", 14.1),
+    ("a sliding group", "s", "Select Istream(g, Count(*), Sum(v)) From s [Range 100] Group By g", 10.1),
     ("a sliding join", "sp", "Select Istream(x.v, y.g) From s [Range 100] x, p [Range 100] y Where x.v = y.v", 13.2),
     ("distinct rows", "s", "Istream(Select Distinct v From s [Range 100])", 8.3),
 )

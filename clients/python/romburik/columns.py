@@ -88,7 +88,7 @@ def names_of(text: str, columns: Columns) -> Optional[Tuple[str, ...]]:
 
 
 def keys_of(text: str, columns: Columns) -> FrozenSet[int]:
-    """The places of the columns by which the query groups or parts its rows."""
+    """The indices of the columns by which the query groups or parts its rows."""
     tokens = _TOKEN.findall(text)
     keys = set()
     for word in "GROUP", "PARTITION":
@@ -97,4 +97,4 @@ def keys_of(text: str, columns: Columns) -> FrozenSet[int]:
     items = _items(tokens)
     is_whole = items == [["*"]]
     names = (names_of(text, columns) or ()) if is_whole else [_simple(it) for it in items]
-    return frozenset(place for place, name in enumerate(names) if name in keys)
+    return frozenset(index for index, name in enumerate(names) if name in keys)

@@ -99,7 +99,7 @@ class Step:
 
 
 def _order(row: Row) -> Tuple[Tuple[Any, ...], Row]:
-    """A row behind its place in the server's order: numbers before texts, these by their bytes."""
+    """A row behind its rank in the server's order: numbers before texts, these by their bytes."""
     return tuple((1, it.encode()) if isinstance(it, str) else (0, it) for it in row), row
 
 
@@ -171,24 +171,24 @@ class View:
 
     def _shown(self) -> Iterator[Step]:
         """The relation of a query by RSTREAM, which is empty where no block stands."""
-        blocks, place, end = self._blocks()
+        blocks, instant, end = self._blocks()
         for block in blocks:
-            if place < block.first:
-                yield Step(place, block.first - 1, ())
+            if instant < block.first:
+                yield Step(instant, block.first - 1, ())
             self._note(block)
             yield _step(block)
-            place = block.last + 1
-        if place < end:
-            yield Step(place, end - 1, ())
+            instant = block.last + 1
+        if instant < end:
+            yield Step(instant, end - 1, ())
 
     def _changed(self) -> Iterator[Step]:
         """The relation by its changes. Where it isn't known from its beginning on, rows that leave
         and didn't come are among those that aren't known."""
-        blocks, place, end = self._blocks()
+        blocks, instant, end = self._blocks()
         rows = self.rows
         for block in blocks:
-            if place < block.first:
-                yield Step(place, block.first - 1, rows)
+            if instant < block.first:
+                yield Step(instant, block.first - 1, rows)
             self._note(block)
             if isinstance(block, Changes):
                 for at in range(block.first, block.last + 1):
@@ -198,16 +198,16 @@ class View:
                 self._relation.clear()
                 rows, self.since = (), block.last + 1
                 yield _step(block)
-            place = block.last + 1
-        if place < end:
-            yield Step(place, end - 1, rows)
+            instant = block.last + 1
+        if instant < end:
+            yield Step(instant, end - 1, rows)
 
     def _after(self, changes: Changes) -> Tuple[Row, ...]:
         relation = self._relation
         for it in map(_order, changes.minus):
-            place = bisect.bisect_left(relation, it)
-            if relation[place : place + 1] == [it]:
-                del relation[place]
+            index = bisect.bisect_left(relation, it)
+            if relation[index : index + 1] == [it]:
+                del relation[index]
         for it in map(_order, changes.plus):
             bisect.insort(relation, it)
         return tuple(row for _, row in relation)

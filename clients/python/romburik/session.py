@@ -46,7 +46,7 @@ SOON = 3.0
 """After how many seconds it is told what is waited for."""
 
 _ACCEPTED = b'{"ok":true}'
-_NO_PLACE = (
+_NO_SLOT = (
     "waiting: the server takes no further caller so far; as many may be connected as its word "
     "--callers says"
 )
@@ -144,7 +144,7 @@ class Session:
         connection.send(line_of({"key": self._key, "tenant": self.tenant}))
         is_patient = self.timeout is None or self.timeout > SOON
         if is_patient and not connection.has_reply(SOON):
-            self._notice(_NO_PLACE)
+            self._notice(_NO_SLOT)
         outcome = self._outcome(connection.receive())
         if isinstance(outcome, Refused):
             raise outcome
@@ -308,15 +308,15 @@ class Session:
         ConnectionLost, UnknownQuery or Ahead is raised. Behind: more was acknowledged by another,
         or the query was made anew and begins later. Overrun: rows were lost; see `drop`.
         """
-        place = self._cursor(query) if since is None else since
+        offset = self._cursor(query) if since is None else since
         is_there = since is None
         trouble = Trouble(patience, self._notice)
         while True:
             try:
                 if not is_there:
-                    self._return_to(query, place)
+                    self._return_to(query, offset)
                     is_there = True
-                answer = self.fetch(query, None if span is None else place + span)
+                answer = self.fetch(query, None if span is None else offset + span)
             except (ConnectionLost, UnknownQuery, Ahead) as error:
                 if trouble.is_too_long(error, poll) or is_there and isinstance(error, Refused):
                     raise
@@ -324,13 +324,13 @@ class Session:
                 time.sleep(poll)
                 continue
             trouble.is_over()
-            if answer.next <= place:
+            if answer.next <= offset:
                 time.sleep(poll)
                 continue
             yield answer
-            place = answer.next
+            offset = answer.next
             try:
-                self.ack(query, place)
+                self.ack(query, offset)
             except ConnectionLost:
                 is_there = False
 
@@ -352,11 +352,11 @@ class Session:
         for answer in answers:
             yield from answer.blocks
 
-    def _return_to(self, query: str, place: int) -> None:
+    def _return_to(self, query: str, offset: int) -> None:
         """Sets the query's cursor, with a new connection where that is needed."""
         if not self.is_open:
             self.connect()
-        self.ack(query, place)
+        self.ack(query, offset)
 
     def _cursor(self, query: str) -> int:
         for it in self.list().queries:

@@ -24,19 +24,19 @@ def _width_of(letter: str) -> int:
 
 
 def width(text: str) -> int:
-    """How many places a text takes on a terminal."""
+    """How many cells a text takes on a terminal."""
     return sum(map(_width_of, text))
 
 
-def cut(text: str, places: int) -> str:
-    """As much of a text as so many places on a terminal take, with a mark where it is cut."""
-    if width(text) <= places:
+def cut(text: str, cells: int) -> str:
+    """As much of a text as so many cells of a terminal take, with a mark where it is cut."""
+    if width(text) <= cells:
         return text
     taken = 1
-    for place, letter in enumerate(text):
+    for index, letter in enumerate(text):
         taken += _width_of(letter)
-        if taken > places:
-            return text[:place] + "…"
+        if taken > cells:
+            return text[:index] + "…"
     return text
 
 
@@ -51,14 +51,14 @@ class Table:
         cells = [[(printable(str(it)), isinstance(it, int)) for it in row] for row in rows]
         for row in cells:
             self._widths += [0] * (len(row) - len(self._widths))
-            for place, (text, _) in enumerate(row):
-                self._widths[place] = max(self._widths[place], width(text))
+            for column, (text, _) in enumerate(row):
+                self._widths[column] = max(self._widths[column], width(text))
         return [self._line(row) for row in cells]
 
     def _line(self, row: Sequence[Tuple[str, bool]]) -> str:
         padded = []
-        for (text, is_number), places in zip(row, self._widths):
-            blanks = " " * (places - width(text))
+        for (text, is_number), cells in zip(row, self._widths):
+            blanks = " " * (cells - width(text))
             padded.append(blanks + text if is_number else text + blanks)
         return "  ".join(padded).rstrip()
 

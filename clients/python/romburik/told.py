@@ -127,7 +127,7 @@ class Listing:
 
 @dataclass(frozen=True)
 class RefusedPut:
-    """A row of `put_many` that was refused; `index` is its place among the rows, from 0."""
+    """A row of `put_many` that was refused; `index` is its index among the rows, from 0."""
 
     index: int
     at: int

@@ -90,16 +90,16 @@ last_at : (front : List Block) (b d : Block) → get_or (front ++ b ∷ []) (len
 last_at [] b d = refl
 last_at (x ∷ front) b d = last_at front b d
 
--- the same at the last place
+-- the same of the last block
 extends_at : (from to : ℕ) (o : Output) (bs : List Block) (n : ℕ) (l : Block) (front : List Block) (b : Block) → bs ≡ front ++ b ∷ [] → from ≤ to → b.to + 1 ≡ from → b.output ≡ o → n ≡ length front → l ≡ get_or bs n l → Extends from to o bs (set bs n (record { from = l.from; to = to; output = l.output }))
-extends_at from to o bs n l front b same forward at is place read =
-    let last : l ≡ b = read ∙ (λ i. get_or (same i) (place i) l) ∙ last_at front b l in
-    subst (λ xs. Extends from to o bs xs) (sym ((λ i. set (same i) n (record { from = (last i).from; to = to; output = (last i).output })) ∙ set_at front b [] (record b { to = to }) n (sym place)))
+extends_at from to o bs n l front b same forward at is at_end read =
+    let last : l ≡ b = read ∙ (λ i. get_or (same i) (at_end i) l) ∙ last_at front b l in
+    subst (λ xs. Extends from to o bs xs) (sym ((λ i. set (same i) n (record { from = (last i).from; to = to; output = (last i).output })) ∙ set_at front b [] (record b { to = to }) n (sym at_end)))
     (subst (λ xs. Extends from to o xs (front ++ record b { to = to } ∷ [])) (sym same) (extends_last from to o front b forward at is))
 
 pub extends_set : (from to : ℕ) (o : Output) (bs : List Block) (n : ℕ) (l : Block) → from ≤ to → GoesOn bs from o → n ≡ length bs → l ≡ get_or bs (n - 1) l → Extends from to o bs (set bs (n - 1) (record { from = l.from; to = to; output = l.output }))
 extends_set from to o bs n l forward (front, b, same, at, is) len read =
-    let place : n - 1 ≡ length front = omega (arith, len, ap length same, length-append front (b ∷ [])) in extends_at from to o bs (n - 1) l front b same forward at is place read
+    let at_end : n - 1 ≡ length front = omega (arith, len, ap length same, length-append front (b ∷ [])) in extends_at from to o bs (n - 1) l front b same forward at is at_end read
 
 -- ---- the output of the instant before
 

@@ -8,27 +8,16 @@ use Rattle.cql_plan.specs.declared.fault.Fault.TheVariants.{Oversize, Overflow}
 use Rattle.cql_algebra.specs.declared.told.Output.{Output}
 use Rattle.cql_algebra.specs.declared.told.Output.TheVariants.{Rows, Signed, Fault}
 use Rattle.cql_bag.specs.Bag.{Counts, listing}
+use Rattle.cql_plan.specs.Fit.{is_empty}
 
 -- the rows of a bag are told
 abbrev pub told : Counts → Output
 told bag = Rows (listing bag)
 
--- the rows of one bag are told as come, and those of another as gone
-abbrev pub told_signed : Counts → Counts → Output
-told_signed plus minus = Signed (listing plus) (listing minus)
-
--- a fault is told
-abbrev pub told_fault : TheFault → Output
-told_fault fault = Fault fault
-
-abbrev pub is_nil : {A : Type 0} → List A → Bool
-is_nil [] = true
-is_nil (x ∷ xs) = false
-
 -- no row is told; a fault isn't empty
 abbrev pub tells_no_row : Output → Bool
-tells_no_row (Rows rows) = is_nil rows
-tells_no_row (Signed plus minus) = is_nil plus && is_nil minus
+tells_no_row (Rows rows) = is_empty rows
+tells_no_row (Signed plus minus) = is_empty plus && is_empty minus
 tells_no_row (Fault fault) = false
 
 -- whether two lists have the same rows

@@ -5,12 +5,12 @@ use Rattle.cql_algebra.specs.declared.told.Block.{Block}
 use Rattle.cql_algebra.specs.Blocks.{AreBlocks}
 
 -- the instant up to which stretches came, and the blocks so far
-pub record RunsSeen : Type 0 where
+pub record RunsModel : Type 0 where
   pub next : ℕ
   pub blocks : List Block
 
 -- they stand for outputs from c on: the blocks are those of all instants so far
-abbrev pub StandFor : (ℕ → Output) → ℕ → RunsSeen → Type 0
+abbrev pub StandFor : (ℕ → Output) → ℕ → RunsModel → Type 0
 StandFor O c runs = (c ≤ runs.next) × AreBlocks O c runs.next runs.blocks
 
 -- each instant from one to the other has this output

@@ -38,10 +38,10 @@ fn combined(op: Operation, left: Option<Value>, right: Option<Value>) -> Option<
     }
 }
 
-fn value_at(alloc: Global, row: &[Value], place: usize) -> Result<Option<Value>, AllocError>
-    ensures { IfOk result (λ v. v ≡ slice_get row.now place) }
+fn value_at(alloc: Global, row: &[Value], column: usize) -> Result<Option<Value>, AllocError>
+    ensures { IfOk result (λ v. v ≡ slice_get row.now column) }
 {
-    at(row, place)
+    at(row, column)
         .map(|value| value.try_clone(alloc))
         .transpose()
 }
@@ -52,7 +52,7 @@ pub fn evaluate(alloc: Global, expr: &Expr, row: &[Value]) -> Result<Option<Valu
     ensures { IfOk result (λ v. v ≡ expr_value row.now expr.now) }
 {
     match expr {
-        Expr::Column(place) => value_at(alloc, row, *place),
+        Expr::Column(column) => value_at(alloc, row, *column),
         Expr::Constant(value) => Ok(Some(value.try_clone(alloc)?)),
         Expr::Binary(op, left, right) => {
             let left = evaluate(alloc, left.get(), row)?;

@@ -36,7 +36,7 @@ pub fn number_of(expr: &Expr, row: &[Value]) -> Option<i64>
     ensures { IfSome result (λ n. expr_value row.now expr.now ≡ Some (Number n)) }
 {
     match expr {
-        Expr::Column(place) => number_in(at(row, *place)?),
+        Expr::Column(column) => number_in(at(row, *column)?),
         Expr::Constant(value) => number_in(value),
         Expr::Binary(op, left, right) => {
             let left = number_of(left.get(), row)?;

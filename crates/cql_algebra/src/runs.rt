@@ -16,9 +16,9 @@ pub struct Runs {
 }
 
 impl Model for Runs {
-    ghost use Rattle.cql_algebra.specs.Runs.{RunsSeen};
+    ghost use Rattle.cql_algebra.specs.Runs.{RunsModel};
 
-    ghost Value = { RunsSeen };
+    ghost Value = { RunsModel };
 
     ghost view = { λ r. record { next = r.next; blocks = r.blocks.items } };
 }

@@ -51,9 +51,9 @@ impl Output {
         ensures { IsTrue result ↔ (self.now ≡ other.now) }
     {
         match (self, other) {
-            (Output::Rows(a), Output::Rows(b)) => are_same(a.as_slice(), b.as_slice()),
+            (Output::Rows(a), Output::Rows(b)) => are_equal(a.as_slice(), b.as_slice()),
             (Output::Signed { plus: p, minus: m }, Output::Signed { plus: q, minus: n }) => {
-                are_same(p.as_slice(), q.as_slice()) && are_same(m.as_slice(), n.as_slice())
+                are_equal(p.as_slice(), q.as_slice()) && are_equal(m.as_slice(), n.as_slice())
             }
             (Output::Fault(a), Output::Fault(b)) => *a == *b,
             _ => false,
@@ -61,7 +61,7 @@ impl Output {
     }
 }
 
-fn are_same(a: &[Row], b: &[Row]) -> bool
+fn are_equal(a: &[Row], b: &[Row]) -> bool
     ensures { IsTrue result ↔ (a.now ≡ b.now) }
 {
     a == b

@@ -15,7 +15,7 @@ use Rattle.cql_value.specs.declared.value.Value.{Value}
 use Rattle.cql_core.specs.declared.command.Command.{Command}
 use Rattle.cql_asked.specs.declared.put.NoPut.{NoPut}
 use Rattle.cql_asked.specs.declared.put.Put.{Put}
-use Rattle.cql_asked.specs.declared.command.Word.TheVariants as kinds
+use Rattle.cql_asked.specs.declared.command.Verb.TheVariants as kinds
 use Rattle.cql_lines.specs.Tree.{are_among, all_of}
 use Rattle.cql_asked.specs.Command.{keys_of, value_of, of_data}
 use Rattle.cql_asked.specs.Put.{Reads, values_of, Holds, IsCall}

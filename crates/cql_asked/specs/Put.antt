@@ -8,7 +8,7 @@ use Rattle.serde_json.specs.Read.{of_json, of_items, of_members, converted}
 use Rattle.cql_value.specs.declared.value.Value.{Value}
 use Rattle.cql_core.specs.declared.command.Command.{Command}
 use Rattle.cql_asked.specs.declared.put.Put.{Put}
-use Rattle.cql_asked.specs.declared.command.Word.TheVariants as kinds
+use Rattle.cql_asked.specs.declared.command.Verb.TheVariants as kinds
 use Rattle.cql_lines.specs.Tree.{are_among, all_of}
 use Rattle.cql_asked.specs.Command.{keys_of, value_of, of_data}
 

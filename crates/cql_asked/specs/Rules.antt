@@ -58,11 +58,11 @@ abbrev pub rule_of_tenant : Data → Option TenantRule
 rule_of_tenant d =
     if is_some (as_object d) then (if has_only tenant_keys d then keys_rule d else Some rule.NoOtherKey) else Some rule.IsObject
 
--- what the tenant of a place breaks; the place counts from 1
+-- what the tenant of a number breaks; the number counts from 1
 abbrev pub tenant_breaks : ℕ → TenantRule → BrokenRule
 tenant_breaks n r = broken.Tenant (n + 1) r
 
--- the first tenant who breaks a rule by itself, of those from a place on
+-- the first tenant who breaks a rule by itself, of those from an index on
 abbrev pub rules_from : ℕ → Items → Option BrokenRule
 rules_from n no_items = None
 rules_from n (item d ds) = option_or (option_map (tenant_breaks n) (rule_of_tenant d)) (rules_from (n + 1) ds)
@@ -74,12 +74,12 @@ is_the_name name (Some other) = bytes_eq name other
 abbrev pub has_name : List ℕ → Data → Bool
 has_name name d = is_the_name name (text_at (codes "name") d)
 
--- the place of the first that has the name, of those from a place on
+-- the index of the first that has the name, of those from an index on
 abbrev pub named_from : ℕ → List ℕ → Items → Option ℕ
 named_from n name no_items = None
 named_from n name (item d ds) = if has_name name d then Some n else named_from (n + 1) name ds
 
--- the place among those behind it of the first that has the tenant's name
+-- the index among those behind it of the first that has the tenant's name
 abbrev pub twin_of : Data → Items → Option ℕ
 twin_of d later = option_and_then (λ name. named_from 0 name later) (text_at (codes "name") d)
 
@@ -87,7 +87,7 @@ twin_of d later = option_and_then (λ name. named_from 0 name later) (text_at (c
 abbrev pub twin_breaks : ℕ → ℕ → BrokenRule
 twin_breaks n twin = broken.Tenant (n + twin + 2) (rule.OwnName (n + 1))
 
--- the first name that is had twice, of those from a place on
+-- the first name that is had twice, of those from an index on
 abbrev pub twins_from : ℕ → Items → Option BrokenRule
 twins_from n no_items = None
 twins_from n (item d ds) =
@@ -116,7 +116,7 @@ IsJson (broken.Length most) = ⊥
 IsJson (broken.Json line column) = ⊤
 IsJson broken.OneKey = ⊥
 IsJson broken.List = ⊥
-IsJson (broken.Tenant place r) = ⊥
+IsJson (broken.Tenant number r) = ⊥
 
 -- the first rule that a line breaks, of which this is the tree: that it is JSON, where there is none
 abbrev pub Breaks : Option Data → BrokenRule → Type 0

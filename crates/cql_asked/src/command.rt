@@ -4,7 +4,7 @@ ghost use Rattle.cql_lines.specs.View.{view, items_view};
 ghost use Rattle.serde_json.specs.Find.{as_str};
 ghost use Rattle.serde_json.specs.Read.{read};
 ghost use Rattle.cql_lines.specs.Tree.{text_at, optional_text, all_of};
-ghost use Rattle.cql_asked.specs.Command.{word_of, keys_of, value_of, column_of, stream_of, named_columns_of, grant_of, revoke_of, put_of, beat_of, query_of, fetch_of, ack_of, drop_of, of_word, of_keys, of_data, command_of};
+ghost use Rattle.cql_asked.specs.Command.{verb_of, keys_of, value_of, column_of, stream_of, named_columns_of, grant_of, revoke_of, put_of, beat_of, query_of, fetch_of, ack_of, drop_of, of_verb, of_keys, of_data, command_of};
 ghost use Rattle.cql_asked.specs.Fault.{Means};
 
 use crate::fault::LineFault;
@@ -21,7 +21,7 @@ use std::alloc::Global;
 
 /// The word of a command: what stands at the key `do`.
 #[derive(Clone, Copy)]
-enum Word {
+enum Verb {
     Stream,
     Grant,
     Revoke,
@@ -34,21 +34,21 @@ enum Word {
     List,
 }
 
-impl Word {
-    fn read(text: &str) -> Option<Word>
-        ensures { result ≡ word_of text.now }
+impl Verb {
+    fn read(text: &str) -> Option<Verb>
+        ensures { result ≡ verb_of text.now }
     {
         match text {
-            "stream" => Some(Word::Stream),
-            "grant" => Some(Word::Grant),
-            "revoke" => Some(Word::Revoke),
-            "put" => Some(Word::Put),
-            "beat" => Some(Word::Beat),
-            "query" => Some(Word::Query),
-            "fetch" => Some(Word::Fetch),
-            "ack" => Some(Word::Ack),
-            "drop" => Some(Word::Drop),
-            "list" => Some(Word::List),
+            "stream" => Some(Verb::Stream),
+            "grant" => Some(Verb::Grant),
+            "revoke" => Some(Verb::Revoke),
+            "put" => Some(Verb::Put),
+            "beat" => Some(Verb::Beat),
+            "query" => Some(Verb::Query),
+            "fetch" => Some(Verb::Fetch),
+            "ack" => Some(Verb::Ack),
+            "drop" => Some(Verb::Drop),
+            "list" => Some(Verb::List),
             _ => None,
         }
     }
@@ -58,16 +58,16 @@ impl Word {
         ensures { map (λ k. k.now) result.now ≡ keys_of self }
     {
         match self {
-            Word::Stream => &["do", "tenant", "name", "columns"],
-            Word::Grant => &["do", "tenant", "stream", "to", "columns"],
-            Word::Revoke => &["do", "tenant", "stream", "to"],
-            Word::Put => &["do", "tenant", "stream", "at", "row"],
-            Word::Beat => &["do", "tenant", "stream", "at"],
-            Word::Query => &["do", "tenant", "name", "text"],
-            Word::Fetch => &["do", "tenant", "name", "until"],
-            Word::Ack => &["do", "tenant", "name", "to"],
-            Word::Drop => &["do", "tenant", "name"],
-            Word::List => &["do", "tenant"],
+            Verb::Stream => &["do", "tenant", "name", "columns"],
+            Verb::Grant => &["do", "tenant", "stream", "to", "columns"],
+            Verb::Revoke => &["do", "tenant", "stream", "to"],
+            Verb::Put => &["do", "tenant", "stream", "at", "row"],
+            Verb::Beat => &["do", "tenant", "stream", "at"],
+            Verb::Query => &["do", "tenant", "name", "text"],
+            Verb::Fetch => &["do", "tenant", "name", "until"],
+            Verb::Ack => &["do", "tenant", "name", "to"],
+            Verb::Drop => &["do", "tenant", "name"],
+            Verb::List => &["do", "tenant"],
         }
     }
 }
@@ -258,20 +258,20 @@ fn drop_of(alloc: Global, tree: &Tree<'_>) -> Result<Command, LineFault>
 }
 
 // The command of a word.
-fn of_word(alloc: Global, word: Word, tree: &Tree<'_>) -> Result<Command, LineFault>
-    ensures { Means (ok_or (of_word word (view tree.now)) LineFault.BadKey) result }
+fn of_verb(alloc: Global, verb: Verb, tree: &Tree<'_>) -> Result<Command, LineFault>
+    ensures { Means (ok_or (of_verb verb (view tree.now)) LineFault.BadKey) result }
 {
-    match word {
-        Word::Stream => stream_of(alloc, tree),
-        Word::Grant => grant_of(alloc, tree),
-        Word::Revoke => revoke_of(alloc, tree),
-        Word::Put => put_of(alloc, tree),
-        Word::Beat => beat_of(alloc, tree),
-        Word::Query => query_of(alloc, tree),
-        Word::Fetch => fetch_of(alloc, tree),
-        Word::Ack => ack_of(alloc, tree),
-        Word::Drop => drop_of(alloc, tree),
-        Word::List => Ok(Command::List),
+    match verb {
+        Verb::Stream => stream_of(alloc, tree),
+        Verb::Grant => grant_of(alloc, tree),
+        Verb::Revoke => revoke_of(alloc, tree),
+        Verb::Put => put_of(alloc, tree),
+        Verb::Beat => beat_of(alloc, tree),
+        Verb::Query => query_of(alloc, tree),
+        Verb::Fetch => fetch_of(alloc, tree),
+        Verb::Ack => ack_of(alloc, tree),
+        Verb::Drop => drop_of(alloc, tree),
+        Verb::List => Ok(Command::List),
     }
 }
 
@@ -291,16 +291,16 @@ fn tenant_of<'a>(alloc: Global, tree: &Tree<'_>) -> Result<Option<Named<'a>>, Li
 
 fn of_keys<'a>(
     alloc: Global,
-    word: Word,
+    verb: Verb,
     tree: &Tree<'_>,
 ) -> Result<(Option<Named<'a>>, Command), LineFault>
-    ensures { Means (of_keys word (view tree.now)) result }
+    ensures { Means (of_keys verb (view tree.now)) result }
 {
-    if !has_only(tree, word.keys()) {
+    if !has_only(tree, verb.keys()) {
         return Err(LineFault::BadKey);
     }
     let tenant = tenant_of(alloc, tree)?;
-    let command = of_word(alloc, word, tree)?;
+    let command = of_verb(alloc, verb, tree)?;
     Ok((tenant, command))
 }
 
@@ -311,10 +311,10 @@ fn of_tree<'a>(alloc: Global, tree: &Tree<'_>) -> Result<(Option<Named<'a>>, Com
         return Err(LineFault::BadLine);
     }
     let text = text_at(tree, "do").ok_or(LineFault::BadCommand)?;
-    let Some(word) = Word::read(text) else {
+    let Some(verb) = Verb::read(text) else {
         return Err(LineFault::BadCommand);
     };
-    of_keys(alloc, word, tree)
+    of_keys(alloc, verb, tree)
 }
 
 // The command of a text, by its tree.

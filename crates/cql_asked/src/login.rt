@@ -14,10 +14,10 @@ use std::alloc::{AllocError, Global};
 /// The keys of a login line, each of which has to be there.
 const LOGIN_KEYS: &[&str] = &["key", "tenant"];
 
-fn byte_at(key: &[u8], place: usize) -> Option<u8>
-    ensures { result ≡ slice_get key.now place }
+fn byte_at(key: &[u8], offset: usize) -> Option<u8>
+    ensures { result ≡ slice_get key.now offset }
 {
-    key.get(place).copied()
+    key.get(offset).copied()
 }
 
 // How the bits of two bytes differ: 0 exactly where they are the same. From no byte each differs.
@@ -32,12 +32,12 @@ fn difference(byte: u8, other: Option<u8>) -> u8
 
 // Whether the keys are the same. It goes over the whole given key whatever differs, and doesn't
 // branch on its bytes, so that the time doesn't tell how much of the key is right.
-fn is_same_key(given: &[u8], kept: &[u8]) -> bool
+fn is_equal_key(given: &[u8], kept: &[u8]) -> bool
     ensures { result ≡ bytes_eq given.now kept.now }
 {
     let mut differences = 0;
-    for (place, byte) in given.iter().enumerate() {
-        differences |= difference(*byte, byte_at(kept, place));
+    for (offset, byte) in given.iter().enumerate() {
+        differences |= difference(*byte, byte_at(kept, offset));
     }
     differences == 0 && given.len() == kept.len()
 }
@@ -45,8 +45,8 @@ fn is_same_key(given: &[u8], kept: &[u8]) -> bool
 fn is_key_at(table: &TenantTable, id: TenantId, key: &str) -> bool
     ensures { result ≡ is_key_at table.now id key.now }
 {
-    match table.tenants().get(id.place()) {
-        Some(tenant) => is_same_key(key.as_bytes(), tenant.key.as_str().as_bytes()),
+    match table.tenants().get(id.index()) {
+        Some(tenant) => is_equal_key(key.as_bytes(), tenant.key.as_str().as_bytes()),
         None => false,
     }
 }

@@ -13,7 +13,7 @@ use std::fmt;
 use thiserror::Error;
 
 /// A key of a tenant in a tenants line.
-#[derive(Clone, Copy, Debug, PartialEq, Eq)]
+#[derive(Clone, Copy)]
 pub enum TenantKey {
     Hold,
     Key,
@@ -57,9 +57,9 @@ impl TenantKey {
     }
 }
 
-/// The rule of a tenants line that one of its tenants breaks. Places count from 1. Nothing of what
+/// The rule of a tenants line that one of its tenants breaks. Tenants count from 1. Nothing of what
 /// stands at a key is told.
-#[derive(Clone, Copy, Debug, PartialEq, Eq, Error)]
+#[derive(Clone, Copy, Error)]
 pub enum TenantRule {
     /// It is an object.
     #[error("it is no object")]
@@ -73,20 +73,20 @@ pub enum TenantRule {
     /// What stands at a key is of its kind, and in its range.
     #[error("{0} is no {wanted}", wanted = .0.wanted())]
     InRange(TenantKey),
-    /// No tenant before it, here that of the place, has its name.
+    /// No tenant before it, here that of the number, has its name.
     #[error("its name is that of tenant {0}")]
     OwnName(usize),
 }
 
 /// The first rule that a tenants line breaks, in this order; of tenants that of the first who breaks
-/// one, but for names that are the same, which are looked for last. Places count from 1, columns and
+/// one, but for names that are the same, which are looked for last. Tenants count from 1, columns and
 /// lines too.
-#[derive(Clone, Copy, Debug, PartialEq, Eq, Error)]
+#[derive(Clone, Copy, Error)]
 pub enum BrokenRule {
     /// It has at most so many bytes.
     #[error("it has more than {0} bytes")]
     Length(usize),
-    /// It is JSON: it isn't at this place.
+    /// It is JSON: it isn't there.
     #[error("it is no JSON at line {line}, column {column}")]
     Json { line: usize, column: usize },
     /// It is an object that has no key but `tenants`.
@@ -95,9 +95,22 @@ pub enum BrokenRule {
     /// There stands a list of 1 to 256.
     #[error("tenants is no list of 1 to 256")]
     List,
-    /// The tenant at a place is one.
-    #[error("tenant {place}: {rule}")]
-    Tenant { place: usize, rule: TenantRule },
+    /// The tenant of a number is one.
+    #[error("tenant {number}: {rule}")]
+    Tenant { number: usize, rule: TenantRule },
+}
+
+// What debugs a rule reads what it tells.
+impl fmt::Debug for TenantRule {
+    fn fmt<W: fmt::Write>(&self, f: &mut fmt::Formatter<W>) -> fmt::Result {
+        fmt::Display::fmt(self, f)
+    }
+}
+
+impl fmt::Debug for BrokenRule {
+    fn fmt<W: fmt::Write>(&self, f: &mut fmt::Formatter<W>) -> fmt::Result {
+        fmt::Display::fmt(self, f)
+    }
 }
 
 fn is_within(low: u64, high: u64, n: u64) -> bool
@@ -187,7 +200,7 @@ fn first_rule(items: &[Json]) -> Option<BrokenRule>
     for (at, item) in items.iter().enumerate() {
         if let Some(rule) = rule_of_tenant(item) {
             return Some(BrokenRule::Tenant {
-                place: at + 1,
+                number: at + 1,
                 rule,
             });
         }
@@ -204,7 +217,7 @@ fn has_name(item: &Json, name: &str) -> bool
     }
 }
 
-// The place of the first that has the name.
+// The index of the first that has the name.
 fn named(items: &[Json], name: &str) -> Option<usize>
     ensures value { result ≡ named_from 0 name.now (items_view items.now) }
     ensures within { IfSome result (λ at. at < length items.now) }
@@ -217,13 +230,15 @@ fn named(items: &[Json], name: &str) -> Option<usize>
     None
 }
 
-// The place of the first of these that has the tenant's name.
+// The index of the first of these that has the tenant's name.
 fn twin_of(item: &Json, later: &[Json]) -> Option<usize>
     ensures value { result ≡ twin_of (view item.now) (items_view later.now) }
     ensures within { IfSome result (λ at. at < length later.now) }
 {
-    let name = text_at(item, "name")?;
-    named(later, name)
+    match text_at(item, "name") {
+        Some(name) => named(later, name),
+        None => None,
+    }
 }
 
 // The rule that two of one name break.
@@ -233,7 +248,7 @@ fn twin_rule(items: &[Json]) -> Option<BrokenRule>
     for (at, item) in items.iter().enumerate() {
         if let Some(twin) = twin_of(item, &items[at + 1..]) {
             return Some(BrokenRule::Tenant {
-                place: at + twin + 2,
+                number: at + twin + 2,
                 rule: TenantRule::OwnName(at + 1),
             });
         }

@@ -54,7 +54,7 @@ impl From<BadTenants> for NoTable {
 }
 
 /// Why a line gives no table of tenants.
-#[derive(Clone, Copy, Debug, PartialEq, Eq, Error)]
+#[derive(Clone, Copy, Debug, Error)]
 pub enum TenantsFault {
     /// The line isn't a tenants line: it breaks this rule.
     #[error("the tenants line is refused: {0}")]

@@ -76,7 +76,7 @@ joined_set items front back n j w long within before behind =
     let none : drop (length (front ++ set back 0 w)) items ≡ [] = drop_all (length (front ++ set back 0 w)) items (omega (arith, count)) in
     ap (λ l. take n (front ++ set back 0 w ++ l)) none ∙ ap (take n) (append-nil (front ++ set back 0 w)) ∙ ap (take n) whole ∙ take_all n (set items j w) (let e : length (set items j w) ≡ length items = length-set items j w in omega (arith, e, long))
 
--- the level at a place is as long as the pairs of the one below it, which is done
+-- the level at an index is as long as the pairs of the one below it, which is done
 pub pairs_fit : (items : List (Vec ℕ Global)) (old : List (List ℕ)) (j : ℕ) (v w : Vec ℕ Global) → 0 < j → j < length items → v ≡ get_or items (j - 1) v → w ≡ get_or items j w → level_at (lists_of items) (j - 1) ≡ halved (j - 1) (level_at old 0) → level_at (lists_of items) j ≡ level_at old j → length (level_at old j) ≡ length (halved j (level_at old 0)) → length w.items ≡ length (pair_least v.items)
 pairs_fit items old j v w some within below here done ahead long =
     let under : j - 1 < length items = omega (arith, within) in

@@ -8,7 +8,7 @@ length-pair_least [] = refl
 length-pair_least (x ∷ []) = refl
 length-pair_least (x ∷ y ∷ rest) = let more : length (pair_least rest) ≡ (length rest + 1) / 2 = length-pair_least rest in omega (arith, more)
 
--- one place changed changes one place of the pairs
+-- one index changed changes one index of the pairs
 pub pair_least-set : (xs : List ℕ) (p v : ℕ) → p < length xs → pair_least (set xs p v) ≡ set (pair_least xs) (p / 2) (get_or (pair_least (set xs p v)) (p / 2) 0)
 pair_least-set [] p v within = absurd (omega (arith, within))
 pair_least-set (x ∷ []) zero v within = refl
@@ -60,14 +60,14 @@ pub least_of-halved : (k : ℕ) (xs : List ℕ) → least_of (halved k xs) ≡ l
 least_of-halved zero xs = refl
 least_of-halved (suc k) xs = least_of-pairs (halved k xs) ∙ least_of-halved k xs
 
--- one more level of a list with one place changed
+-- one more level of a list with one index changed
 pub halved-set : (k : ℕ) (xs ys : List ℕ) (p v : ℕ) → p < length (halved k xs) → halved k ys ≡ set (halved k xs) p v → halved (suc k) ys ≡ set (halved (suc k) xs) (p / 2) (get_or (pair_least (set (halved k xs) p v)) (p / 2) 0)
 halved-set k xs ys p v within here = ap pair_least here ∙ pair_least-set (halved k xs) p v within
 
 pub halved-within : (k : ℕ) (xs : List ℕ) (p : ℕ) → p < length (halved k xs) → p / 2 < length (halved (suc k) xs)
 halved-within k xs p within = let long : length (pair_least (halved k xs)) ≡ (length (halved k xs) + 1) / 2 = length-pair_least (halved k xs) in omega (arith, long, within)
 
--- the pair of a place
+-- the pair of an index
 pub pair_at-both : (xs : List ℕ) (p : ℕ) → (p - p % 2) + 1 < length xs → get_or (pair_least xs) (p / 2) 0 ≡ min (get_or xs (p - p % 2) 0) (get_or xs ((p - p % 2) + 1) 0)
 pair_at-both xs p within =
     let even : p - p % 2 ≡ 2 * (p / 2) = omega arith in
@@ -94,7 +94,7 @@ halved-set_next k xs ys p v n within here number = let e : k + 1 ≡ suc k = ome
 pub halved-within_next : (k : ℕ) (xs : List ℕ) (p : ℕ) → p < length (halved k xs) → p / 2 < length (halved (k + 1) xs)
 halved-within_next k xs p within = let e : k + 1 ≡ suc k = omega arith in rw e (halved-within k xs p within)
 
--- one place changed, or one more at the end, does the same to the pairs
+-- one index changed, or one more at the end, does the same to the pairs
 pub pair_least-put : (xs : List ℕ) (p v : ℕ) → p ≤ length xs → pair_least (put xs p v) ≡ put (pair_least xs) (p / 2) (get_or (pair_least (put xs p v)) (p / 2) 0)
 pair_least-put [] zero v within = refl
 pair_least-put [] (suc p) v within = absurd (omega (arith, within))

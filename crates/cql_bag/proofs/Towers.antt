@@ -7,7 +7,7 @@ use Rattle.std.specs.declared.alloc.Global.{Global}
 use Rattle.cql_bag.specs.Levels.{pair_least, least_of, halved, lists_of, level_at, IsTower}
 use Rattle.cql_bag.proofs.Pairs.{least_of-halved, length-halved}
 
--- the numbers of the level that stands at a place
+-- the numbers of the level that stands at an index
 pub level_at-item : (levels : List (Vec ℕ Global)) (k : ℕ) (v : Vec ℕ Global) → k < length levels → v ≡ get_or levels k v → level_at (lists_of levels) k ≡ v.items
 level_at-item [] k v within is = absurd (omega (arith, within))
 level_at-item (w ∷ rest) zero v within is = ap (λ u. u.items) (sym is)

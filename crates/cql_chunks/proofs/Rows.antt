@@ -75,13 +75,13 @@ pub chunk_last : (full : List (List Element)) (last : List Element) → chunk_at
 chunk_last [] last = refl
 chunk_last (b ∷ full) last = chunk_last full last
 
--- the number of the chunk in which a place stands
+-- the number of the chunk in which an index stands
 abbrev pub chunk_of : ℕ → ℕ → ℕ
 chunk_of at count = min (at / 128) count
 
--- a place up to the end stands in its chunk, or at its end where that is the last
-pub place_within : (at : ℕ) (full : List (List Element)) (last : List Element) → AreFull full → at ≤ length (rows_of full last) → at ≤ 128 * chunk_of at (length full) + length (chunk_at full last (chunk_of at (length full)))
-place_within at full last are bound =
+-- an index up to the end stands in its chunk, or at its end where that is the last
+pub index_within : (at : ℕ) (full : List (List Element)) (last : List Element) → AreFull full → at ≤ length (rows_of full last) → at ≤ 128 * chunk_of at (length full) + length (chunk_at full last (chunk_of at (length full)))
+index_within at full last are bound =
     let len = rows_length full last are in
     elim (cases_lt (at / 128) (length full)) [
       | inl less ↦
@@ -92,8 +92,8 @@ place_within at full last are bound =
           rw is (rw chunk_last (omega (arith, len, bound)))
     ]
 
-pub place_before : (at : ℕ) (full : List (List Element)) (last : List Element) → AreFull full → at < length (rows_of full last) → at < 128 * chunk_of at (length full) + length (chunk_at full last (chunk_of at (length full)))
-place_before at full last are bound =
+pub index_before : (at : ℕ) (full : List (List Element)) (last : List Element) → AreFull full → at < length (rows_of full last) → at < 128 * chunk_of at (length full) + length (chunk_at full last (chunk_of at (length full)))
+index_before at full last are bound =
     let len = rows_length full last are in
     elim (cases_lt (at / 128) (length full)) [
       | inl less ↦
@@ -104,7 +104,7 @@ place_before at full last are bound =
           rw is (rw chunk_last (omega (arith, len, bound)))
     ]
 
--- the row at a place
+-- the row at an index
 pub rows_get : (k j : ℕ) (full : List (List Element)) (last : List Element) (d : Element) → AreFull full → k ≤ length full → j < length (chunk_at full last k) → get_or (rows_of full last) (128 * k + j) d ≡ get_or (chunk_at full last k) j d
 rows_get k j full last d are bound within =
     let first = chunk_first k full last bound in
@@ -173,7 +173,7 @@ trim_rows full last gone end k are bound less =
 
 -- ---- parts of the rows
 
--- k chunks from the front lie before a place
+-- k chunks from the front lie before an index
 pub chunk_below : (at k : ℕ) (full : List (List Element)) → k ≡ chunk_of at (length full) → (k ≤ length full) × (128 * k ≤ at)
 chunk_below at k full is = (omega (arith, is), omega (arith, is))
 
@@ -182,7 +182,7 @@ pub one_rows : (k start stop gone from to : ℕ) (full : List (List Element)) (l
 one_rows k start stop gone from to full last are is before bound order begins ends =
     let low : 128 * k ≤ start = omega (arith, before) in
     let count : stop - 128 * k - (start - 128 * k) ≡ to - from = omega (arith, low, begins, ends, order) in
-    let within : stop ≤ 128 * k + length (chunk_at full last k) = rw is (place_within stop full last are bound) in
+    let within : stop ≤ 128 * k + length (chunk_at full last k) = rw is (index_within stop full last are bound) in
     let at : 128 * k + (start - 128 * k) ≡ gone + from = omega (arith, low, begins) in
     ap (λ n. take n (drop (start - 128 * k) (chunk_at full last k))) count
     ∙ part_one k (start - 128 * k) (to - from) full last are (omega (arith, is)) (omega (arith, within, low, begins, ends, order))
@@ -192,7 +192,7 @@ one_rows k start stop gone from to full last are is before bound order begins en
 -- a part that ends in a later chunk than it begins in
 pub more_rows : (k start stop gone from to : ℕ) (full : List (List Element)) (last : List Element) → AreFull full → k ≡ chunk_of stop (length full) → start / 128 < k → stop ≤ length (rows_of full last) → from ≤ to → start ≡ gone + from → stop ≡ gone + to → drop (start - 128 * (start / 128)) (rows_of (take (k - start / 128) (drop (start / 128) full)) (take (stop - 128 * k) (chunk_at full last k))) ≡ take (to - from) (drop from (drop gone (rows_of full last)))
 more_rows k start stop gone from to full last are is before bound order begins ends =
-    let within : stop ≤ 128 * k + length (chunk_at full last k) = rw is (place_within stop full last are bound) in
+    let within : stop ≤ 128 * k + length (chunk_at full last k) = rw is (index_within stop full last are bound) in
     let at : 128 * (start / 128) + (start - 128 * (start / 128)) ≡ gone + from = omega (arith, begins) in
     part_more (start / 128) k (start - 128 * (start / 128)) (stop - 128 * k) (to - from) full last are (omega (arith, before)) (omega (arith, is)) (omega (arith, within)) (omega (arith, is, before, begins, ends, order))
     ∙ ap (λ n. take (to - from) (drop n (rows_of full last))) at
@@ -201,7 +201,7 @@ more_rows k start stop gone from to full last are is before bound order begins e
 -- the chunks of such a part
 pub more_chunks : (k start stop end : ℕ) (full : List (List Element)) (last : List Element) → AreFull full → k ≡ chunk_of stop (length full) → start / 128 < k → stop ≤ length (rows_of full last) → start ≤ stop → stop < 2 ^ 63 → length (chunk_at full last k) ≤ 128 → AreChunks (take (k - start / 128) (drop (start / 128) full)) (take (stop - 128 * k) (chunk_at full last k)) (start - 128 * (start / 128)) (stop - 128 * (start / 128))
 more_chunks k start stop end full last are is before bound order fits short =
-    let within : stop ≤ 128 * k + length (chunk_at full last k) = rw is (place_within stop full last are bound) in
+    let within : stop ≤ 128 * k + length (chunk_at full last k) = rw is (index_within stop full last are bound) in
     let chunk = chunk_at full last k in
     let few = full_take (k - start / 128) (drop (start / 128) full) (full_drop (start / 128) full are) in
     record {
@@ -218,7 +218,7 @@ chunk_short k [] last are short = short
 chunk_short zero (b ∷ full) last are short = omega (arith, are.0)
 chunk_short (suc k) (b ∷ full) last are short = chunk_short k full last are.1 short
 
--- rows from a place on that lie in one chunk
+-- rows from an index on that lie in one chunk
 pub run_rows : (k start gone from n : ℕ) (full : List (List Element)) (last : List Element) → AreFull full → k ≤ length full → 128 * k ≤ start → start - 128 * k + n ≤ length (chunk_at full last k) → start ≡ gone + from → take n (drop (start - 128 * k) (chunk_at full last k)) ≡ take n (drop from (drop gone (rows_of full last)))
 run_rows k start gone from n full last are low before within begins =
     let at : 128 * k + (start - 128 * k) ≡ gone + from = omega (arith, before, begins) in

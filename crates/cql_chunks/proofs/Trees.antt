@@ -7,19 +7,19 @@ use Rattle.std.proofs.lemmas.List.{append-nil}
 use Rattle.cql_chunks.specs.declared.seq.Numbered.{Numbered}
 use Rattle.cql_chunks.specs.Seq.{IsDown}
 
-pub insert_right : {A : Type 0} (l r : List A) (x e : A) (place p : ℕ) → place ≡ length l + 1 + p → insert (l ++ x ∷ r) place e ≡ l ++ x ∷ insert r p e
+pub insert_right : {A : Type 0} (l r : List A) (x e : A) (index p : ℕ) → index ≡ length l + 1 + p → insert (l ++ x ∷ r) index e ≡ l ++ x ∷ insert r p e
 insert_right [] r x e zero p is = absurd (omega (arith, is))
 insert_right [] r x e (suc q) p is = let same : q ≡ p = omega (arith, is) in ap (λ k. x ∷ insert r k e) same
 insert_right (y ∷ l) r x e zero p is = absurd (omega (arith, is))
 insert_right (y ∷ l) r x e (suc q) p is = ap (λ t. y ∷ t) (insert_right l r x e q p (omega (arith, is)))
 
-pub remove_right : {A : Type 0} (l r : List A) (x : A) (place p : ℕ) → place ≡ length l + 1 + p → remove (l ++ x ∷ r) place ≡ l ++ x ∷ remove r p
+pub remove_right : {A : Type 0} (l r : List A) (x : A) (index p : ℕ) → index ≡ length l + 1 + p → remove (l ++ x ∷ r) index ≡ l ++ x ∷ remove r p
 remove_right [] r x zero p is = absurd (omega (arith, is))
 remove_right [] r x (suc q) p is = let same : q ≡ p = omega (arith, is) in ap (λ k. x ∷ remove r k) same
 remove_right (y ∷ l) r x zero p is = absurd (omega (arith, is))
 remove_right (y ∷ l) r x (suc q) p is = ap (λ t. y ∷ t) (remove_right l r x q p (omega (arith, is)))
 
-pub remove_here : {A : Type 0} (l r : List A) (x : A) (place : ℕ) → place ≡ length l → remove (l ++ x ∷ r) place ≡ l ++ r
+pub remove_here : {A : Type 0} (l r : List A) (x : A) (index : ℕ) → index ≡ length l → remove (l ++ x ∷ r) index ≡ l ++ r
 remove_here [] r x zero is = refl
 remove_here [] r x (suc q) is = absurd (omega (arith, is))
 remove_here (y ∷ l) r x zero is = absurd (omega (arith, is))

@@ -3,13 +3,13 @@ ghost use Rattle.std.specs.Prelude.{◌≡◌, ◌≤◌, ◌<◌, ◌^◌, ◌+
 ghost use Rattle.std.specs.Arc.{arc_value};
 ghost use Rattle.cql_chunks.specs.Seq.{row_in};
 
+use crate::equals::are_joined_equal;
 use crate::plain::Plain;
 use crate::run::Run;
-use crate::same::are_joined_same;
 use crate::seq::Seq;
 use crate::stretch::Stretch;
 use crate::tree_rows::TreeRows;
-use cql_value::{Same, Timed};
+use cql_value::{Equals, Timed};
 use std::alloc::{AllocError, Global};
 use std::marker::Model;
 use std::sync::Arc;
@@ -32,11 +32,11 @@ enum Form {
     Tree(TreeRows),
 }
 
-impl Same for Chunks {
-    fn is_same(&self, other: &Chunks) -> bool {
+impl Equals for Chunks {
+    fn is_equal(&self, other: &Chunks) -> bool {
         let (end, far) = (self.len(), other.len());
         end == far
-            && are_joined_same(
+            && are_joined_equal(
                 (self.iter(), self.range(end, end)),
                 (other.iter(), other.range(far, far)),
             )
@@ -98,7 +98,7 @@ impl Chunks {
         Ok(())
     }
 
-    // The rows from one place to another, each shared by itself.
+    // The rows from one index to another, each shared by itself.
     fn copied(&self, alloc: Global, from: usize, to: usize) -> Result<Plain, AllocError>
         requires order { from ≤ to }
         requires within { to ≤ length self.now }
@@ -133,18 +133,18 @@ impl Chunks {
         }
     }
 
-    /// The row at a place.
-    pub fn get(&self, place: usize) -> &Timed
-        requires { place < length self.now }
-        ensures { result.now ≡ slice_index_or self.now place result.now }
+    /// The row at an index.
+    pub fn get(&self, index: usize) -> &Timed
+        requires { index < length self.now }
+        ensures { result.now ≡ slice_index_or self.now index result.now }
     {
         match &self.form {
-            Form::Plain(plain) => plain.get(place),
-            Form::Tree(tree) => tree.get(place),
+            Form::Plain(plain) => plain.get(index),
+            Form::Tree(tree) => tree.get(index),
         }
     }
 
-    /// The rows from one place to another, one after another.
+    /// The rows from one index to another, one after another.
     pub fn range(&self, from: usize, to: usize) -> Stretch<'_>
         requires order { from ≤ to }
         requires within { to ≤ length self.now }
@@ -159,7 +159,7 @@ impl Chunks {
         }
     }
 
-    /// Rows from a place on that lie together: one at least, and none from another place on.
+    /// Rows from an index on that lie together: one at least, and none from another index on.
     pub(crate) fn run(&self, from: usize, to: usize) -> Run<'_>
         requires order { from < to }
         requires within { to ≤ length self.now }
@@ -208,7 +208,7 @@ impl Chunks {
         Ok(Chunks { form })
     }
 
-    /// The rows from one place to another. Full chunks are shared, and rows that make no whole
+    /// The rows from one index to another. Full chunks are shared, and rows that make no whole
     /// chunk at the end, fewer than 128, one by one; those of a tree one by one.
     pub fn part(&self, alloc: Global, from: usize, to: usize) -> Result<Chunks, AllocError>
         requires order { from ≤ to }

@@ -7,9 +7,9 @@
 
 mod chunk;
 mod chunks;
+mod equals;
 mod plain;
 mod run;
-mod same;
 mod seq;
 mod stretch;
 mod tree_rows;
@@ -17,7 +17,7 @@ mod waste;
 mod words;
 
 pub use chunks::Chunks;
-pub use same::are_joined_same;
+pub use equals::are_joined_equal;
 pub use seq::{Numbered, Seq};
 pub use stretch::Stretch;
 pub use waste::Waste;

@@ -69,7 +69,7 @@ fn close(alloc: Global, full: &mut VecDeque<Chunk>, last: &mut Vec<Timed>) -> Re
     }
 }
 
-// Shares of so many chunks from a place on.
+// Shares of so many chunks from an index on.
 fn shares(
     alloc: Global,
     full: &VecDeque<Chunk>,
@@ -109,15 +109,15 @@ fn run_of<'a>(full: &'a VecDeque<Chunk>, last: &'a [Timed], chunk: usize) -> Run
     }
 }
 
-// The row at a place of a chunk.
-fn row_in(chunk: &[Timed], place: usize) -> &Timed
-    requires { place < length chunk.now }
-    ensures { result.now ≡ slice_index_or chunk.now place result.now }
+// The row at an index of a chunk.
+fn row_in(chunk: &[Timed], index: usize) -> &Timed
+    requires { index < length chunk.now }
+    ensures { result.now ≡ slice_index_or chunk.now index result.now }
 {
-    &chunk[place]
+    &chunk[index]
 }
 
-// The rows of a chunk from one place to another.
+// The rows of a chunk from one index to another.
 fn slice_in(chunk: &[Timed], from: usize, to: usize) -> &[Timed]
     requires order { from ≤ to }
     requires within { to ≤ length chunk.now }
@@ -126,7 +126,7 @@ fn slice_in(chunk: &[Timed], from: usize, to: usize) -> &[Timed]
     &chunk[from..to]
 }
 
-// The rows of a chunk from one place to another. They are shared.
+// The rows of a chunk from one index to another. They are shared.
 fn copies_in(
     alloc: Global,
     chunk: &[Timed],
@@ -211,17 +211,17 @@ impl Plain {
         }
     }
 
-    /// The row at a place.
-    pub(crate) fn get(&self, place: usize) -> &Timed
-        requires { place < length self.now }
-        ensures { result.now ≡ slice_index_or self.now place result.now }
+    /// The row at an index.
+    pub(crate) fn get(&self, index: usize) -> &Timed
+        requires { index < length self.now }
+        ensures { result.now ≡ slice_index_or self.now index result.now }
     {
-        let at = self.gone + place;
+        let at = self.gone + index;
         let chunk = (at / SIZE).min(self.full.len());
         row_in(chunk_of(&self.full, &self.last, chunk), at - SIZE * chunk)
     }
 
-    /// Rows from a place on that lie in one chunk: one at least, and none from another place on.
+    /// Rows from an index on that lie in one chunk: one at least, and none from another index on.
     pub(crate) fn run(&self, from: usize, to: usize) -> Run<'_>
         requires order { from < to }
         requires within { to ≤ length self.now }
@@ -254,7 +254,7 @@ impl Plain {
         self.part(alloc, 0, self.len())
     }
 
-    /// The rows from one place to another. Full chunks are shared, and rows that make no whole
+    /// The rows from one index to another. Full chunks are shared, and rows that make no whole
     /// chunk at the end, fewer than 128, one by one.
     pub(crate) fn part(&self, alloc: Global, from: usize, to: usize) -> Result<Plain, AllocError>
         requires order { from ≤ to }

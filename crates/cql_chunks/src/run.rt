@@ -3,7 +3,7 @@ ghost use Rattle.std.specs.Prelude.{◌≡◌, ◌↔◌, ◌≤◌, ◌-◌, []
 ghost use Rattle.cql_chunks.specs.Beside.{IsBeside};
 
 use crate::words::are_equal;
-use cql_value::{Timed, are_same};
+use cql_value::{Timed, slices_equal};
 use std::marker::Model;
 
 /// Rows that lie together, and beside them their words, where these are known.
@@ -73,7 +73,7 @@ impl<'a> Run<'a> {
         self.rows.is_empty()
     }
 
-    /// The rows from one place to another.
+    /// The rows from one index to another.
     pub(crate) fn part(&self, from: usize, to: usize) -> Run<'a>
         requires order { from ≤ to }
         requires within { to ≤ length self.now }
@@ -88,12 +88,12 @@ impl<'a> Run<'a> {
         }
     }
 
-    /// The rows from a place on.
-    pub(crate) fn behind(&self, place: usize) -> Run<'a>
-        requires { place ≤ length self.now }
-        ensures { result ≡ drop place self.now }
+    /// The rows from an index on.
+    pub(crate) fn behind(&self, index: usize) -> Run<'a>
+        requires { index ≤ length self.now }
+        ensures { result ≡ drop index self.now }
     {
-        self.part(place, self.len())
+        self.part(index, self.len())
     }
 
     /// Whether the first rows, so many, are another's first. Where both have words these are
@@ -104,7 +104,7 @@ impl<'a> Run<'a> {
         ensures { IsTrue result ↔ (take count self.now ≡ take count other.now) }
     {
         if self.width == 0 || self.width != other.width {
-            return are_same(&self.rows[..count], &other.rows[..count]);
+            return slices_equal(&self.rows[..count], &other.rows[..count]);
         }
         let end = self.width * count;
         are_equal(&self.words[..end], &other.words[..end])

@@ -128,36 +128,36 @@ impl Seq {
         }
     }
 
-    /// The row at a place.
-    pub fn get(&self, place: usize) -> Option<&Numbered>
-        ensures { option_map (λ n. n.now) result ≡ slice_get self.now place }
+    /// The row at an index.
+    pub fn get(&self, index: usize) -> Option<&Numbered>
+        ensures { option_map (λ n. n.now) result ≡ slice_get self.now index }
     {
         match &self.node {
             SeqNode::Leaf => None,
             SeqNode::Fork(left, entry, _, _, right) => {
                 let here = left.len();
-                if place < here {
-                    left.get(place)
-                } else if place == here {
+                if index < here {
+                    left.get(index)
+                } else if index == here {
                     Some(entry)
                 } else {
-                    right.get(place - here - 1)
+                    right.get(index - here - 1)
                 }
             }
         }
     }
 
-    /// With one more at a place. What nobody else holds of the list is used again.
+    /// With one more at an index. What nobody else holds of the list is used again.
     pub fn insert(
         tree: Arc<Seq>,
         alloc: Global,
         leaf: &Arc<Seq>,
-        place: usize,
+        index: usize,
         entry: Numbered,
     ) -> Result<Arc<Seq>, AllocError>
         requires leaf { arc_value leaf.now ≡ [] }
-        requires place { place ≤ length (arc_value tree) }
-        ensures { IfOk result (λ s. arc_value s ≡ insert (arc_value tree) place entry) }
+        requires index { index ≤ length (arc_value tree) }
+        ensures { IfOk result (λ s. arc_value s ≡ insert (arc_value tree) index entry) }
     {
         match cut(tree)? {
             TakenTree::Leaf(_) => alone(alloc, leaf, entry),
@@ -170,23 +170,23 @@ impl Seq {
                 },
             ) => {
                 let here = left.len();
-                if place <= here {
+                if index <= here {
                     let side = Side::new(shell, own, right);
-                    let more = Seq::insert(left, alloc, leaf, place, entry)?;
+                    let more = Seq::insert(left, alloc, leaf, index, entry)?;
                     balanced(alloc, side.behind(more))
                 } else {
                     let side = Side::new(shell, own, left);
-                    let more = Seq::insert(right, alloc, leaf, place - here - 1, entry)?;
+                    let more = Seq::insert(right, alloc, leaf, index - here - 1, entry)?;
                     balanced(alloc, side.before(more))
                 }
             }
         }
     }
 
-    /// Without the one at a place. What nobody else holds of the list is used again.
-    pub fn remove(tree: Arc<Seq>, alloc: Global, place: usize) -> Result<Arc<Seq>, AllocError>
-        requires { place < length (arc_value tree) }
-        ensures { IfOk result (λ s. arc_value s ≡ remove (arc_value tree) place) }
+    /// Without the one at an index. What nobody else holds of the list is used again.
+    pub fn remove(tree: Arc<Seq>, alloc: Global, index: usize) -> Result<Arc<Seq>, AllocError>
+        requires { index < length (arc_value tree) }
+        ensures { IfOk result (λ s. arc_value s ≡ remove (arc_value tree) index) }
     {
         match cut(tree)? {
             TakenTree::Leaf(_) => unreachable!(),
@@ -199,13 +199,13 @@ impl Seq {
                 },
             ) => {
                 let here = left.len();
-                if place < here {
+                if index < here {
                     let side = Side::new(shell, own, right);
-                    let less = Seq::remove(left, alloc, place)?;
+                    let less = Seq::remove(left, alloc, index)?;
                     balanced(alloc, side.behind(less))
-                } else if place > here {
+                } else if index > here {
                     let side = Side::new(shell, own, left);
-                    let less = Seq::remove(right, alloc, place - here - 1)?;
+                    let less = Seq::remove(right, alloc, index - here - 1)?;
                     balanced(alloc, side.before(less))
                 } else {
                     match right.get(0) {

@@ -1,4 +1,4 @@
-// The rows of a list from one place to another, one after another.
+// The rows of a list from one index to another, one after another.
 ghost use Rattle.std.specs.Prelude.{◌≡◌, [], ◌++◌, length};
 ghost use Rattle.std.specs.Iterator.{YieldsFirstRef, item_count};
 
@@ -12,7 +12,7 @@ pub struct Stretch<'a> {
     pub(crate) chunks: &'a Chunks,
     // The next rows, of one chunk.
     pub(crate) near: &'a [Timed],
-    // The place behind them.
+    // The index behind them.
     pub(crate) at: usize,
     pub(crate) to: usize,
 }

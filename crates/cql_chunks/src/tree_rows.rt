@@ -12,7 +12,7 @@ use std::marker::Model;
 use std::slice;
 use std::sync::Arc;
 
-/// The rows of a tree from a place on. The tree is shared.
+/// The rows of a tree from an index on. The tree is shared.
 #[derive(Drop)]
 pub(crate) struct TreeRows {
     rows: Arc<Seq>,
@@ -60,24 +60,24 @@ impl TreeRows {
         self.gone += count;
     }
 
-    /// The row at a place, in the time of a logarithm.
-    pub(crate) fn get(&self, place: usize) -> &Timed
-        requires { place < length self.now }
-        ensures { result.now ≡ slice_index_or self.now place result.now }
+    /// The row at an index, in the time of a logarithm.
+    pub(crate) fn get(&self, index: usize) -> &Timed
+        requires { index < length self.now }
+        ensures { result.now ≡ slice_index_or self.now index result.now }
     {
-        match self.rows.get(self.gone + place) {
+        match self.rows.get(self.gone + index) {
             Some(entry) => &entry.row,
             None => unreachable!(),
         }
     }
 
-    /// The row at a place, as rows that lie together.
-    pub(crate) fn run(&self, place: usize) -> Run<'_>
-        requires { place < length self.now }
-        ensures rows { result ≡ take 1 (drop place self.now) }
+    /// The row at an index, as rows that lie together.
+    pub(crate) fn run(&self, index: usize) -> Run<'_>
+        requires { index < length self.now }
+        ensures rows { result ≡ take 1 (drop index self.now) }
         ensures one { length result ≡ 1 }
     {
-        Run::plain(slice::from_ref(self.get(place)))
+        Run::plain(slice::from_ref(self.get(index)))
     }
 
     /// The same rows with one more holder.

@@ -8,7 +8,7 @@ use Rattle.std.proofs.Crossing.{crosses, Box-send, Vec-send, Deque-send}
 use Rattle.slab.proofs.Slab.TheSendSync as slab
 use Rattle.std.below.std_heap.proofs.GlobalAllocator.TheSendSync as frees
 use Rattle.cql_connections.specs.contracts.floor.Floor as floor
-use Rattle.cql_connections.specs.contracts.floor.Place as place
+use Rattle.cql_connections.specs.contracts.floor.Slot as slot
 use Rattle.cql_connections.specs.contracts.floor.Turn as turn
 use Rattle.cql_connections.specs.contracts.house.House as house
 use Rattle.cql_connections.specs.contracts.lookout.Lookout as lookout
@@ -22,14 +22,14 @@ module _ (T : RattleType) where
   pub turn_row_send : IsSend T → IsSend (turn.the_row T)
   turn_row_send s = let t = turn_send s in search (sendable, t) depth 20
 
-  pub place_send : IsSend T → IsSend (place.the_field T).row
-  place_send s = struct_send (shape (place.the_type T)) (
+  pub slot_send : IsSend T → IsSend (slot.the_field T).row
+  slot_send s = struct_send (shape (slot.the_type T)) (
     let b = Box-send T s in search (sendable, b) depth 20,
     (search (crosses, sendable) depth 20, (search sendable, (search sendable, (search sendable, tt)))),
   )
 
-  pub place_row_send : IsSend T → IsSend (place.the_row T)
-  place_row_send s = let p = place_send s in search (sendable, p) depth 20
+  pub slot_row_send : IsSend T → IsSend (slot.the_row T)
+  slot_row_send s = let p = slot_send s in search (sendable, p) depth 20
 
   pub queues_send : IsSend T → IsSend (queues.the_field T).row
   queues_send s = struct_send (shape (queues.the_type T)) (Vec-send _ (Deque-send T s), (search (crosses, sendable) depth 30, (search sendable, tt)))
@@ -45,7 +45,7 @@ module _ (T D : RattleType) where
   floor_send s e = struct_send (shape (floor.the_type T D)) (
     search sendable depth 20,
     (
-      let p : Unit {0} → IsSend (place.the_row T) = λ u. place_row_send T s in search (sendable, slab.the_send, heap.the_send, frees.the_frees, p) depth 20,
+      let p : Unit {0} → IsSend (slot.the_row T) = λ u. slot_row_send T s in search (sendable, slab.the_send, heap.the_send, frees.the_frees, p) depth 20,
       (
         turns_send (turn.the_row T) (turn_row_send T s),
         (

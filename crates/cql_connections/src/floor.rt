@@ -28,11 +28,11 @@ pub struct Turn<T> {
 }
 
 impl<T: Connected> Turn<T> {
-    /// Whose turn it is: 0 until its caller has logged in, and then one more than the place of the
+    /// Whose turn it is: 0 until its caller has logged in, and then one more than the index of the
     /// tenant.
     pub fn owner(&self) -> usize {
         match self.guest.tenant() {
-            Some(tenant) => tenant.place().saturating_add(1),
+            Some(tenant) => tenant.index().saturating_add(1),
             None => 0,
         }
     }
@@ -58,7 +58,7 @@ impl<T: Connected> Turn<T> {
 // A caller who is connected: the guest unless it is at a worker or waits for one, since when it is
 // waited for, what is held for it, whether it is told of bytes, and whether it was told of something
 // since the guest's last turn began.
-struct Place<T> {
+struct Slot<T> {
     guest: Option<Box<T>>,
     since: Instant,
     held: usize,
@@ -66,9 +66,9 @@ struct Place<T> {
     is_called: bool,
 }
 
-impl<T: Drop> Drop for Place<T> {
+impl<T: Drop> Drop for Slot<T> {
     fn drop(self) {
-        let Place {
+        let Slot {
             guest: _,
             since: _,
             held: _,
@@ -94,7 +94,7 @@ pub(crate) enum Next<T> {
 /// The callers who are connected, and what is left of those who were.
 pub struct Floor<T, D> {
     limits: Limits,
-    places: Slab<Place<T>>,
+    slots: Slab<Slot<T>>,
     turns: Turns<Turn<T>>,
     // how many turns were taken since it was looked who has sent
     taken: u32,
@@ -114,7 +114,7 @@ impl<T: Drop, D: Drop> Drop for Floor<T, D> {
     fn drop(self) {
         let Floor {
             limits: _,
-            places: _,
+            slots: _,
             turns: _,
             taken: _,
             held: _,
@@ -141,7 +141,7 @@ impl<T: Connected<End = D>, D: Drop> Floor<T, D> {
         let ends = Vec::with_capacity(alloc, room)?;
         Ok(Floor {
             limits,
-            places: Slab::new(alloc),
+            slots: Slab::new(alloc),
             turns,
             taken: 0,
             held,
@@ -155,12 +155,12 @@ impl<T: Connected<End = D>, D: Drop> Floor<T, D> {
 
     /// Whether nobody is connected.
     pub(crate) fn is_empty(&self) -> bool {
-        self.places.is_empty()
+        self.slots.is_empty()
     }
 
     /// Whether no further caller has room.
     pub(crate) fn is_full(&self) -> bool {
-        self.places.len() >= self.limits.callers as usize
+        self.slots.len() >= self.limits.callers as usize
     }
 
     /// How much waits that a worker could do now. To look who has sent is such.
@@ -188,8 +188,8 @@ impl<T: Connected<End = D>, D: Drop> Floor<T, D> {
             return Next::WatchOut;
         };
         self.taken = self.taken.saturating_add(1);
-        if let Some(place) = self.places.get_mut(task.item.key) {
-            place.is_called = false;
+        if let Some(slot) = self.slots.get_mut(task.item.key) {
+            slot.is_called = false;
         }
         Next::Turn(task)
     }
@@ -204,7 +204,7 @@ impl<T: Connected<End = D>, D: Drop> Floor<T, D> {
     pub(crate) fn into_ends(self) -> Result<Vec<D>, AllocError> {
         let Floor {
             limits: _,
-            places: _,
+            slots: _,
             turns: _,
             taken: _,
             held: _,
@@ -220,14 +220,14 @@ impl<T: Connected<End = D>, D: Drop> Floor<T, D> {
     /// A guest has come of whose bytes it is told, and waits for its caller. Its key; or there was no
     /// memory.
     pub(crate) fn enter(&mut self, guest: Box<T>, since: Instant) -> Result<usize, AllocError> {
-        let place = Place {
+        let slot = Slot {
             guest: Some(guest),
             since,
             held: 0,
             is_listed: true,
             is_called: false,
         };
-        match self.places.insert(place) {
+        match self.slots.insert(slot) {
             Ok(key) => Ok(key),
             Err(_) => Err(AllocError),
         }
@@ -235,7 +235,7 @@ impl<T: Connected<End = D>, D: Drop> Floor<T, D> {
 
     /// The session of a key has ended.
     pub(crate) fn forget(&mut self, key: usize) {
-        let _ = self.places.try_remove(key);
+        let _ = self.slots.try_remove(key);
     }
 
     /// Keeps how a session ended.
@@ -248,14 +248,14 @@ impl<T: Connected<End = D>, D: Drop> Floor<T, D> {
     }
 
     // Takes a guest that waits for its caller.
-    fn leave_place(&mut self, key: usize) -> Option<Turn<T>> {
-        let place = self.places.get_mut(key)?;
-        let Some(guest) = place.guest.take() else {
-            place.is_called = true;
+    fn leave_slot(&mut self, key: usize) -> Option<Turn<T>> {
+        let slot = self.slots.get_mut(key)?;
+        let Some(guest) = slot.guest.take() else {
+            slot.is_called = true;
             return None;
         };
-        let is_listed = place.is_listed;
-        let held = std::mem::replace(&mut place.held, 0);
+        let is_listed = slot.is_listed;
+        let held = std::mem::replace(&mut slot.held, 0);
         let turn = Turn {
             key,
             guest,
@@ -270,7 +270,7 @@ impl<T: Connected<End = D>, D: Drop> Floor<T, D> {
     /// Something has come for the guest of a key: it waits for a worker. Without memory for that
     /// it comes back.
     pub(crate) fn call(&mut self, key: usize) -> Result<(), Turn<T>> {
-        match self.leave_place(key) {
+        match self.leave_slot(key) {
             Some(turn) => self.push(turn),
             None => Ok(()),
         }
@@ -305,11 +305,11 @@ impl<T: Connected<End = D>, D: Drop> Floor<T, D> {
         needs: WaitsFor,
         now: Option<Instant>,
     ) -> Result<(), Turn<T>> {
-        let Some(place) = self.places.get_mut(turn.key) else {
+        let Some(slot) = self.slots.get_mut(turn.key) else {
             return Err(turn);
         };
-        if place.is_called {
-            place.is_called = false;
+        if slot.is_called {
+            slot.is_called = false;
             return self.push(turn);
         }
         if let Some(all) = self.held.get_mut(turn.owner()) {
@@ -318,15 +318,15 @@ impl<T: Connected<End = D>, D: Drop> Floor<T, D> {
                 return Err(turn);
             }
             *all = all.saturating_add(held);
-            place.held = held;
+            slot.held = held;
         }
         if turn.guest.tenant().is_some()
             && let Some(now) = now
         {
-            place.since = now;
+            slot.since = now;
         }
-        place.is_listed = turn.is_listed;
-        place.guest = Some(turn.guest);
+        slot.is_listed = turn.is_listed;
+        slot.guest = Some(turn.guest);
         Ok(())
     }
 
@@ -337,13 +337,13 @@ impl<T: Connected<End = D>, D: Drop> Floor<T, D> {
             return;
         }
         let first = self.looked;
-        let end = self.places.capacity();
+        let end = self.slots.capacity();
         let last = end.min(first.saturating_add(AT_ONCE));
         self.looked = if last < end { last } else { 0 };
         for key in first..last {
             if self.is_late(now, key)
                 && late.reserve(1).is_ok()
-                && let Some(turn) = self.leave_place(key)
+                && let Some(turn) = self.leave_slot(key)
             {
                 late.push_reserved(turn);
             }
@@ -352,10 +352,10 @@ impl<T: Connected<End = D>, D: Drop> Floor<T, D> {
 
     // Whether a guest that is waited for has let its time pass.
     fn is_late(&self, now: Instant, key: usize) -> bool {
-        let Some(place) = self.places.get(key) else {
+        let Some(slot) = self.slots.get(key) else {
             return false;
         };
-        let Some(guest) = &place.guest else {
+        let Some(guest) = &slot.guest else {
             return false;
         };
         let within = if guest.tenant().is_some() {
@@ -364,7 +364,7 @@ impl<T: Connected<End = D>, D: Drop> Floor<T, D> {
             earlier(self.limits.login, self.limits.idle)
         };
         match within {
-            Some(within) => now.saturating_duration_since(place.since) >= within,
+            Some(within) => now.saturating_duration_since(slot.since) >= within,
             None => false,
         }
     }

@@ -15,28 +15,30 @@ use Rattle.cql_plan.specs.declared.plan.Branch.{Branch}
 use Rattle.cql_plan.specs.declared.plan.OutputKind.TheVariants.{Rstream}
 use Rattle.cql_plan.specs.declared.plan.Planned.{Planned}
 use Rattle.cql_window.specs.Through.{wide_window}
-use Rattle.cql_plan.specs.Visible.{Visible}
-use Rattle.cql_plan.specs.Sources.{Readable}
-use Rattle.cql_plan.specs.Seen.{alone, seen_alone, widened_by, widened}
+use Rattle.cql_plan.specs.VisibleColumns.{VisibleColumns}
+use Rattle.cql_plan.specs.Sources.{SchemaLookup}
+use Rattle.cql_plan.specs.Projected.{alone, visible_alone, widened_by, widened}
 use Rattle.cql_algebra.specs.declared.told.Block.{Block}
 use Rattle.cql_algebra.specs.declared.told.Output.TheVariants.{Rows as told_rows}
-use Rattle.cql_eval.specs.Pin.{PinSeen}
+use Rattle.cql_eval.specs.Pin.{PinModel}
 use Rattle.cql_tenants.specs.declared.tenants.Quotas.{Quotas}
 use Rattle.cql_tenants.specs.declared.tenants.Tenant.{Tenant}
 use Rattle.cql_value.specs.Named.{same_name, find_named}
-use Rattle.cql_tenants.specs.Home.{nothing_made}
+use Rattle.cql_tenants.specs.Namespace.{nothing_made}
 use Rattle.cql_core.specs.declared.command.ColumnText.{ColumnText}
 use Rattle.cql_core.specs.declared.command.Command.{Command}
 use Rattle.cql_core.specs.declared.command.Command.TheVariants.{Stream, Grant, Revoke, Put, Beat, Query, Fetch, Ack, Drop, List as Lists}
 use Rattle.cql_core.specs.declared.refusal.Refusal.{Refusal}
 use Rattle.cql_core.specs.declared.refusal.Refusal.TheVariants.{StreamExists, BadName, BadColumns, TooManyStreams, UnknownStream, UnknownTenant, AlreadyGranted, SelfGrant, BadGrantColumns, NotGranted, WrongRow, Late, AtTooLarge, BadQuery, TooManyQueries, QueryExists, UnknownQuery, Overrun, Ahead, Behind, Revoked, NoMemory}
-use Rattle.cql_core.specs.Source.{source_of}
-use Rattle.cql_core.specs.Told.{Told, Done, Based, Blocks, Listed, Refused}
+use Rattle.cql_core.specs.StreamId.{stream_id_of}
+use Rattle.cql_core.specs.ReplyModel.{ReplyModel, Done, Based, Blocks, Listed, Refused}
 use Rattle.cql_core.specs.Language.{Language, or_widened, contents_at, AreReadable, AreAlike, IsLanguage, plan_over}
 use Rattle.cql_core.specs.Machine.{opening}
 use Rattle.cql_core.specs.View.{Own, Appears, Gone, Comes, Beats, view}
-use Rattle.cql_core.specs.Solo.{Asked, Known, nothing_known, solo, limit_to, meaning}
-use Rattle.cql_core.specs.Headline.{Made, replies_to, IsLegal, sent, told_to, IsHeadlineLaw}
+use Rattle.cql_core.specs.Solo.{SoloQuery, SoloState, solo_opening, solo, limit_to, meaning}
+use Rattle.cql_core.specs.Headline.{Event, sent, told_to}
+use Rattle.cql_core.specs.Legal.{IsLegal}
+use Rattle.cql_core.specs.HeadlineLaw.{replies_to, IsHeadlineLaw}
 use Rattle.cql_core.specs.Law.{state_from, without_others, IsMachineLaw}
 use Rattle.cql_core.specs.Order.{Tells as TellsInOrder, gone_check, overrun_check, OrderLaw, IsOrderLaw}
 use Rattle.cql_core.specs.Binding.{IsBindingLaw}
@@ -52,19 +54,19 @@ abbrev owner_for : ℕ → Option (List ℕ)
 owner_for n = if n == 0 then None else Some (n ∷ [])
 
 abbrev inputs_for : List ℕ → List Input
-inputs_for (w ∷ owner ∷ name ∷ rest) = record { owner = owner_for owner; stream = name ∷ []; window = window_for w; places = [] } ∷ inputs_for rest
+inputs_for (w ∷ owner ∷ name ∷ rest) = record { owner = owner_for owner; stream = name ∷ []; window = window_for w; projection = [] } ∷ inputs_for rest
 inputs_for (w ∷ owner ∷ []) = []
 inputs_for (w ∷ []) = []
 inputs_for [] = []
 
--- the numbers that aren't three, by the first one's place
+-- the numbers that aren't three, by the first one's index
 abbrev bad_from : ℕ → List ℕ → Option ℕ
 bad_from at (w ∷ owner ∷ name ∷ rest) = bad_from (at + 3) rest
 bad_from at (w ∷ owner ∷ []) = Some at
 bad_from at (w ∷ []) = Some at
 bad_from at [] = None
 
-abbrev can_read : Readable → List Input → Bool
+abbrev can_read : SchemaLookup → List Input → Bool
 can_read readable [] = true
 can_read readable (i ∷ is) = is_some (readable i.owner i.stream) && can_read readable is
 
@@ -75,16 +77,16 @@ branch = record { join = Distinct []; shape = Distinct []; distinct = None }
 abbrev plan_with : List Input → Planned
 plan_with inputs = record { inputs = inputs; first = branch; combined = None; output = Rstream }
 
--- an input at the places of the columns that are seen
-abbrev places_or : Option Visible → List ℕ
-places_or None = []
-places_or (Some seen) = seen.places
+-- an input with the projection that is seen
+abbrev projection_or : Option VisibleColumns → List ℕ
+projection_or None = []
+projection_or (Some seen) = seen.projection
 
-abbrev placed : Readable → Input → Input
-placed readable i = record i { places = places_or (readable i.owner i.stream) }
+abbrev with_projection : SchemaLookup → Input → Input
+with_projection readable i = record i { projection = projection_or (readable i.owner i.stream) }
 
-abbrev planned : Readable → List ℕ → Result Planned Refusal
-planned readable text = if can_read readable (inputs_for text) then Ok (plan_with (map (placed readable) (inputs_for text))) else Err UnknownStream
+abbrev planned : SchemaLookup → List ℕ → Result Planned Refusal
+planned readable text = if can_read readable (inputs_for text) then Ok (plan_with (map (with_projection readable) (inputs_for text))) else Err UnknownStream
 
 -- all rows of the windows
 abbrev rows_in : List (List Element) → List (List Value)
@@ -108,7 +110,7 @@ blocks_for O from (suc n) = blocks_for O from n ++ block (from + n) (O (from + n
 abbrev Tells : Type 0
 Tells = ℕ → Option (List (List Element)) → Option (List (List Element)) → List (List Value)
 
-abbrev told_at : Tells → PinSeen → ℕ → List (List Value)
+abbrev told_at : Tells → PinModel → ℕ → List (List Value)
 told_at tells p t = tells p.limit (contents_at p t) (contents_at p (t + 1))
 
 abbrev language_of : Tells → Language
@@ -128,7 +130,7 @@ block_local : (O P : ℕ → List (List Value)) (from n : ℕ) → ((t : ℕ) �
 block_local O P from zero same = refl
 block_local O P from (suc n) same = λ i. block_local O P from n (λ t ge lt. same t ge (omega (arith, lt))) i ++ block (from + n) (same (from + n) (omega arith) (omega arith) i)
 
-module _ (tells : Tells) (p q : PinSeen) (alike : AreAlike p q) where
+module _ (tells : Tells) (p q : PinModel) (alike : AreAlike p q) where
   told_alike : (t : ℕ) → p.from ≤ t → t < p.next → told_at tells p t ≡ told_at tells q t
   told_alike t ge lt = λ i. tells (alike.limit i) (alike.contents t ge (omega (arith, lt)) i) (alike.contents (t + 1) (omega (arith, ge)) (omega (arith, lt)) i)
 
@@ -137,7 +139,7 @@ module _ (tells : Tells) (p q : PinSeen) (alike : AreAlike p q) where
       block_local (told_at tells p) (told_at tells q) p.from (p.next - p.from) (λ t ge lt. told_alike t ge (omega (arith, ge, lt)))
       ∙ (λ i. blocks_for (told_at tells q) (alike.from i) (alike.next i - alike.from i))
 
-inputs_read : (readable : Readable) (inputs : List Input) → can_read readable inputs ≡ true → AreReadable readable (map (placed readable) inputs)
+inputs_read : (readable : SchemaLookup) (inputs : List Input) → can_read readable inputs ≡ true → AreReadable readable (map (with_projection readable) inputs)
 inputs_read readable [] h = tt
 inputs_read readable (i ∷ is) h = let both = and_parts (is_some (readable i.owner i.stream)) _ h in (both.0, inputs_read readable is both.1)
 
@@ -145,35 +147,35 @@ abbrev inputs_or : Result Planned Refusal → List Input
 inputs_or (Ok plan) = plan.inputs
 inputs_or (Err refusal) = []
 
-reads_ok : (readable : Readable) (text : List ℕ) (plan : Planned) (b : Bool) → can_read readable (inputs_for text) ≡ b
-    → ◌≡◌ {A = Result Planned Refusal} (if b then Ok (plan_with (map (placed readable) (inputs_for text))) else Err UnknownStream) (Ok plan) → AreReadable readable plan.inputs
+reads_ok : (readable : SchemaLookup) (text : List ℕ) (plan : Planned) (b : Bool) → can_read readable (inputs_for text) ≡ b
+    → ◌≡◌ {A = Result Planned Refusal} (if b then Ok (plan_with (map (with_projection readable) (inputs_for text))) else Err UnknownStream) (Ok plan) → AreReadable readable plan.inputs
 reads_ok readable text plan true e h = subst (AreReadable readable) (ap inputs_or h) (inputs_read readable (inputs_for text) e)
 reads_ok readable text plan false e h = absurd cc
 
 -- what is seen alone can be read as well
-some_alone : (o : Option Visible) → is_some (option_map alone o) ≡ is_some o
+some_alone : (o : Option VisibleColumns) → is_some (option_map alone o) ≡ is_some o
 some_alone None = refl
 some_alone (Some seen) = refl
 
-can_alone : (readable : Readable) (inputs : List Input) → can_read (seen_alone readable) inputs ≡ can_read readable inputs
+can_alone : (readable : SchemaLookup) (inputs : List Input) → can_read (visible_alone readable) inputs ≡ can_read readable inputs
 can_alone readable [] = refl
 can_alone readable (i ∷ is) = λ j. some_alone (readable i.owner i.stream) j && can_alone readable is j
 
 -- no window has parts
-plain : (places : List ℕ) (n : ℕ) → wide_window places (window_for n) ≡ window_for n
-plain places n = by (n == 0) (n == 1)
+plain : (projection : List ℕ) (n : ℕ) → wide_window projection (window_for n) ≡ window_for n
+plain projection n = by (n == 0) (n == 1)
   where
-    by : (b c : Bool) → wide_window places (if b then all else if c then Rows 1 1 else Range n 1) ≡ (if b then all else if c then Rows 1 1 else Range n 1)
+    by : (b c : Bool) → wide_window projection (if b then all else if c then Rows 1 1 else Range n 1) ≡ (if b then all else if c then Rows 1 1 else Range n 1)
     by true c = refl
     by false true = refl
     by false false = refl
 
-sees_one : (o : Option Visible) (owner : Option (List ℕ)) (stream : List ℕ) (n : ℕ)
-    → record { owner = owner; stream = stream; window = window_for n; places = places_or o } ≡ widened_by o (record { owner = owner; stream = stream; window = window_for n; places = places_or (option_map alone o) })
+sees_one : (o : Option VisibleColumns) (owner : Option (List ℕ)) (stream : List ℕ) (n : ℕ)
+    → record { owner = owner; stream = stream; window = window_for n; projection = projection_or o } ≡ widened_by o (record { owner = owner; stream = stream; window = window_for n; projection = projection_or (option_map alone o) })
 sees_one None owner stream n = refl
-sees_one (Some seen) owner stream n = λ j. record { owner = owner; stream = stream; window = sym (plain seen.places n) j; places = seen.places }
+sees_one (Some seen) owner stream n = λ j. record { owner = owner; stream = stream; window = sym (plain seen.projection n) j; projection = seen.projection }
 
-sees_inputs : (readable : Readable) (text : List ℕ) → map (placed readable) (inputs_for text) ≡ map (widened readable) (map (placed (seen_alone readable)) (inputs_for text))
+sees_inputs : (readable : SchemaLookup) (text : List ℕ) → map (with_projection readable) (inputs_for text) ≡ map (widened readable) (map (with_projection (visible_alone readable)) (inputs_for text))
 sees_inputs readable (w ∷ owner ∷ name ∷ rest) = λ j. sees_one (readable (owner_for owner) (name ∷ [])) (owner_for owner) (name ∷ []) w j ∷ sees_inputs readable rest j
 sees_inputs readable (w ∷ owner ∷ []) = refl
 sees_inputs readable (w ∷ []) = refl
@@ -182,15 +184,15 @@ sees_inputs readable [] = refl
 abbrev planned_if : Bool → List Input → Result Planned Refusal
 planned_if b inputs = if b then Ok (plan_with inputs) else Err UnknownStream
 
-sees_by : (readable : Readable) (inputs : List Input) (b : Bool) → planned_if b (map (widened readable) inputs) ≡ or_widened readable (planned_if b inputs)
+sees_by : (readable : SchemaLookup) (inputs : List Input) (b : Bool) → planned_if b (map (widened readable) inputs) ≡ or_widened readable (planned_if b inputs)
 sees_by readable inputs true = refl
 sees_by readable inputs false = refl
 
-sees_alone : (readable : Readable) (text : List ℕ) → planned readable text ≡ or_widened readable (planned (seen_alone readable) text)
+sees_alone : (readable : SchemaLookup) (text : List ℕ) → planned readable text ≡ or_widened readable (planned (visible_alone readable) text)
 sees_alone readable text =
     ap (planned_if (can_read readable (inputs_for text))) (sees_inputs readable text)
-    ∙ sees_by readable (map (placed (seen_alone readable)) (inputs_for text)) (can_read readable (inputs_for text))
-    ∙ (λ j. or_widened readable (planned_if (sym (can_alone readable (inputs_for text)) j) (map (placed (seen_alone readable)) (inputs_for text))))
+    ∙ sees_by readable (map (with_projection (visible_alone readable)) (inputs_for text)) (can_read readable (inputs_for text))
+    ∙ (λ j. or_widened readable (planned_if (sym (can_alone readable (inputs_for text)) j) (map (with_projection (visible_alone readable)) (inputs_for text))))
 
 is_language : (tells : Tells) → IsLanguage (language_of tells)
 is_language tells = record {
@@ -385,7 +387,7 @@ abbrev shared : List (ℕ × Command)
 shared = (0, Stream s numbers) ∷ (0, Grant s b None) ∷ (0, Query p (2 ∷ own_s)) ∷ (1, Query q (2 ∷ a_s)) ∷ (0, Put s 1 (row 1)) ∷ (0, Put s 5 (row 5)) ∷ (0, Put s 8 (row 8)) ∷ (0, Beat s 9) ∷ []
 
 abbrev held_after : List Tenant → List (ℕ × Command) → Option ℕ
-held_after table calls = rows_held (state_from language (opening table) calls) (source_of 0 s)
+held_after table calls = rows_held (state_from language (opening table) calls) (stream_id_of 0 s)
 
 -- what a stream's store has to keep: as much as its slowest reader needs, nothing for one that is overrun
 held : (held_after two [] ≡ None) × (held_after two shared ≡ Some 3) × (held_after two (shared ++ (0, Ack p 9) ∷ []) ≡ Some 3) × (held_after two (shared ++ (0, Ack p 9) ∷ (1, Ack q 9) ∷ []) ≡ Some 1)
@@ -454,7 +456,7 @@ readers_list = refl
 -- a reader's view: nothing before the grant, nothing of what is refused, nothing of another's queries
 readers_view : view 1 (nothing_made two)
     ((0, Stream s numbers) ∷ (0, Stream p numbers) ∷ (0, Put s 1 (row 7)) ∷ (0, Beat s 1) ∷ (0, Grant s b None) ∷ (0, Grant s b None) ∷ (0, Query p (0 ∷ own_s)) ∷ (1, Fetch q None) ∷ (0, Put s 1 (row 7)) ∷ (0, Put s 2 (row 7)) ∷ (0, Put p 9 (row 8)) ∷ (0, Beat s 3) ∷ (0, Beat s 3) ∷ (2, Lists) ∷ [])
-    ≡ Appears s (record { owner = 0; schema = record { name = 118 ∷ []; kind = Integer } ∷ []; named = false; opened = 2 }) ∷ Own (Fetch q None) ∷ Comes (source_of 0 s) (record { at = 2; row = row 7 }) ∷ Beats (source_of 0 s) 3 ∷ []
+    ≡ Appears s (record { owner = 0; schema = record { name = 118 ∷ []; kind = Integer } ∷ []; named = false; opened = 2 }) ∷ Own (Fetch q None) ∷ Comes (stream_id_of 0 s) (record { at = 2; row = row 7 }) ∷ Beats (stream_id_of 0 s) 3 ∷ []
 unfolding same_name contents_at words.is_reserved
 readers_view = refl
 
@@ -484,13 +486,13 @@ chosen_columns = refl
 
 -- what b sees of it: no hidden column
 chosen_view : view 1 (nothing_made two) ((0, Stream p two_columns) ∷ (0, Grant p b (Some (v ∷ []))) ∷ (0, Put p 1 (two_row (codes "x") 1)) ∷ (0, Revoke p b) ∷ (0, Put p 2 (two_row (codes "x") 2)) ∷ (0, Beat p 3) ∷ [])
-    ≡ Appears p (record { owner = 0; schema = record { name = v; kind = Integer } ∷ []; named = true; opened = 0 }) ∷ Comes (source_of 0 p) (record { at = 1; row = row 1 }) ∷ Gone (source_of 0 p) ∷ []
+    ≡ Appears p (record { owner = 0; schema = record { name = v; kind = Integer } ∷ []; named = true; opened = 0 }) ∷ Comes (stream_id_of 0 p) (record { at = 1; row = row 1 }) ∷ Gone (stream_id_of 0 p) ∷ []
 unfolding same_name contents_at words.is_reserved
 chosen_view = refl
 
 -- the columns are in the order of the grant, and not in the stream's
 chosen_order : view 1 (nothing_made two) ((0, Stream p two_columns) ∷ (0, Grant p b (Some (v ∷ k ∷ []))) ∷ (0, Put p 1 (two_row (codes "x") 1)) ∷ [])
-    ≡ Appears p (record { owner = 0; schema = record { name = v; kind = Integer } ∷ record { name = k; kind = Letters } ∷ []; named = true; opened = 0 }) ∷ Comes (source_of 0 p) (record { at = 1; row = Number (pos 1) ∷ Text (codes "x") ∷ [] }) ∷ []
+    ≡ Appears p (record { owner = 0; schema = record { name = v; kind = Integer } ∷ record { name = k; kind = Letters } ∷ []; named = true; opened = 0 }) ∷ Comes (stream_id_of 0 p) (record { at = 1; row = Number (pos 1) ∷ Text (codes "x") ∷ [] }) ∷ []
 unfolding same_name contents_at words.is_reserved
 chosen_order = refl
 
@@ -512,7 +514,7 @@ abbrev revoked : List (ℕ × Command)
 revoked = (0, Stream s numbers) ∷ (0, Grant s b None) ∷ (1, Query q (0 ∷ a_s)) ∷ (0, Put s 1 (row 1)) ∷ (0, Beat s 1) ∷ (0, Revoke s b) ∷ []
 
 -- a query whose stream is revoked holds no row
-revoked_holds : rows_held (state_from language (opening two) revoked) (source_of 0 s) ≡ Some 0
+revoked_holds : rows_held (state_from language (opening two) revoked) (stream_id_of 0 s) ≡ Some 0
 unfolding same_name contents_at words.is_reserved
 revoked_holds = refl
 
@@ -535,11 +537,11 @@ revoked_overrun = refl
 is_that_language : IsLanguage language
 is_that_language = is_language (λ limit before now. rows_of now)
 
-abbrev made : ℕ → Command → Told → Made
+abbrev made : ℕ → Command → ReplyModel → Event
 made tenant command told = record { tenant = tenant; command = command; told = told }
 
 -- b reads one of two columns; what stands in the other is the word
-abbrev with_word : List ℕ → List Made
+abbrev with_word : List ℕ → List Event
 with_word word = made 0 (Stream p two_columns) Done ∷ made 0 (Grant p b (Some (v ∷ []))) Done ∷ made 1 (Query q (2 ∷ 97 ∷ 112 ∷ [])) (Based 0) ∷ made 0 (Put p 1 (two_row word 1)) Done ∷ made 0 (Beat p 1) Done ∷ made 1 (Fetch q None) (Blocks (one 1 1 1 []) 2) ∷ made 1 (Drop q) (Refused NoMemory) ∷ []
 
 abbrev word : List ℕ
@@ -556,7 +558,7 @@ other_legal : IsLegal language (opening two) (with_word other_word)
 unfolding same_name contents_at words.is_reserved
 other_legal = (λ e. refl, (λ e. refl, (λ e. refl, (λ e. refl, (λ e. refl, (λ e. refl, (λ e. absurd cc, tt)))))))
 
-hidden_put : HiddenPut 1 (state_from language (opening two) (take 3 (sent (with_word word)))).homes 0 (Put p 1 (two_row word 1)) (Put p 1 (two_row other_word 1))
+hidden_put : HiddenPut 1 (state_from language (opening two) (take 3 (sent (with_word word)))).namespaces 0 (Put p 1 (two_row word 1)) (Put p 1 (two_row other_word 1))
 unfolding same_name contents_at words.is_reserved
 hidden_put = record { stream = p; at = 1; row = two_row word 1; other = two_row other_word 1; first = refl; second = refl; away = refl; told = refl; seen = refl }
 
@@ -570,23 +572,23 @@ hidden_law_at law = (law language is_that_language).runs two 1 (sent (with_word 
 hidden_histories_at : IsHiddenLaw → told_to 1 (with_word word) ≡ told_to 1 (with_word other_word)
 hidden_histories_at law = (law language is_that_language).histories two 1 (with_word word) (with_word other_word) legal other_legal hidden
 
-headline_law_at : IsHeadlineLaw → told_to 1 (with_word word) ≡ solo language 1 (nothing_known two 1) (view 1 (nothing_made two) (sent (with_word word)))
+headline_law_at : IsHeadlineLaw → told_to 1 (with_word word) ≡ solo language 1 (solo_opening two 1) (view 1 (nothing_made two) (sent (with_word word)))
 headline_law_at law = (law language is_that_language).history two (with_word word) legal 1
 
 machine_law_at : IsMachineLaw → replies_to language 0 (opening two) (without_others 0 (sent (with_word word))) ≡ replies_to language 0 (opening two) (sent (with_word word))
 machine_law_at law = (law language is_that_language).alone two 0 (sent (with_word word))
 
 -- no fault is there: that of the table, the name, the columns, another of the name, and how many there are
-order_law_at : IsOrderLaw → meaning language 0 (nothing_known two 0) (Stream s numbers) ≡ Done
+order_law_at : IsOrderLaw → meaning language 0 (solo_opening two 0) (Stream s numbers) ≡ Done
 unfolding same_name words.is_reserved
-order_law_at law = ((((((law language is_that_language 0 (nothing_known two 0)).make s numbers).1 refl).1 refl).1 refl).1 refl).1 refl
+order_law_at law = ((((((law language is_that_language 0 (solo_opening two 0)).make s numbers).1 refl).1 refl).1 refl).1 refl).1 refl
 
 -- a fetch of a query that is there, by the pin of which the law itself says that it shows the query whole
-fetch_law_at : IsOrderLaw → (k : Known) (name : List ℕ) (q : Asked) → find_named k.queries name ≡ Some q
-    → (p : PinSeen) × TellsInOrder 1 k (gone_check q ∷ overrun_check k q ∷ []) (Blocks (language.blocks_of p) (limit_to 1 k q)) (meaning language 1 k (Fetch name None))
+fetch_law_at : IsOrderLaw → (k : SoloState) (name : List ℕ) (q : SoloQuery) → find_named k.queries name ≡ Some q
+    → (p : PinModel) × TellsInOrder 1 k (gone_check q ∷ overrun_check k q ∷ []) (Blocks (language.blocks_of p) (limit_to 1 k q.plan)) (meaning language 1 k (Fetch name None))
 fetch_law_at law k name q there =
     let laws : OrderLaw language 1 k = law language is_that_language 1 k in
-    let (p, whole) = laws.pin q k.quotas.result (limit_to 1 k q) in
+    let (p, whole) = laws.pin q k.quotas.result (limit_to 1 k q.plan) in
     (p, laws.fetch name q p there whole)
 
 -- where no stream is found

@@ -8,29 +8,31 @@ use Rattle.cql_value.specs.Schema.{is_row_of}
 use Rattle.cql_value.specs.Clock.{greatest}
 use Rattle.cql_value.specs.declared.clock.ClockError.TheVariants as clock
 use Rattle.cql_tenants.specs.Granted.{Grant as grant}
-use Rattle.cql_tenants.specs.declared.home.Home.{Home}
-use Rattle.cql_value.specs.declared.refusal.StreamRefusal.{StreamRefusal}
-use Rattle.cql_value.specs.declared.refusal.StreamRefusal.TheVariants as refused
+use Rattle.cql_tenants.specs.declared.namespace.Namespace.{Namespace}
+use Rattle.cql_value.specs.declared.stream_refusal.StreamRefusal.{StreamRefusal}
+use Rattle.cql_value.specs.declared.stream_refusal.StreamRefusal.TheVariants as refused
 use Rattle.cql_value.specs.declared.stream.Stream.{Stream as stream}
 use Rattle.cql_value.specs.Refusal.{clock_refusal}
 use Rattle.cql_value.specs.Named.{same_name, find_named}
-use Rattle.cql_tenants.specs.Home.{is_place, home_at, change_home, tenant_named, stream_at, opened_at, is_of, grant_of, without_grant}
+use Rattle.cql_tenants.specs.Namespace.{has_tenant, namespace_at, change_namespace, tenant_named, stream_at, is_of, grant_of, without_grant}
+use Rattle.cql_tenants.specs.Lookup.{opened_at, own_found, granted_found}
 use Rattle.cql_value.specs.Taking.{time_refused, put_refused, beat_refused, opens}
 use Rattle.cql_tenants.specs.Directory.{with_stream, with_time, with_grant, new_grant, grant_to, revoke_from}
-use Rattle.cql_tenants.specs.Readable.{StreamSeen, own_found, granted_found}
+use Rattle.cql_tenants.specs.Readable.{StreamView}
 use Rattle.cql_core.specs.declared.command.Command.{Command}
 use Rattle.cql_core.specs.declared.command.Command.TheVariants.{Stream, Grant, Revoke, Put, Beat, Query, Fetch, Ack, Drop, List as Lists}
-use Rattle.cql_core.specs.Source.{Source, source_of, same_source}
-use Rattle.cql_core.specs.Told.{done_unless, is_accepted}
-use Rattle.cql_core.specs.Directory.{directory_after, readable_to, opened_in}
+use Rattle.cql_core.specs.StreamId.{StreamId, stream_id_of, same_stream_id}
+use Rattle.cql_core.specs.ReplyModel.{done_unless, is_accepted}
+use Rattle.cql_core.specs.Directory.{directory_after}
+use Rattle.cql_core.specs.Lookup.{readable_to, opened_in}
 use Rattle.cql_core.specs.View.{is_tenant}
-use Rattle.cql_core.proofs.Keys.{source_eq, turned}
+use Rattle.cql_core.proofs.Keys.{stream_id_eq, turned}
 use Rattle.cql_tenants.proofs.Kept.{grow_at}
 use Rattle.cql_core.proofs.Look.{part_kept, some_change, some_push, some_map, some_find_push, clock_of, opened_time, opened_make, opened_grant}
-use Rattle.cql_core.proofs.Homes.{place_in, opened_read, granted_left, opened_revoke}
+use Rattle.cql_core.proofs.Namespaces.{tenant_within, opened_read, granted_left, opened_revoke}
 
 -- it is read, and takes nothing below this
-abbrev pub Reaches : ℕ → Option StreamSeen → Type 0
+abbrev pub Reaches : ℕ → Option StreamView → Type 0
 Reaches n None = ⊥
 Reaches n (Some s) = n ≤ s.opened
 
@@ -39,8 +41,8 @@ abbrev pub Takes : Option stream → ℕ → Type 0
 Takes None at = ⊥
 Takes (Some s) at = s.clock ≤ at
 
-abbrev pub Grows : (Source → Option StreamSeen) → (Source → Option StreamSeen) → Type 0
-Grows f g = (p : Source) (n : ℕ) → Reaches n (f p) → Reaches n (g p)
+abbrev pub Grows : (StreamId → Option StreamView) → (StreamId → Option StreamView) → Type 0
+Grows f g = (p : StreamId) (n : ℕ) → Reaches n (f p) → Reaches n (g p)
 
 pub takes_more : (o : Option stream) (at : ℕ) → Takes o at → Takes o (at + 1)
 takes_more None at h = h
@@ -73,18 +75,18 @@ takes_some (Some s) at h = (refl, h)
 
 -- WHAT STAYS
 -- streams and grants stay, and times do not fall
-pub record Stays (d d' : List Home) : Type 0 where
+pub record Stays (d d' : List Namespace) : Type 0 where
   pub streams : (o : ℕ) (m : List ℕ) → is_some (stream_at d o m) ≡ true → is_some (stream_at d' o m) ≡ true
-  pub granted : (r o : ℕ) (m : List ℕ) → is_some (grant_of (home_at d r) o m) ≡ true → is_some (grant_of (home_at d' r) o m) ≡ true
+  pub granted : (r o : ℕ) (m : List ℕ) → is_some (grant_of (namespace_at d r) o m) ≡ true → is_some (grant_of (namespace_at d' r) o m) ≡ true
   pub times : (o : ℕ) (m : List ℕ) → opened_at d o m ≤ opened_at d' o m
 
-stays_same : (d : List Home) → Stays d d
+stays_same : (d : List Namespace) → Stays d d
 stays_same d = record { streams = λ o m h. h; granted = λ r o m h. h; times = λ o m. omega arith }
 
--- a home changes
-stays_home : (d : List Home) (u : ℕ) (h : Home) → ((m : List ℕ) → is_some (find_named (home_at d u).streams m) ≡ true → is_some (find_named h.streams m) ≡ true)
-    → ((o : ℕ) (m : List ℕ) → is_some (grant_of (home_at d u) o m) ≡ true → is_some (grant_of h o m) ≡ true) → ((o : ℕ) (m : List ℕ) → opened_at d o m ≤ opened_at (set d u h) o m) → Stays d (set d u h)
-stays_home d u h streams granted times = record {
+-- a namespace changes
+stays_namespace : (d : List Namespace) (u : ℕ) (h : Namespace) → ((m : List ℕ) → is_some (find_named (namespace_at d u).streams m) ≡ true → is_some (find_named h.streams m) ≡ true)
+    → ((o : ℕ) (m : List ℕ) → is_some (grant_of (namespace_at d u) o m) ≡ true → is_some (grant_of h o m) ≡ true) → ((o : ℕ) (m : List ℕ) → opened_at d o m ≤ opened_at (set d u h) o m) → Stays d (set d u h)
+stays_namespace d u h streams granted times = record {
   streams = λ o m. grow_at (λ x. is_some (find_named x.streams m) ≡ true) (λ x. is_some (find_named x.streams m) ≡ true) d u h (streams m) (λ x r. r) o;
   granted = λ r o m. grow_at (λ x. is_some (grant_of x o m) ≡ true) (λ x. is_some (grant_of x o m) ≡ true) d u h (granted o m) (λ x r. r) r;
   times = times;
@@ -97,34 +99,34 @@ or_more false b h = absurd cc
 same_times : (n m : ℕ) → m ≡ n → n ≤ m
 same_times n m e = omega (arith, e)
 
-stays_make : (d : List Home) (u : ℕ) (name : List ℕ) (schema : List Column) → Stays d (change_home (with_stream name schema) d u)
+stays_make : (d : List Namespace) (u : ℕ) (name : List ℕ) (schema : List Column) → Stays d (change_namespace (with_stream name schema) d u)
 stays_make d u name schema =
-    stays_home d u (with_stream name schema (home_at d u))
-    (λ m h. some_push (home_at d u).streams _ m ∙ or_more _ _ h)
+    stays_namespace d u (with_stream name schema (namespace_at d u))
+    (λ m h. some_push (namespace_at d u).streams _ m ∙ or_more _ _ h)
     (λ o m h. h)
     (λ o m. same_times _ _ (opened_make d u name schema o m))
 
-stays_grant : (d : List Home) (g : grant) (o : Option ℕ) → Stays d (grant_to d g o)
+stays_grant : (d : List Namespace) (g : grant) (o : Option ℕ) → Stays d (grant_to d g o)
 stays_grant d g None = stays_same d
-stays_grant d g (Some place) =
-    stays_home d place (with_grant g (home_at d place))
+stays_grant d g (Some index) =
+    stays_namespace d index (with_grant g (namespace_at d index))
     (λ m h. h)
-    (λ o m h. some_find_push (is_of o m) (home_at d place).granted g ∙ or_more _ _ h)
-    (λ o m. same_times _ _ (opened_grant d place g o m))
+    (λ o m h. some_find_push (is_of o m) (namespace_at d index).granted g ∙ or_more _ _ h)
+    (λ o m. same_times _ _ (opened_grant d index g o m))
 
-later_by : (d : List Home) (u : ℕ) (n : List ℕ) (at o : ℕ) (m : List ℕ) → opened_at d u n ≤ at → (b : Bool) → same_source (source_of u n) (source_of o m) ≡ b → opened_at d o m ≤ (if b then at else opened_at d o m)
-later_by d u n at o m le true is = subst (λ (p : Source). opened_at d p.owner p.name ≤ at) (source_eq (source_of u n) (source_of o m) is) le
+later_by : (d : List Namespace) (u : ℕ) (n : List ℕ) (at o : ℕ) (m : List ℕ) → opened_at d u n ≤ at → (b : Bool) → same_stream_id (stream_id_of u n) (stream_id_of o m) ≡ b → opened_at d o m ≤ (if b then at else opened_at d o m)
+later_by d u n at o m le true is = subst (λ (p : StreamId). opened_at d p.owner p.name ≤ at) (stream_id_eq (stream_id_of u n) (stream_id_of o m) is) le
 later_by d u n at o m le false is = omega arith
 
-stays_time : (d : List Home) (u : ℕ) (n : List ℕ) (at : ℕ) → u < length d → Takes (stream_at d u n) at → Stays d (change_home (with_time n at) d u)
+stays_time : (d : List Namespace) (u : ℕ) (n : List ℕ) (at : ℕ) → u < length d → Takes (stream_at d u n) at → Stays d (change_namespace (with_time n at) d u)
 stays_time d u n at here takes =
     let some = takes_some (stream_at d u n) at takes in
-    stays_home d u (with_time n at (home_at d u))
-    (λ m h. some_change (opens at) (home_at d u).streams n m ∙ h)
+    stays_namespace d u (with_time n at (namespace_at d u))
+    (λ m h. some_change (opens at) (namespace_at d u).streams n m ∙ h)
     (λ o m h. h)
     (λ o m. subst (λ (n : ℕ). opened_at d o m ≤ n) (sym (opened_time d u n at here some.0 o m)) (later_by d u n at o m some.1 _ refl))
 
-stays_if : (b : Bool) (r : Option StreamRefusal) (d d' : List Home) → (b ≡ true → is_accepted (done_unless r) ≡ true → Stays d d') → Stays d (if is_none (if b then r else Some refused.UnknownTenant) then d' else d)
+stays_if : (b : Bool) (r : Option StreamRefusal) (d d' : List Namespace) → (b ≡ true → is_accepted (done_unless r) ≡ true → Stays d d') → Stays d (if is_none (if b then r else Some refused.UnknownTenant) then d' else d)
 stays_if true None d d' stays = stays refl refl
 stays_if true (Some x) d d' stays = stays_same d
 stays_if false r d d' stays = stays_same d
@@ -143,43 +145,43 @@ is_revoke (Drop name) = false
 is_revoke Lists = false
 
 -- each other command of each user
-pub homes_stay : (d : List Home) (u : ℕ) (c : Command) → is_revoke c ≡ false → Stays d (directory_after d u c)
-homes_stay d u (Stream name columns) e = stays_if (is_place d u) _ d _ (λ here fine. stays_make d u name _)
-homes_stay d u (Grant n to columns) e = stays_if (is_place d u) _ d _ (λ here fine. stays_grant d (new_grant d u n columns) (tenant_named d u to))
-homes_stay d u (Revoke n to) e = absurd cc
-homes_stay d u (Put n at row) e = stays_if (is_place d u) _ d _ (λ here fine. stays_time d u n at (place_in d u here) (put_takes _ at row fine))
-homes_stay d u (Beat n at) e = stays_if (is_place d u) _ d _ (λ here fine. stays_time d u n (at + 1) (place_in d u here) (takes_more _ at (beat_takes _ at fine)))
-homes_stay d u (Query name text) e = stays_same d
-homes_stay d u (Fetch name until) e = stays_same d
-homes_stay d u (Ack name to) e = stays_same d
-homes_stay d u (Drop name) e = stays_same d
-homes_stay d u Lists e = stays_same d
+pub namespaces_stay : (d : List Namespace) (u : ℕ) (c : Command) → is_revoke c ≡ false → Stays d (directory_after d u c)
+namespaces_stay d u (Stream name columns) e = stays_if (has_tenant d u) _ d _ (λ here fine. stays_make d u name _)
+namespaces_stay d u (Grant n to columns) e = stays_if (has_tenant d u) _ d _ (λ here fine. stays_grant d (new_grant d u n columns) (tenant_named d u to))
+namespaces_stay d u (Revoke n to) e = absurd cc
+namespaces_stay d u (Put n at row) e = stays_if (has_tenant d u) _ d _ (λ here fine. stays_time d u n at (tenant_within d u here) (put_takes _ at row fine))
+namespaces_stay d u (Beat n at) e = stays_if (has_tenant d u) _ d _ (λ here fine. stays_time d u n (at + 1) (tenant_within d u here) (takes_more _ at (beat_takes _ at fine)))
+namespaces_stay d u (Query name text) e = stays_same d
+namespaces_stay d u (Fetch name until) e = stays_same d
+namespaces_stay d u (Ack name to) e = stays_same d
+namespaces_stay d u (Drop name) e = stays_same d
+namespaces_stay d u Lists e = stays_same d
 
 -- WHAT IS READ STAYS
-reach_parts : (n : ℕ) (o : Option StreamSeen) → Reaches n o → (is_some o ≡ true) × (n ≤ unwrap_or (option_map (λ s. s.opened) o) 0)
+reach_parts : (n : ℕ) (o : Option StreamView) → Reaches n o → (is_some o ≡ true) × (n ≤ unwrap_or (option_map (λ s. s.opened) o) 0)
 reach_parts n None h = absurd h
 reach_parts n (Some s) h = (refl, h)
 
-reach_of : (n : ℕ) (o : Option StreamSeen) → is_some o ≡ true → n ≤ unwrap_or (option_map (λ s. s.opened) o) 0 → Reaches n o
+reach_of : (n : ℕ) (o : Option StreamView) → is_some o ≡ true → n ≤ unwrap_or (option_map (λ s. s.opened) o) 0 → Reaches n o
 reach_of n None some le = absurd cc
 reach_of n (Some s) some le = le
 
 -- what is read is read up to its stream's time
-pub reach_opened : (d : List Home) (t : ℕ) (p : Source) (n : ℕ) → Reaches n (readable_to d t p) → (is_some (readable_to d t p) ≡ true) × (n ≤ opened_in d p)
+pub reach_opened : (d : List Namespace) (t : ℕ) (p : StreamId) (n : ℕ) → Reaches n (readable_to d t p) → (is_some (readable_to d t p) ≡ true) × (n ≤ opened_in d p)
 reach_opened d t p n h =
     let parts = reach_parts n (readable_to d t p) h in
     (parts.0, subst (λ (m : ℕ). n ≤ m) (sym (opened_read d t p parts.0)) parts.1)
 
-pub opened_reach : (d : List Home) (t : ℕ) (p : Source) (n : ℕ) → is_some (readable_to d t p) ≡ true → n ≤ opened_in d p → Reaches n (readable_to d t p)
+pub opened_reach : (d : List Namespace) (t : ℕ) (p : StreamId) (n : ℕ) → is_some (readable_to d t p) ≡ true → n ≤ opened_in d p → Reaches n (readable_to d t p)
 opened_reach d t p n some le = reach_of n (readable_to d t p) some (subst (λ (m : ℕ). n ≤ m) (opened_read d t p some) le)
 
-some_by : (b : Bool) (d d' : List Home) (t : ℕ) (p : Source) → (is_some (stream_at d t p.name) ≡ true → is_some (stream_at d' t p.name) ≡ true)
-    → (is_some (grant_of (home_at d t) p.owner p.name) ≡ true → is_some (grant_of (home_at d' t) p.owner p.name) ≡ true)
+some_by : (b : Bool) (d d' : List Namespace) (t : ℕ) (p : StreamId) → (is_some (stream_at d t p.name) ≡ true → is_some (stream_at d' t p.name) ≡ true)
+    → (is_some (grant_of (namespace_at d t) p.owner p.name) ≡ true → is_some (grant_of (namespace_at d' t) p.owner p.name) ≡ true)
     → is_some (if b then own_found d t p.name else granted_found d t p.owner p.name) ≡ true → is_some (if b then own_found d' t p.name else granted_found d' t p.owner p.name) ≡ true
 some_by true d d' t p streams granted h = some_map _ (stream_at d' t p.name) ∙ streams (sym (some_map _ (stream_at d t p.name)) ∙ h)
-some_by false d d' t p streams granted h = some_map _ (grant_of (home_at d' t) p.owner p.name) ∙ granted (sym (some_map _ (grant_of (home_at d t) p.owner p.name)) ∙ h)
+some_by false d d' t p streams granted h = some_map _ (grant_of (namespace_at d' t) p.owner p.name) ∙ granted (sym (some_map _ (grant_of (namespace_at d t) p.owner p.name)) ∙ h)
 
-pub stays_grow : (t : ℕ) (d d' : List Home) → Stays d d' → Grows (readable_to d t) (readable_to d' t)
+pub stays_grow : (t : ℕ) (d d' : List Namespace) → Stays d d' → Grows (readable_to d t) (readable_to d' t)
 stays_grow t d d' stays p n h =
     let parts = reach_opened d t p n h in
     let times = stays.times p.owner p.name in
@@ -187,31 +189,31 @@ stays_grow t d d' stays p n h =
     opened_reach d' t p n (some_by (eqb p.owner t) d d' t p (stays.streams t p.name) (stays.granted t p.owner p.name) parts.0) (omega (arith, times, le))
 
 -- each command but a revoke keeps what each tenant reads
-pub homes_grow : (t : ℕ) (d : List Home) (u : ℕ) (c : Command) → is_revoke c ≡ false → Grows (readable_to d t) (readable_to (directory_after d u c) t)
-homes_grow t d u c e = stays_grow t d (directory_after d u c) (homes_stay d u c e)
+pub namespaces_grow : (t : ℕ) (d : List Namespace) (u : ℕ) (c : Command) → is_revoke c ≡ false → Grows (readable_to d t) (readable_to (directory_after d u c) t)
+namespaces_grow t d u c e = stays_grow t d (directory_after d u c) (namespaces_stay d u c e)
 
 -- the tenant loses the stream by a revoke
-abbrev pub is_lost : ℕ → Option ℕ → Source → Source → Bool
-is_lost t o lost p = is_tenant t o && same_source p lost
+abbrev pub is_lost : ℕ → Option ℕ → StreamId → StreamId → Bool
+is_lost t o lost p = is_tenant t o && same_stream_id p lost
 
 -- a revoke keeps all that each tenant reads, but the stream of the tenant that loses it
-pub revoke_grow : (t : ℕ) (d : List Home) (u : ℕ) (n : List ℕ) (o : Option ℕ) → ((place : ℕ) → o ≡ Some place → place < length d) → (p : Source) (m : ℕ) → is_lost t o (source_of u n) p ≡ false
+pub revoke_grow : (t : ℕ) (d : List Namespace) (u : ℕ) (n : List ℕ) (o : Option ℕ) → ((index : ℕ) → o ≡ Some index → index < length d) → (p : StreamId) (m : ℕ) → is_lost t o (stream_id_of u n) p ≡ false
     → Reaches m (readable_to d t p) → Reaches m (readable_to (revoke_from d u n o) t p)
 revoke_grow t d u n None within p m away h = h
-revoke_grow t d u n (Some place) within p m away h =
-    let d' : List Home = revoke_from d u n (Some place) in
+revoke_grow t d u n (Some index) within p m away h =
+    let d' : List Namespace = revoke_from d u n (Some index) in
     let parts = reach_opened d t p m h in
     let le = parts.1 in
-    let times = same_times _ _ (opened_revoke d place u n p.owner p.name) in
-    let far : (eqb t place && (eqb p.owner u && same_name p.name n)) ≡ false = (λ i. turned place t (eqb place t) refl i && (eqb p.owner u && same_name p.name n)) ∙ away in
+    let times = same_times _ _ (opened_revoke d index u n p.owner p.name) in
+    let far : (eqb t index && (eqb p.owner u && same_name p.name n)) ≡ false = (λ i. turned index t (eqb index t) refl i && (eqb p.owner u && same_name p.name n)) ∙ away in
     opened_reach d' t p m
     (some_by (eqb p.owner t) d d' t p
-    (λ there. part_kept (λ x. is_some (find_named x.streams p.name)) d place (without_grant u n (home_at d place)) refl t ∙ there)
-    (λ there. granted_left d place u n t p.owner p.name (within place refl) ∙ (λ i. if far i then false else is_some (grant_of (home_at d t) p.owner p.name)) ∙ there) parts.0)
+    (λ there. part_kept (λ x. is_some (find_named x.streams p.name)) d index (without_grant u n (namespace_at d index)) refl t ∙ there)
+    (λ there. granted_left d index u n t p.owner p.name (within index refl) ∙ (λ i. if far i then false else is_some (grant_of (namespace_at d t) p.owner p.name)) ∙ there) parts.0)
     (omega (arith, times, le))
 
 -- a time that a stream takes is not below what its readers reach
-pub reach_takes : (d : List Home) (t : ℕ) (p : Source) (n at : ℕ) → Takes (stream_at d p.owner p.name) at → Reaches n (readable_to d t p) → n ≤ at
+pub reach_takes : (d : List Namespace) (t : ℕ) (p : StreamId) (n at : ℕ) → Takes (stream_at d p.owner p.name) at → Reaches n (readable_to d t p) → n ≤ at
 reach_takes d t p n at takes h =
     let low = (reach_opened d t p n h).1 in
     let high = (takes_some (stream_at d p.owner p.name) at takes).1 in

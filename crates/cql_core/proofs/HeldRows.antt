@@ -5,8 +5,8 @@ use Rattle.std.specs.List.{AllByRecursion}
 use Rattle.std.proofs.lemmas.Bool.Decides.{nat_tests}
 use Rattle.cql_store.specs.Held.{need}
 use Rattle.cql_value.specs.declared.stream.Stream.{Stream}
-use Rattle.cql_tenants.specs.Home.{stream_at}
-use Rattle.cql_core.specs.Source.{Source}
+use Rattle.cql_tenants.specs.Namespace.{stream_at}
+use Rattle.cql_core.specs.StreamId.{StreamId}
 use Rattle.cql_core.specs.Machine.{Stub, State}
 use Rattle.cql_core.specs.Rows.{greatest_need, stubs_on, IsNeeded, IsRowsHeldLaw}
 
@@ -27,13 +27,13 @@ is_needed : (stubs : List Stub) → (greatest_need stubs ≡ 0) ⊎ IsNeeded (gr
 is_needed [] = inl refl
 is_needed (stub ∷ stubs) = needed_by (need stub.held) (greatest_need stubs) _ stub stubs refl refl (is_needed stubs) _ refl
 
-held_by : (s : State) (source : Source) (n : ℕ) → greatest_need (stubs_on source s.queries) ≡ n → AllByRecursion (λ stub. need stub.held ≤ n) (stubs_on source s.queries) × ((n ≡ 0) ⊎ IsNeeded n (stubs_on source s.queries))
-held_by s source n e =
-    subst (λ n. AllByRecursion (λ stub. need stub.held ≤ n) (stubs_on source s.queries) × ((n ≡ 0) ⊎ IsNeeded n (stubs_on source s.queries))) e (all_below (stubs_on source s.queries), is_needed (stubs_on source s.queries))
+held_by : (s : State) (stream_id : StreamId) (n : ℕ) → greatest_need (stubs_on stream_id s.queries) ≡ n → AllByRecursion (λ stub. need stub.held ≤ n) (stubs_on stream_id s.queries) × ((n ≡ 0) ⊎ IsNeeded n (stubs_on stream_id s.queries))
+held_by s stream_id n e =
+    subst (λ n. AllByRecursion (λ stub. need stub.held ≤ n) (stubs_on stream_id s.queries) × ((n ≡ 0) ⊎ IsNeeded n (stubs_on stream_id s.queries))) e (all_below (stubs_on stream_id s.queries), is_needed (stubs_on stream_id s.queries))
 
 number_of_rows : (o : Option Stream) (g n : ℕ) → option_map (λ v. g) o ≡ Some n → g ≡ n
 number_of_rows None g n e = absurd cc
 number_of_rows (Some v) g n e = cc
 
 pub rows_held_law : IsRowsHeldLaw
-rows_held_law s source n e = held_by s source n (number_of_rows (stream_at s.homes source.owner source.name) (greatest_need (stubs_on source s.queries)) n e)
+rows_held_law s stream_id n e = held_by s stream_id n (number_of_rows (stream_at s.namespaces stream_id.owner stream_id.name) (greatest_need (stubs_on stream_id s.queries)) n e)

@@ -4,15 +4,17 @@ use Rattle.std.specs.Prelude.{codes}
 use Rattle.cql_value.specs.Name as words
 use Rattle.cql_tenants.specs.declared.tenants.Tenant.{Tenant}
 use Rattle.cql_value.specs.Named.{same_name}
-use Rattle.cql_tenants.specs.Home.{nothing_made}
+use Rattle.cql_tenants.specs.Namespace.{nothing_made}
 use Rattle.cql_core.specs.declared.command.Command.{Command}
 use Rattle.cql_core.specs.declared.command.Command.TheVariants.{Stream}
 use Rattle.cql_core.specs.declared.refusal.Refusal.TheVariants.{NoMemory, StreamExists}
-use Rattle.cql_core.specs.Told.{Done, Refused}
+use Rattle.cql_core.specs.ReplyModel.{Done, Refused}
 use Rattle.cql_core.specs.Machine.{opening}
 use Rattle.cql_core.specs.View.{view}
-use Rattle.cql_core.specs.Solo.{nothing_known, solo}
-use Rattle.cql_core.specs.Headline.{Made, IsLegal, IsHistoryLaw, sent}
+use Rattle.cql_core.specs.Solo.{solo_opening, solo}
+use Rattle.cql_core.specs.Headline.{Event, sent}
+use Rattle.cql_core.specs.Legal.{IsLegal}
+use Rattle.cql_core.specs.HeadlineLaw.{IsHistoryLaw}
 use Rattle.cql_core.specs.declared.mark.Mark.TheVariants as mark
 use Rattle.cql_core.specs.Cql.{cql}
 use Rattle.cql_core.specs.Journal.{Noted, IsJournal, IsTold, IsJournalLaw}
@@ -45,7 +47,7 @@ stands_rightly = (
 journal_law_at : IsJournalLaw → IsTold table journal
 journal_law_at law = law table journal stands_rightly
 
-abbrev history : List Made
+abbrev history : List Event
 history =
     record { tenant = 0; command = make; told = Refused NoMemory }
     ∷ record { tenant = 0; command = make; told = Done }
@@ -56,5 +58,5 @@ legal : IsLegal cql (opening table) history
 unfolding same_name words.is_reserved
 legal = (λ e. absurd cc, (λ e. refl, (λ e. refl, tt)))
 
-history_law_at : IsHistoryLaw cql → Done ∷ Refused StreamExists ∷ [] ≡ solo cql 0 (nothing_known table 0) (view 0 (nothing_made table) (sent history))
+history_law_at : IsHistoryLaw cql → Done ∷ Refused StreamExists ∷ [] ≡ solo cql 0 (solo_opening table 0) (view 0 (nothing_made table) (sent history))
 history_law_at law = law table history legal 0

@@ -1,6 +1,6 @@
 // How many rows the streams of a tenant hold.
 ghost use Rattle.std.specs.Prelude.{◌≡◌, All, Some, IfOk, OnOk};
-ghost use Rattle.cql_core.specs.Source.{source_of};
+ghost use Rattle.cql_core.specs.StreamId.{stream_id_of};
 ghost use Rattle.cql_core.specs.Rows.{rows_held};
 
 use crate::machine::Core;
@@ -29,8 +29,8 @@ impl Core {
         stream: &Text,
         held: &mut Vec<HeldStream>,
     ) -> Result<(), AllocError>
-        requires { All (λ h. rows_held self.now (source_of owner h.name) ≡ Some h.rows) held.old.items }
-        ensures { OnOk result (All (λ h. rows_held self.now (source_of owner h.name) ≡ Some h.rows) held.new.items) }
+        requires { All (λ h. rows_held self.now (stream_id_of owner h.name) ≡ Some h.rows) held.old.items }
+        ensures { OnOk result (All (λ h. rows_held self.now (stream_id_of owner h.name) ≡ Some h.rows) held.new.items) }
     {
         let Some(rows) = self.rows_held(owner, stream.as_str()) else {
             return Ok(());
@@ -49,7 +49,7 @@ impl Core {
         alloc: Global,
         owner: TenantId,
     ) -> Result<Vec<HeldStream>, AllocError>
-        ensures { IfOk result (λ held. All (λ h. rows_held self.now (source_of owner h.name) ≡ Some h.rows) held.items) }
+        ensures { IfOk result (λ held. All (λ h. rows_held self.now (stream_id_of owner h.name) ≡ Some h.rows) held.items) }
     {
         let mut held = Vec::new(alloc);
         if !self.directory.has(owner) {

@@ -1,7 +1,7 @@
 // The laws of the machine and of the meaning: functions with empty bodies, whose contracts are the
 // laws.
 ghost use Rattle.cql_core.specs.Binding.{IsBindingLaw};
-ghost use Rattle.cql_core.specs.Headline.{IsHeadlineLaw};
+ghost use Rattle.cql_core.specs.HeadlineLaw.{IsHeadlineLaw};
 ghost use Rattle.cql_core.specs.Law.{IsMachineLaw, AreRefusalLaws, AreQueryLaws, IsLimitLaw};
 ghost use Rattle.cql_core.specs.Hidden.{IsHiddenLaw};
 ghost use Rattle.cql_core.specs.Order.{IsOrderLaw};
@@ -55,7 +55,7 @@ pub fn binding_law()
 {}
 
 /// For each language: two runs, or two histories with replies, that differ in nothing but values at
-/// places which no grant to a tenant shows tell that tenant the same.
+/// columns which no grant to a tenant shows tell that tenant the same.
 pub fn hidden_law()
     ensures { IsHiddenLaw }
 {}

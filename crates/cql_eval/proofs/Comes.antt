@@ -1,12 +1,12 @@
 -- What was told up to an instant, and what is shown there.
 use Rattle.std.proofs.Common.{◌≡◌, ℕ, ◌≤◌, List, [], ◌∷◌, length, sym, subst, arith}
 use Rattle.cql_algebra.specs.Blocks.{AreBlocks}
-use Rattle.cql_algebra.specs.Runs.{RunsSeen, StandFor}
-use Rattle.cql_ops.specs.Bench.{BenchSeen}
+use Rattle.cql_algebra.specs.Runs.{RunsModel, StandFor}
+use Rattle.cql_ops.specs.Bench.{BenchModel}
 use Rattle.cql_ops.specs.Running.{told_of}
 use Rattle.cql_eval.specs.Answer.{AreBlocksOf}
-use Rattle.cql_eval.specs.Pin.{PinSeen, IsPin}
-use Rattle.cql_eval.specs.Seen.{SeenWalked}
+use Rattle.cql_eval.specs.Pin.{PinModel, IsPin}
+use Rattle.cql_eval.specs.Projected.{ProjectedWalkModel}
 use Rattle.cql_eval.specs.Relation.{relation_at, output_at}
 use Rattle.cql_eval.specs.declared.shown.LastTold.{LastTold}
 use Rattle.cql_eval.specs.Shown.{IsReady, IsShown, StandsFor, IsStill, HasCome, next_of}
@@ -14,7 +14,7 @@ use Rattle.cql_eval.proofs.Holding.{later_ready}
 use Rattle.cql_eval.proofs.Quiet.{stays}
 
 -- the runs hold what is told while nothing changes
-pub come_held : (p : PinSeen) (n to : ℕ) (runs : RunsSeen) (ks : List SeenWalked) (kept : LastTold) (o : BenchSeen) → IsPin p → IsStill p n to → runs.next ≡ to → StandFor (output_at p) p.from runs → IsReady p to ks o → StandsFor p.plan.output kept (told_of p.plan o) (relation_at p n) → HasCome p to runs ks kept o
+pub come_held : (p : PinModel) (n to : ℕ) (runs : RunsModel) (ks : List ProjectedWalkModel) (kept : LastTold) (o : BenchModel) → IsPin p → IsStill p n to → runs.next ≡ to → StandFor (output_at p) p.from runs → IsReady p to ks o → StandsFor p.plan.output kept (told_of p.plan o) (relation_at p n) → HasCome p to runs ks kept o
 come_held p n to runs ks kept o pin still next stand ready stands = record {
   based = omega (arith, pin.begins, stand.0, next);
   next = next;
@@ -23,28 +23,28 @@ come_held p n to runs ks kept o pin still next stand ready stands = record {
 }
 
 -- from what is shown where the runs are
-pub come_from : (p : PinSeen) (n to : ℕ) (old new : RunsSeen) (ks : List SeenWalked) (kept : LastTold) (o : BenchSeen) → n ≡ old.next → IsStill p old.next to → IsShown p n ks kept o → StandFor (output_at p) p.from old → ((ks : List SeenWalked) (o : BenchSeen) → IsReady p to ks o → StandsFor p.plan.output kept (told_of p.plan o) (relation_at p old.next) → StandFor (output_at p) p.from old → HasCome p to new ks kept o) → HasCome p to new ks kept o
+pub come_from : (p : PinModel) (n to : ℕ) (old new : RunsModel) (ks : List ProjectedWalkModel) (kept : LastTold) (o : BenchModel) → n ≡ old.next → IsStill p old.next to → IsShown p n ks kept o → StandFor (output_at p) p.from old → ((ks : List ProjectedWalkModel) (o : BenchModel) → IsReady p to ks o → StandsFor p.plan.output kept (told_of p.plan o) (relation_at p old.next) → StandFor (output_at p) p.from old → HasCome p to new ks kept o) → HasCome p to new ks kept o
 come_from p n to old new ks kept o at still shown stand held =
     let here : IsShown p old.next ks kept o = subst (λ m. IsShown p m ks kept o) at shown in
     held ks o (later_ready p old.next to ks o still.forward here.ready) here.stands stand
 
 -- from what is shown at the next instant, over which the runs may have gone
-pub come_told : (p : PinSeen) (n to : ℕ) (told new : RunsSeen) (ks : List SeenWalked) (kept : LastTold) (o : BenchSeen) → n ≤ to → relation_at p told.next ≡ relation_at p n → IsShown p n ks kept o → StandFor (output_at p) p.from told → ((ks : List SeenWalked) (o : BenchSeen) → IsReady p to ks o → StandsFor p.plan.output kept (told_of p.plan o) (relation_at p told.next) → StandFor (output_at p) p.from told → HasCome p to new ks kept o) → HasCome p to new ks kept o
+pub come_told : (p : PinModel) (n to : ℕ) (told new : RunsModel) (ks : List ProjectedWalkModel) (kept : LastTold) (o : BenchModel) → n ≤ to → relation_at p told.next ≡ relation_at p n → IsShown p n ks kept o → StandFor (output_at p) p.from told → ((ks : List ProjectedWalkModel) (o : BenchModel) → IsReady p to ks o → StandsFor p.plan.output kept (told_of p.plan o) (relation_at p told.next) → StandFor (output_at p) p.from told → HasCome p to new ks kept o) → HasCome p to new ks kept o
 come_told p n to told new ks kept o le same shown stand held =
     held ks o (later_ready p n to ks o le shown.ready) (subst (StandsFor p.plan.output kept (told_of p.plan o)) (sym same) shown.stands) stand
 
 -- the same, with the instant said otherwise
-pub come_at : (p : PinSeen) (m n : ℕ) (runs : RunsSeen) (ks : List SeenWalked) (kept : LastTold) (o : BenchSeen) → m ≡ n → HasCome p m runs ks kept o → HasCome p n runs ks kept o
+pub come_at : (p : PinModel) (m n : ℕ) (runs : RunsModel) (ks : List ProjectedWalkModel) (kept : LastTold) (o : BenchModel) → m ≡ n → HasCome p m runs ks kept o → HasCome p n runs ks kept o
 come_at p m n runs ks kept o is = subst (λ t. HasCome p t runs ks kept o) is
 
-pub come_here : (p : PinSeen) (n : ℕ) (runs : RunsSeen) (ks : List SeenWalked) (kept : LastTold) (o : BenchSeen) → HasCome p n runs ks kept o → HasCome p runs.next runs ks kept o
+pub come_here : (p : PinModel) (n : ℕ) (runs : RunsModel) (ks : List ProjectedWalkModel) (kept : LastTold) (o : BenchModel) → HasCome p n runs ks kept o → HasCome p runs.next runs ks kept o
 come_here p n runs ks kept o come = come_at p n runs.next runs ks kept o (sym come.next) come
 
 -- at the pin's end, where no instant is left
-pub come_end : (p : PinSeen) (ts : List ℕ) (runs : RunsSeen) (ks : List SeenWalked) (kept : LastTold) (o : BenchSeen) → length ts ≡ 0 → HasCome p (next_of ts p.next) runs ks kept o → HasCome p p.next runs ks kept o
+pub come_end : (p : PinModel) (ts : List ℕ) (runs : RunsModel) (ks : List ProjectedWalkModel) (kept : LastTold) (o : BenchModel) → length ts ≡ 0 → HasCome p (next_of ts p.next) runs ks kept o → HasCome p p.next runs ks kept o
 come_end p [] runs ks kept o none come = come
 come_end p (t ∷ ts) runs ks kept o none come = absurd (omega (arith, none))
 
 -- there the blocks are the pin's
-pub come_blocks : (p : PinSeen) (runs : RunsSeen) (ks : List SeenWalked) (kept : LastTold) (o : BenchSeen) → HasCome p p.next runs ks kept o → AreBlocksOf p runs.blocks
+pub come_blocks : (p : PinModel) (runs : RunsModel) (ks : List ProjectedWalkModel) (kept : LastTold) (o : BenchModel) → HasCome p p.next runs ks kept o → AreBlocksOf p runs.blocks
 come_blocks p runs ks kept o come = subst (λ n. AreBlocks (output_at p) p.from n runs.blocks) come.next come.stand.1

@@ -1,19 +1,19 @@
 // The answer to a fetch.
 ghost use Rattle.std.specs.Prelude.{◌≡◌, ◌↔◌, ◌⊎◌, ◌≤◌, ◌<◌, ◌+◌, ◌*◌, ℕ, List, length, IfOk, IfSome, OnOk, IsTrue};
 ghost use Rattle.std.specs.List.{All, Contains};
-ghost use Rattle.cql_ops.specs.Bench.{BenchSeen, IsBench, bench_seen};
+ghost use Rattle.cql_ops.specs.Bench.{BenchModel, IsBench, bench_model};
 ghost use Rattle.cql_ops.specs.Running.{told_of};
 ghost use Rattle.cql_algebra.specs.Runs.{StandFor};
 ghost use Rattle.cql_plan.specs.declared.plan.OutputKind.TheVariants.{Rstream};
 ghost use Rattle.cql_eval.specs.Answer.{IsAnswer, rows_in};
 ghost use Rattle.cql_eval.specs.Relation.{relation_at, output_at};
-ghost use Rattle.cql_eval.specs.Seen.{SeenWalked};
+ghost use Rattle.cql_eval.specs.Projected.{ProjectedWalkModel};
 ghost use Rattle.cql_eval.specs.Shown.{StandsFor, Tells, IsReady, HasCome, IsStill, AreLeft, AreSame, first_change, next_of};
 ghost use Rattle.cql_eval.specs.Warm.{IsKept, StandsBehind};
 
 use crate::answered::Answer;
 use crate::pin::Pin;
-use crate::shown::{LastTold, WalkState, nothing_shown, open, same_output, step};
+use crate::shown::{LastTold, WalkState, nothing_shown, open, reach, same_output, tell};
 use crate::warm::{LastAnswer, remember, resume};
 use cql_algebra::{Block, Output, Runs};
 use cql_bag::Room;
@@ -33,8 +33,8 @@ pub fn answer<O: Operator>(
     bench: &mut BenchOf<O>,
     pin: Pin,
 ) -> Result<Answer, AllocError>
-    requires { IsBench O.seen_in bench.old }
-    ensures bench { IsBench O.seen_in bench.new }
+    requires { IsBench O.model_of bench.old }
+    ensures bench { IsBench O.model_of bench.new }
     ensures pin { IfOk result (λ a. a.pin ≡ pin) }
 {
     bench.cancellation().clear();
@@ -63,11 +63,11 @@ pub(crate) fn evaluate<O: Operator>(
     pin: &Pin,
     kept: Option<LastAnswer>,
 ) -> Result<(Vec<Block>, u64, bool, Option<LastTold>), AllocError>
-    requires bench { IsBench O.seen_in bench.old }
-    requires kept { IfSome kept (λ k. StandsBehind k (bench_seen O.seen_in bench.old)) }
-    ensures bench { IsBench O.seen_in bench.new }
+    requires bench { IsBench O.model_of bench.old }
+    requires kept { IfSome kept (λ k. StandsBehind k (bench_model O.model_of bench.old)) }
+    ensures bench { IsBench O.model_of bench.new }
     ensures answer { IfOk result (λ r. IsAnswer (record { pin = pin.now; blocks = r.0.items; turns = r.1 })) }
-    ensures kept { IfOk result (λ r. IfSome r.3 (λ last. IsKept pin.now last (bench_seen O.seen_in bench.new))) }
+    ensures kept { IfOk result (λ r. IfSome r.3 (λ last. IsKept pin.now last (bench_model O.model_of bench.new))) }
 {
     let end = pin.next();
     if pin.from() == end {
@@ -141,7 +141,7 @@ fn hold(
     until: u64,
 ) -> Result<(), AllocError>
     requires { IsStill pin.now runs.old.next until }
-    ensures { OnOk result ((ks : List SeenWalked) (o : BenchSeen) → IsReady pin.now until ks o → StandsFor pin.now.plan.output last.now (told_of pin.now.plan o) (relation_at pin.now runs.old.next) → StandFor (output_at pin.now) pin.now.from runs.old → HasCome pin.now until runs.new ks last.now o) }
+    ensures { OnOk result ((ks : List ProjectedWalkModel) (o : BenchModel) → IsReady pin.now until ks o → StandsFor pin.now.plan.output last.now (told_of pin.now.plan o) (relation_at pin.now runs.old.next) → StandFor (output_at pin.now) pin.now.from runs.old → HasCome pin.now until runs.new ks last.now o) }
 {
     let next = runs.next();
     let kind = pin.plan().output();
@@ -192,17 +192,19 @@ fn change<'a, O: Operator>(
     rows: &mut Room,
     until: u64,
 ) -> Result<WalkState<'a>, AllocError>
-    requires bench { IsBench O.seen_in bench.old }
-    requires come { HasCome pin.now runs.old.next runs.old shown.walks.items shown.last (bench_seen O.seen_in bench.old) }
+    requires bench { IsBench O.model_of bench.old }
+    requires come { HasCome pin.now runs.old.next runs.old shown.walks.items shown.last (bench_model O.model_of bench.old) }
     requires still { IsStill pin.now (runs.old.next + 1) until }
-    ensures bench { IsBench O.seen_in bench.new }
-    ensures come { IfOk result (λ s. HasCome pin.now until runs.new s.walks.items s.last (bench_seen O.seen_in bench.new)) }
+    ensures bench { IsBench O.model_of bench.new }
+    ensures come { IfOk result (λ s. HasCome pin.now until runs.new s.walks.items s.last (bench_model O.model_of bench.new)) }
 {
     let at = runs.next();
-    let (shown, told) = step(alloc, bench, pin, shown, at + 1, rows)?;
+    let (walks, last) = shown.into_parts();
+    let (walks, outcome) = reach(alloc, bench, pin, walks, at + 1)?;
+    let (last, told) = tell(alloc, pin.plan().output(), last, outcome, rows)?;
     take_told(pin, runs, told, until)?;
-    hold(alloc, pin, &shown.last, runs, until)?;
-    Ok(shown)
+    hold(alloc, pin, &last, runs, until)?;
+    Ok(WalkState { walks, last })
 }
 
 // The relation before the first instant that is asked for, which stays up to a later one, and whether
@@ -217,13 +219,13 @@ fn begin<'a, O: Operator>(
     rows: &mut Room,
     until: u64,
 ) -> Result<(WalkState<'a>, bool), AllocError>
-    requires bench { IsBench O.seen_in bench.old }
-    requires kept { IfSome kept (λ k. StandsBehind k (bench_seen O.seen_in bench.old)) }
+    requires bench { IsBench O.model_of bench.old }
+    requires kept { IfSome kept (λ k. StandsBehind k (bench_model O.model_of bench.old)) }
     requires next { runs.old.next ≡ pin.now.from }
     requires still { IsStill pin.now (first_change pin.now) until }
     requires stand { StandFor (output_at pin.now) pin.now.from runs.old }
-    ensures bench { IsBench O.seen_in bench.new }
-    ensures come { IfOk result (λ r. HasCome pin.now until runs.new r.0.walks.items r.0.last (bench_seen O.seen_in bench.new)) }
+    ensures bench { IsBench O.model_of bench.new }
+    ensures come { IfOk result (λ r. HasCome pin.now until runs.new r.0.walks.items r.0.last (bench_model O.model_of bench.new)) }
 {
     if let Some(kept) = kept {
         if let Some(resumed) = resume(alloc, bench, pin, kept)? {

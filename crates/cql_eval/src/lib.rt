@@ -7,7 +7,7 @@ mod evaluate;
 mod evaluator;
 mod pin;
 mod pool;
-mod seen_walk;
+mod projected_walk;
 mod shown;
 mod walks;
 mod warm;

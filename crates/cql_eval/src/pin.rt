@@ -4,7 +4,7 @@ ghost use Rattle.std.specs.Arc.{arc_value};
 ghost use Rattle.cql_eval.specs.Pin.{IsPin};
 
 use cql_plan::Plan;
-use cql_value::are_same;
+use cql_value::slices_equal;
 use cql_window::{Window, WindowPin};
 use std::marker::Model;
 use std::sync::Arc;
@@ -38,9 +38,9 @@ impl Model for Pin {
     ghost use Rattle.cql_plan.specs.contracts.condition.Condition as condition;
     ghost use Rattle.std.specs.Coded.{codes};
     ghost use Rattle.std.specs.Arc.{arc_value};
-    ghost use Rattle.cql_eval.specs.Pin.{PinSeen, IsPin};
+    ghost use Rattle.cql_eval.specs.Pin.{PinModel, IsPin};
 
-    ghost Value = { PinSeen };
+    ghost Value = { PinModel };
 
     ghost coded = { Prim.hlevel (codes, expr.the_row.coded, condition.the_row.coded) };
 
@@ -137,53 +137,55 @@ impl Pin {
         self.windows.as_slice()
     }
 
+    // How many rows its windows hold before the first instant that is asked for, and how many come
+    // after these.
+    fn counts(&self) -> (usize, usize) {
+        let mut held: usize = 0;
+        let mut unseen: usize = 0;
+        for window in self.windows() {
+            held = held.saturating_add(window.content().len());
+            unseen = unseen.saturating_add(window.unseen().len());
+        }
+        (held, unseen)
+    }
+
     /// How many rows its windows have in all.
     pub(crate) fn rows(&self) -> usize {
-        let mut rows: usize = 0;
-        for window in self.windows() {
-            rows = rows.saturating_add(window.content().len() + window.unseen().len());
-        }
-        rows
+        let (held, unseen) = self.counts();
+        held.saturating_add(unseen)
     }
 
     /// How many rows its windows hold before the first instant that is asked for.
     pub(crate) fn rows_held(&self) -> usize {
-        let mut rows: usize = 0;
-        for window in self.windows() {
-            rows = rows.saturating_add(window.content().len());
-        }
-        rows
+        let (held, _) = self.counts();
+        held
     }
 
     /// How many times at most rows of its windows come or leave: of those that are held before the
     /// first instant only as they leave, where the bench has them.
     pub(crate) fn rows_to_push(&self, goes_on: bool) -> usize {
-        let mut rows = if goes_on { 0 } else { self.rows_held() };
-        for window in self.windows() {
-            rows = rows
-                .saturating_add(window.unseen().len())
-                .saturating_add(window.unseen().len());
-        }
-        rows
+        let (held, unseen) = self.counts();
+        let held = if goes_on { 0 } else { held };
+        held.saturating_add(unseen).saturating_add(unseen)
     }
 
     /// Whether another pin is of the same plan, with the same limit. Takes no memory.
     pub(crate) fn has_plan_of(&self, other: &Pin) -> bool
         ensures { IsTrue result → (self.now.plan ≡ other.now.plan) × (self.now.limit ≡ other.now.limit) }
     {
-        self.limit == other.limit && self.plan.is_same(&other.plan)
+        self.limit == other.limit && self.plan.is_equal(&other.plan)
     }
 
     /// Whether it is that pin: the same plan, instants and limit, over the same windows. Takes no
     /// memory.
-    pub fn is_same(&self, other: &Pin) -> bool
+    pub fn is_equal(&self, other: &Pin) -> bool
         ensures { IsTrue result ↔ (self.now ≡ other.now) }
     {
         self.base == other.base
             && self.from == other.from
             && self.next == other.next
             && self.limit == other.limit
-            && are_same(&self.windows, &other.windows)
-            && self.plan.is_same(&other.plan)
+            && slices_equal(&self.windows, &other.windows)
+            && self.plan.is_equal(&other.plan)
     }
 }

@@ -8,7 +8,7 @@ use crate::answered::Answer;
 use crate::evaluate::answer;
 use crate::evaluator::Evaluator;
 use crate::pin::Pin;
-use crate::warm::Warm;
+use crate::warm::{Wanted, Warm};
 use cql_ops::{BenchOf, Operator};
 use std::alloc::{AllocError, Global};
 use std::marker::Model;
@@ -35,13 +35,13 @@ impl<O: Operator> Model for Pool<O> {
 
     ghost view = { λ p. p.benches.items };
 
-    ghost invariant = { λ p. All (IsWarm O.seen_in) p.benches.items };
+    ghost invariant = { λ p. All (IsWarm O.model_of) p.benches.items };
 }
 
 impl<O: Operator> Pool<O> {
     /// A pool of these benches, of which none stands for a query.
     pub fn new(alloc: Global, benches: Vec<BenchOf<O>>) -> Result<Pool<O>, AllocError>
-        requires { All (IsBench O.seen_in) benches.items }
+        requires { All (IsBench O.model_of) benches.items }
     {
         let mut warm = Vec::with_capacity(alloc, benches.len())?;
         for bench in benches {
@@ -50,17 +50,11 @@ impl<O: Operator> Pool<O> {
         Ok(Pool { benches: warm })
     }
 
-    // The place of a bench that seems to go on with a pin, or else of one that seems to stand for its
-    // query, if one does.
-    fn place_of(&self, alloc: Global, pin: &Pin) -> Option<usize> {
-        for place in 0..self.benches.len() {
-            if self.benches[place].seems_to_go_on(alloc, pin) {
-                return Some(place);
-            }
-        }
-        for place in 0..self.benches.len() {
-            if self.benches[place].seems_to_stand_for(alloc, pin) {
-                return Some(place);
+    // The place of the first bench that is what is looked for.
+    fn index_of(&self, wanted: &Wanted<'_>) -> Option<usize> {
+        for index in 0..self.benches.len() {
+            if self.benches[index].is_wanted(wanted) {
+                return Some(index);
             }
         }
         None
@@ -68,16 +62,10 @@ impl<O: Operator> Pool<O> {
 
     // Takes out a bench that stands for no query, or the one that was put back before all others.
     fn take_spare(&mut self) -> Option<Warm<O>>
-        ensures { IfSome result (IsWarm O.seen_in) }
+        ensures { IfSome result (IsWarm O.model_of) }
     {
-        let mut spare = 0;
-        for place in 0..self.benches.len() {
-            if self.benches[place].is_empty() {
-                spare = place;
-                break;
-            }
-        }
-        let mut bench = take_at(&mut self.benches, spare)?;
+        let index = self.index_of(&Wanted::Spare).unwrap_or(0);
+        let mut bench = take_at(&mut self.benches, index)?;
         bench.kept = None;
         Some(bench)
     }
@@ -87,31 +75,29 @@ impl<O: Operator> Pool<O> {
     /// for no query, or the one that was put back before all others, which then goes on with none. None
     /// where all are taken out.
     pub fn take(&mut self, alloc: Global, pin: &Pin) -> Option<Warm<O>>
-        ensures { IfSome result (IsWarm O.seen_in) }
+        ensures { IfSome result (IsWarm O.model_of) }
     {
-        match self.place_of(alloc, pin) {
-            Some(place) => take_at(&mut self.benches, place),
+        let index = match self.index_of(&Wanted::GoingOn(alloc, pin)) {
+            Some(index) => Some(index),
+            None => self.index_of(&Wanted::StandingFor(alloc, pin)),
+        };
+        match index {
+            Some(index) => take_at(&mut self.benches, index),
             None => self.take_spare(),
         }
     }
 
     /// Takes out a bench that stands for a query and was put back before the time, in seconds.
     pub fn take_unused(&mut self, since: u64) -> Option<Warm<O>>
-        ensures { IfSome result (IsWarm O.seen_in) }
+        ensures { IfSome result (IsWarm O.model_of) }
     {
-        let mut unused = self.benches.len();
-        for place in 0..self.benches.len() {
-            if self.benches[place].is_unused(since) {
-                unused = place;
-                break;
-            }
-        }
-        take_at(&mut self.benches, unused)
+        let index = self.index_of(&Wanted::Unused(since))?;
+        take_at(&mut self.benches, index)
     }
 
     /// Puts back a bench that was taken out, at the time, in seconds. There is room for it.
     pub fn put(&mut self, bench: Warm<O>, now: u64)
-        requires { IsWarm O.seen_in bench }
+        requires { IsWarm O.model_of bench }
     {
         let mut bench = bench;
         bench.used = now;
@@ -119,13 +105,13 @@ impl<O: Operator> Pool<O> {
     }
 }
 
-fn take_at<O: Operator>(benches: &mut Vec<Warm<O>>, place: usize) -> Option<Warm<O>>
-    requires { All (IsWarm O.seen_in) benches.old.items }
-    ensures warm { IfSome result (IsWarm O.seen_in) }
-    ensures others { All (IsWarm O.seen_in) benches.new.items }
+fn take_at<O: Operator>(benches: &mut Vec<Warm<O>>, index: usize) -> Option<Warm<O>>
+    requires { All (IsWarm O.model_of) benches.old.items }
+    ensures warm { IfSome result (IsWarm O.model_of) }
+    ensures others { All (IsWarm O.model_of) benches.new.items }
 {
-    if place < benches.len() {
-        Some(benches.remove(place))
+    if index < benches.len() {
+        Some(benches.remove(index))
     } else {
         None
     }
@@ -136,11 +122,11 @@ pub trait Lender<O: Operator>: Drop {
     /// A bench that seems to go on with the pin, or one that then goes on with none. None where all
     /// are lent.
     fn lend(&mut self, alloc: Global, pin: &Pin) -> Option<Warm<O>>
-        ensures { IfSome result (IsWarm O.seen_in) };
+        ensures { IfSome result (IsWarm O.model_of) };
 
     /// Takes back a bench that was lent.
     fn take_back(&mut self, bench: Warm<O>)
-        requires { IsWarm O.seen_in bench };
+        requires { IsWarm O.model_of bench };
 }
 
 impl<O: Operator> Lender<O> for Pool<O> {
@@ -149,7 +135,7 @@ impl<O: Operator> Lender<O> for Pool<O> {
     }
 
     fn take_back(&mut self, bench: Warm<O>)
-        requires { IsWarm O.seen_in bench }
+        requires { IsWarm O.model_of bench }
     {
         self.put(bench, 0);
     }
@@ -165,15 +151,15 @@ pub struct Pooled<O: Operator, L> {
 impl<O: Operator, L: Lender<O>> Pooled<O, L> {
     /// Of a bench and a lender, which may have none.
     pub fn new(cold: BenchOf<O>, lender: L) -> Pooled<O, L>
-        requires { IsBench O.seen_in cold }
-        ensures { IsBench O.seen_in result.cold }
+        requires { IsBench O.model_of cold }
+        ensures { IsBench O.model_of result.cold }
     {
         Pooled { cold, lender }
     }
 }
 
 impl<O: Operator, L: Lender<O>> Evaluator for Pooled<O, L> {
-    ghost is_ready = { λ p. IsBench O.seen_in p.cold };
+    ghost is_ready = { λ p. IsBench O.model_of p.cold };
 
     fn reply(&mut self, alloc: Global, pin: Pin) -> Result<Answer, AllocError> {
         let Some(mut bench) = self.lender.lend(alloc, &pin) else {

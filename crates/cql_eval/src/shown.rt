@@ -4,19 +4,20 @@ ghost use Rattle.std.specs.List.Sorted.{IsSorted};
 ghost use Rattle.cql_value.specs.Order.{row_cmp};
 ghost use Rattle.cql_bag.specs.Bag.{Counts, IsBag, bag_of};
 ghost use Rattle.cql_bag.specs.Changes.{changed_by, CanChangeBy};
-ghost use Rattle.cql_ops.specs.Bench.{IsBench, bench_seen};
+ghost use Rattle.cql_ops.specs.Bench.{IsBench, bench_model};
 ghost use Rattle.cql_ops.specs.Running.{told_of};
 ghost use Rattle.cql_algebra.specs.declared.relation.Relation.{Relation as relation};
 ghost use Rattle.cql_algebra.specs.declared.relation.Relation.TheVariants.{Bag as bag};
 ghost use Rattle.cql_algebra.specs.ByKind.{output_of, output_of_bags};
 ghost use Rattle.cql_plan.specs.declared.plan.OutputKind.TheVariants.{Rstream};
 ghost use Rattle.cql_eval.specs.Relation.{bags_at, relation_at};
-ghost use Rattle.cql_eval.specs.Seen.{windows_seen};
+ghost use Rattle.cql_eval.specs.Projected.{projected_windows};
 ghost use Rattle.cql_eval.specs.Shown.{StandsFor, LeadsTo, Tells, bags_held, IsReady, IsShown};
 
 use crate::pin::Pin;
-use crate::seen_walk::SeenWalk;
-use crate::walks::{advance, restart, start};
+use crate::projected_walk::ProjectedWalk;
+use crate::walks::{advance, restart};
+use crate::warm::walks_at;
 use cql_algebra::Output;
 use cql_bag::law::{minus_counts, put_all_counts, same_counts, take_counts};
 use cql_bag::{Bag, Change, Room, add_rows, parted, rest_from, rest_of, take_rows};
@@ -46,7 +47,7 @@ impl LastTold {
 
 /// Walks over the windows, and what is kept of the relation.
 pub(crate) struct WalkState<'a> {
-    pub(crate) walks: Vec<SeenWalk<'a>>,
+    pub(crate) walks: Vec<ProjectedWalk<'a>>,
     pub(crate) last: LastTold,
 }
 
@@ -57,7 +58,7 @@ impl<'a> Drop for WalkState<'a> {
 }
 
 impl<'a> WalkState<'a> {
-    pub(crate) fn into_parts(self) -> (Vec<SeenWalk<'a>>, LastTold)
+    pub(crate) fn into_parts(self) -> (Vec<ProjectedWalk<'a>>, LastTold)
         ensures walks { result.0.items ≡ self.entry.walks.items }
         ensures last { result.1 ≡ self.entry.last }
     {
@@ -66,17 +67,19 @@ impl<'a> WalkState<'a> {
     }
 }
 
-/// Before the first row, on a bench started anew.
+/// Before the first row, on a bench started anew. What it held of another plan is let go.
 pub(crate) fn nothing_shown<'a, O: Operator>(
     alloc: Global,
     bench: &mut BenchOf<O>,
     pin: &'a Pin,
 ) -> Result<WalkState<'a>, AllocError>
-    requires { IsBench O.seen_in bench.old }
-    ensures bench { IsBench O.seen_in bench.new }
-    ensures shown { IfOk result (λ s. (c : ℕ) → c ≤ pin.now.base → IsShown pin.now c s.walks.items s.last (bench_seen O.seen_in bench.new)) }
+    requires { IsBench O.model_of bench.old }
+    ensures bench { IsBench O.model_of bench.new }
+    ensures shown { IfOk result (λ s. (c : ℕ) → c ≤ pin.now.base → IsShown pin.now c s.walks.items s.last (bench_model O.model_of bench.new)) }
 {
-    let walks = start(alloc, bench, pin)?;
+    bench.clear(alloc);
+    bench.start(pin.plan(), pin.limit())?;
+    let walks = walks_at(alloc, pin, None)?;
     let last = LastTold {
         bag: Bag::new(alloc),
         fault: None,
@@ -208,8 +211,8 @@ fn keep_changes(
     }
 }
 
-// What is kept and told after a bench answered.
-fn tell(
+/// What is kept and told after a bench answered.
+pub(crate) fn tell(
     alloc: Global,
     kind: OutputKind,
     last: LastTold,
@@ -256,16 +259,16 @@ pub(crate) fn ask<O: Operator>(
     alloc: Global,
     bench: &mut BenchOf<O>,
     pin: &Pin,
-    walks: &[SeenWalk<'_>],
+    walks: &[ProjectedWalk<'_>],
     cursor: u64,
 ) -> Result<Outcome, AllocError>
-    requires bench { IsBench O.seen_in bench.old }
+    requires bench { IsBench O.model_of bench.old }
     requires based { pin.now.base < cursor }
-    requires ready { IsReady pin.now cursor walks.now (bench_seen O.seen_in bench.old) }
-    requires bags { bags_held walks.now ≡ bags_at cursor (windows_seen pin.now) }
-    ensures bench { IsBench O.seen_in bench.new }
-    ensures ready { OnOk result (IsReady pin.now cursor walks.now (bench_seen O.seen_in bench.new)) }
-    ensures leads { IfOk result (λ r. LeadsTo r (told_of pin.now.plan (bench_seen O.seen_in bench.old)) (told_of pin.now.plan (bench_seen O.seen_in bench.new)) (relation_at pin.now cursor)) }
+    requires ready { IsReady pin.now cursor walks.now (bench_model O.model_of bench.old) }
+    requires bags { bags_held walks.now ≡ bags_at cursor (projected_windows pin.now) }
+    ensures bench { IsBench O.model_of bench.new }
+    ensures ready { OnOk result (IsReady pin.now cursor walks.now (bench_model O.model_of bench.new)) }
+    ensures leads { IfOk result (λ r. LeadsTo r (told_of pin.now.plan (bench_model O.model_of bench.old)) (told_of pin.now.plan (bench_model O.model_of bench.new)) (relation_at pin.now cursor)) }
 {
     let outcome = bench.emit(alloc, pin.plan(), pin.limit())?;
     match outcome {
@@ -277,20 +280,20 @@ pub(crate) fn ask<O: Operator>(
     }
 }
 
-// Goes on to a cursor with every walk, and asks the bench what it tells there.
-fn reach<'a, O: Operator>(
+/// Goes on to a cursor with every walk, and asks the bench what it tells there.
+pub(crate) fn reach<'a, O: Operator>(
     alloc: Global,
     bench: &mut BenchOf<O>,
     pin: &'a Pin,
-    walks: Vec<SeenWalk<'a>>,
+    walks: Vec<ProjectedWalk<'a>>,
     cursor: u64,
-) -> Result<(Vec<SeenWalk<'a>>, Outcome), AllocError>
-    requires bench { IsBench O.seen_in bench.old }
+) -> Result<(Vec<ProjectedWalk<'a>>, Outcome), AllocError>
+    requires bench { IsBench O.model_of bench.old }
     requires based { pin.now.base < cursor }
-    requires ready { IsReady pin.now cursor walks.items (bench_seen O.seen_in bench.old) }
-    ensures bench { IsBench O.seen_in bench.new }
-    ensures ready { IfOk result (λ r. IsReady pin.now cursor r.0.items (bench_seen O.seen_in bench.new)) }
-    ensures leads { IfOk result (λ r. LeadsTo r.1 (told_of pin.now.plan (bench_seen O.seen_in bench.old)) (told_of pin.now.plan (bench_seen O.seen_in bench.new)) (relation_at pin.now cursor)) }
+    requires ready { IsReady pin.now cursor walks.items (bench_model O.model_of bench.old) }
+    ensures bench { IsBench O.model_of bench.new }
+    ensures ready { IfOk result (λ r. IsReady pin.now cursor r.0.items (bench_model O.model_of bench.new)) }
+    ensures leads { IfOk result (λ r. LeadsTo r.1 (told_of pin.now.plan (bench_model O.model_of bench.old)) (told_of pin.now.plan (bench_model O.model_of bench.new)) (relation_at pin.now cursor)) }
 {
     let walks = advance(alloc, bench, pin, walks, cursor)?;
     let outcome = ask(alloc, bench, pin, &walks, cursor)?;
@@ -305,39 +308,16 @@ pub(crate) fn open<'a, O: Operator>(
     shown: WalkState<'a>,
     cursor: u64,
 ) -> Result<WalkState<'a>, AllocError>
-    requires bench { IsBench O.seen_in bench.old }
+    requires bench { IsBench O.model_of bench.old }
     requires based { pin.now.base < cursor }
-    requires shown { (c : ℕ) × (c ≤ cursor) × IsShown pin.now c shown.walks.items shown.last (bench_seen O.seen_in bench.old) }
-    ensures bench { IsBench O.seen_in bench.new }
-    ensures shown { IfOk result (λ r. IsShown pin.now cursor r.walks.items r.last (bench_seen O.seen_in bench.new)) }
+    requires shown { (c : ℕ) × (c ≤ cursor) × IsShown pin.now c shown.walks.items shown.last (bench_model O.model_of bench.old) }
+    ensures bench { IsBench O.model_of bench.new }
+    ensures shown { IfOk result (λ r. IsShown pin.now cursor r.walks.items r.last (bench_model O.model_of bench.new)) }
 {
     let (walks, last) = shown.into_parts();
     let (walks, outcome) = reach(alloc, bench, pin, walks, cursor)?;
     let last = keep(alloc, pin.plan().output(), last, outcome)?;
     Ok(WalkState { walks, last })
-}
-
-/// What is shown at a later cursor, and the output from the one to the other, or none where the
-/// relation is the same. `rows` is room, of which nothing is said.
-pub(crate) fn step<'a, O: Operator>(
-    alloc: Global,
-    bench: &mut BenchOf<O>,
-    pin: &'a Pin,
-    shown: WalkState<'a>,
-    cursor: u64,
-    rows: &mut Room,
-) -> Result<(WalkState<'a>, Option<Output>), AllocError>
-    requires bench { IsBench O.seen_in bench.old }
-    requires based { pin.now.base < cursor }
-    requires shown { (c : ℕ) × (c ≤ cursor) × IsShown pin.now c shown.walks.items shown.last (bench_seen O.seen_in bench.old) }
-    ensures bench { IsBench O.seen_in bench.new }
-    ensures shown { IfOk result (λ r. IsShown pin.now cursor r.0.walks.items r.0.last (bench_seen O.seen_in bench.new)) }
-    ensures told { IfOk result (λ r. (c : ℕ) → IsShown pin.now c shown.entry.walks.items shown.entry.last (bench_seen O.seen_in bench.old) → Tells pin.now.plan.output r.1 (relation_at pin.now c) (relation_at pin.now cursor)) }
-{
-    let (walks, last) = shown.into_parts();
-    let (walks, outcome) = reach(alloc, bench, pin, walks, cursor)?;
-    let (last, told) = tell(alloc, pin.plan().output(), last, outcome, rows)?;
-    Ok((WalkState { walks, last }, told))
 }
 
 /// The output where nothing changed since the instant before.

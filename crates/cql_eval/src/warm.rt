@@ -1,15 +1,15 @@
 // A bench that goes on from its last answer.
 ghost use Rattle.std.specs.Prelude.{◌≡◌, ◌<◌, IfOk, IfSome, IsTrue, map};
 ghost use Rattle.std.specs.Arc.{arc_value};
-ghost use Rattle.cql_ops.specs.Bench.{BenchSeen, IsBench, bench_seen};
-ghost use Rattle.cql_eval.specs.Seen.{reached, windows_seen};
+ghost use Rattle.cql_ops.specs.Bench.{BenchModel, IsBench, bench_model};
+ghost use Rattle.cql_eval.specs.Projected.{reached, started, projected_windows};
 ghost use Rattle.cql_eval.specs.Shown.{bags_held, IsShown};
 ghost use Rattle.cql_eval.specs.Warm.{IsKept, StandsBehind, Meets, IsWarm};
 
 use crate::answered::Answer;
 use crate::evaluate::{evaluate, nothing_asked};
 use crate::pin::Pin;
-use crate::seen_walk::SeenWalk;
+use crate::projected_walk::ProjectedWalk;
 use crate::shown::{LastTold, WalkState, ask, keep};
 use crate::walks::{advance, retreat};
 use cql_ops::{BenchOf, Cancellation, Operator};
@@ -45,9 +45,9 @@ impl Model for LastAnswer {
     ghost use Rattle.cql_plan.specs.contracts.condition.Condition as condition;
     ghost use Rattle.std.specs.Coded.{codes};
     ghost use Rattle.std.specs.Arc.{arc_value};
-    ghost use Rattle.cql_eval.specs.Kept.{KeptSeen};
+    ghost use Rattle.cql_eval.specs.Kept.{LastAnswerModel};
 
-    ghost Value = { KeptSeen };
+    ghost Value = { LastAnswerModel };
 
     ghost coded = { Prim.hlevel (codes, expr.the_row.coded, condition.the_row.coded) };
 
@@ -84,6 +84,20 @@ impl LastAnswer {
     }
 }
 
+// Which bench is looked for.
+#[derive(Clone, Copy)]
+pub(crate) enum Wanted<'a> {
+    // One that seems to go on with the pin, by the plan, the limit and the windows' first rows.
+    GoingOn(Global, &'a Pin),
+    // One that seems to stand for the pin's query, though from a later cursor on: its last pin went
+    // beyond where this one begins, and held there what this one does.
+    StandingFor(Global, &'a Pin),
+    // One that stands for no query.
+    Spare,
+    // One that stands for a query, and was put back before the time.
+    Unused(u64),
+}
+
 /// A bench that answers pins in turn. Where a pin begins on the last one's way, that is where its
 /// windows hold at its first cursor what those of the last one held there, the bench goes on, taken
 /// back from the last one's end, unless that costs more than what the windows hold; else it is started
@@ -101,8 +115,8 @@ pub struct Warm<O> {
 impl<O: Operator> Warm<O> {
     /// A bench that stands for nothing.
     pub fn new(bench: BenchOf<O>) -> Warm<O>
-        requires { IsBench O.seen_in bench }
-        ensures { IsWarm O.seen_in result }
+        requires { IsBench O.model_of bench }
+        ensures { IsWarm O.model_of result }
     {
         Warm {
             bench,
@@ -122,36 +136,25 @@ impl<O: Operator> Warm<O> {
         self.kept.is_none()
     }
 
-    // Whether it seems to go on with the pin, by the plan, the limit and the windows' first rows.
-    // Without memory it seems not to.
-    pub(crate) fn seems_to_go_on(&self, alloc: Global, pin: &Pin) -> bool {
-        match &self.kept {
-            Some(kept) => matches!(seem_same(alloc, pin, kept, kept.pin().next()), Ok(true)),
-            None => false,
-        }
-    }
-
-    // Whether it seems to stand for the pin's query, though for a later place of it: its last pin
-    // went beyond where this one begins, and held there what this one does. Without memory it seems
-    // not to.
-    pub(crate) fn seems_to_stand_for(&self, alloc: Global, pin: &Pin) -> bool {
-        match &self.kept {
-            Some(kept) if kept.pin().has(pin.from()) => {
-                matches!(seem_same(alloc, pin, kept, pin.from()), Ok(true))
+    // Whether it is what is looked for.
+    pub(crate) fn is_wanted(&self, wanted: &Wanted<'_>) -> bool {
+        match (wanted, &self.kept) {
+            (Wanted::GoingOn(alloc, pin), Some(kept)) => {
+                seems_same(*alloc, pin, kept, kept.pin().next())
             }
+            (Wanted::StandingFor(alloc, pin), Some(kept)) => {
+                kept.pin().has(pin.from()) && seems_same(*alloc, pin, kept, pin.from())
+            }
+            (Wanted::Unused(since), Some(_)) => self.used < *since,
+            (Wanted::Spare, None) => true,
             _ => false,
         }
     }
 
-    // Whether it stands for a query, and was put back before the time.
-    pub(crate) fn is_unused(&self, since: u64) -> bool {
-        self.kept.is_some() && self.used < since
-    }
-
     /// Lets go of what is kept, and of the rows that the operators hold.
     pub fn clear(&mut self, alloc: Global)
-        requires { IsWarm O.seen_in self.old }
-        ensures { IsWarm O.seen_in self.new }
+        requires { IsWarm O.model_of self.old }
+        ensures { IsWarm O.model_of self.new }
     {
         self.kept = None;
         self.bench.clear(alloc);
@@ -160,9 +163,9 @@ impl<O: Operator> Warm<O> {
     // Keeps what stands for the relation at the end of a pin, where that isn't too large; else the
     // operators let go of their rows.
     fn keep(&mut self, alloc: Global, pin: &Arc<Pin>, last: Option<LastTold>)
-        requires bench { IsBench O.seen_in self.old.bench }
-        requires kept { IfSome last (λ r. IsKept (arc_value pin.now) r (bench_seen O.seen_in self.old.bench)) }
-        ensures { IsWarm O.seen_in self.new }
+        requires bench { IsBench O.model_of self.old.bench }
+        requires kept { IfSome last (λ r. IsKept (arc_value pin.now) r (bench_model O.model_of self.old.bench)) }
+        ensures { IsWarm O.model_of self.new }
     {
         self.kept = kept_of(pin, last, self.pushed);
         if self.kept.is_none() {
@@ -173,8 +176,8 @@ impl<O: Operator> Warm<O> {
     /// The blocks of a pin, as `answer` gives them. Without memory the pin is given up, and what was
     /// kept too; and so they are where the bench's flag is set meanwhile, as by `answer`.
     pub fn answer(&mut self, alloc: Global, pin: Pin) -> Result<Answer, AllocError>
-        requires { IsWarm O.seen_in self.old }
-        ensures warm { IsWarm O.seen_in self.new }
+        requires { IsWarm O.model_of self.old }
+        ensures warm { IsWarm O.model_of self.new }
         ensures pin { IfOk result (λ a. a.pin ≡ pin) }
     {
         self.bench.cancellation().clear();
@@ -210,7 +213,7 @@ impl<O: Operator> Warm<O> {
 // pin goes on, where its windows have no more rows than `MOST`, and where no more were pushed than a start over these would be worth: operators may keep
 // a change for each.
 fn kept_of(pin: &Arc<Pin>, last: Option<LastTold>, pushed: usize) -> Option<LastAnswer>
-    ensures { IfSome result (λ k. (o : BenchSeen) → IfSome last (λ r. IsKept (arc_value pin.now) r o) → StandsBehind k o) }
+    ensures { IfSome result (λ k. (o : BenchModel) → IfSome last (λ r. IsKept (arc_value pin.now) r o) → StandsBehind k o) }
 {
     let last = last?;
     if pin.has_parts() {
@@ -226,27 +229,27 @@ fn kept_of(pin: &Arc<Pin>, last: Option<LastTold>, pushed: usize) -> Option<Last
     }
 }
 
-// A walk over each window, at a cursor.
+// A walk over each window, at a cursor or before the first row.
 pub(crate) fn walks_at<'a>(
     alloc: Global,
     pin: &'a Pin,
-    cursor: u64,
-) -> Result<Vec<SeenWalk<'a>>, AllocError>
-    ensures { IfOk result (λ v. v.items ≡ map (reached cursor) (windows_seen pin.now)) }
+    cursor: Option<u64>,
+) -> Result<Vec<ProjectedWalk<'a>>, AllocError>
+    ensures { IfOk result (λ v. v.items ≡ map (started cursor) (projected_windows pin.now)) }
 {
     let inputs = pin.plan().inputs();
     let windows = pin.windows();
     let mut walks = Vec::new(alloc);
     for input in 0..windows.len() {
-        let places = inputs[input].places.as_slice();
-        let walk = SeenWalk::at(alloc, &windows[input], places, cursor)?;
+        let projection = inputs[input].projection.as_slice();
+        let walk = ProjectedWalk::at(alloc, &windows[input], projection, cursor)?;
         walks.push(walk)?;
     }
     Ok(walks)
 }
 
 // Whether walks hold what others do, each in its place.
-fn are_held_same<'a, 'b>(first: &[SeenWalk<'a>], second: &[SeenWalk<'b>]) -> bool
+fn are_held_same<'a, 'b>(first: &[ProjectedWalk<'a>], second: &[ProjectedWalk<'b>]) -> bool
     ensures { IsTrue result → bags_held first.now ≡ bags_held second.now }
 {
     if first.len() != second.len() {
@@ -260,19 +263,25 @@ fn are_held_same<'a, 'b>(first: &[SeenWalk<'a>], second: &[SeenWalk<'b>]) -> boo
     true
 }
 
-// Whether the kept pin seems to hold at a cursor what a pin holds where it begins.
+// Whether the kept pin seems to hold at a cursor what a pin holds where it begins. Without memory it
+// seems not to.
+fn seems_same(alloc: Global, pin: &Pin, kept: &LastAnswer, cursor: u64) -> bool {
+    matches!(seem_same(alloc, pin, kept, cursor), Ok(true))
+}
+
+// The same, where there is memory.
 fn seem_same(alloc: Global, pin: &Pin, kept: &LastAnswer, cursor: u64) -> Result<bool, AllocError> {
     let before = kept.pin();
     if !before.has_plan_of(pin) {
         return Ok(false);
     }
-    let ended = walks_at(alloc, before, cursor)?;
-    let begun = walks_at(alloc, pin, pin.from())?;
+    let ended = walks_at(alloc, before, Some(cursor))?;
+    let begun = walks_at(alloc, pin, Some(pin.from()))?;
     Ok(seem_held_same(&ended, &begun))
 }
 
 // Whether walks seem to hold what others do, each in its place.
-fn seem_held_same<'a, 'b>(first: &[SeenWalk<'a>], second: &[SeenWalk<'b>]) -> bool {
+fn seem_held_same<'a, 'b>(first: &[ProjectedWalk<'a>], second: &[ProjectedWalk<'b>]) -> bool {
     let inputs = first.len();
     if inputs != second.len() {
         return false;
@@ -291,17 +300,17 @@ fn walks_from<'a>(
     alloc: Global,
     pin: &'a Pin,
     kept: &LastAnswer,
-) -> Result<Option<Vec<SeenWalk<'a>>>, AllocError>
+) -> Result<Option<Vec<ProjectedWalk<'a>>>, AllocError>
     ensures meets { IfOk result (λ r. IfSome r (λ walks. Meets kept.now pin.now)) }
-    ensures walks { IfOk result (λ r. IfSome r (λ walks. walks.items ≡ map (reached pin.now.from) (windows_seen pin.now))) }
+    ensures walks { IfOk result (λ r. IfSome r (λ walks. walks.items ≡ map (reached pin.now.from) (projected_windows pin.now))) }
 {
     let before = kept.pin();
     let begins = pin.from();
     if begins <= pin.base() || !before.has(begins) || !before.has_plan_of(pin) {
         return Ok(None);
     }
-    let held = walks_at(alloc, before, begins)?;
-    let walks = walks_at(alloc, pin, begins)?;
+    let held = walks_at(alloc, before, Some(begins))?;
+    let walks = walks_at(alloc, pin, Some(begins))?;
     if are_held_same(&held, &walks) {
         Ok(Some(walks))
     } else {
@@ -315,15 +324,15 @@ fn go_back<O: Operator>(
     alloc: Global,
     bench: &mut BenchOf<O>,
     pin: &Pin,
-    walks: &[SeenWalk<'_>],
+    walks: &[ProjectedWalk<'_>],
     kept: LastAnswer,
 ) -> Result<LastTold, AllocError>
-    requires bench { IsBench O.seen_in bench.old }
-    requires kept { StandsBehind kept (bench_seen O.seen_in bench.old) }
+    requires bench { IsBench O.model_of bench.old }
+    requires kept { StandsBehind kept (bench_model O.model_of bench.old) }
     requires meets { Meets kept pin.now }
-    requires walks { walks.now ≡ map (reached pin.now.from) (windows_seen pin.now) }
-    ensures bench { IsBench O.seen_in bench.new }
-    ensures shown { IfOk result (λ last. IsShown pin.now pin.now.from walks.now last (bench_seen O.seen_in bench.new)) }
+    requires walks { walks.now ≡ map (reached pin.now.from) (projected_windows pin.now) }
+    ensures bench { IsBench O.model_of bench.new }
+    ensures shown { IfOk result (λ last. IsShown pin.now pin.now.from walks.now last (bench_model O.model_of bench.new)) }
 {
     let begins = pin.from();
     let before = kept.pin();
@@ -343,11 +352,11 @@ pub(crate) fn resume<'a, O: Operator>(
     pin: &'a Pin,
     kept: LastAnswer,
 ) -> Result<Option<WalkState<'a>>, AllocError>
-    requires bench { IsBench O.seen_in bench.old }
-    requires kept { StandsBehind kept (bench_seen O.seen_in bench.old) }
-    ensures bench { IsBench O.seen_in bench.new }
+    requires bench { IsBench O.model_of bench.old }
+    requires kept { StandsBehind kept (bench_model O.model_of bench.old) }
+    ensures bench { IsBench O.model_of bench.new }
     ensures based { IfOk result (λ r. IfSome r (λ s. pin.now.base < pin.now.from)) }
-    ensures shown { IfOk result (λ r. IfSome r (λ s. IsShown pin.now pin.now.from s.walks.items s.last (bench_seen O.seen_in bench.new))) }
+    ensures shown { IfOk result (λ r. IfSome r (λ s. IsShown pin.now pin.now.from s.walks.items s.last (bench_model O.model_of bench.new))) }
 {
     let Some(walks) = walks_from(alloc, pin, &kept)? else {
         return Ok(None);
@@ -364,11 +373,11 @@ pub(crate) fn remember<O: Operator>(
     pin: &Pin,
     shown: WalkState<'_>,
 ) -> Option<LastTold>
-    requires bench { IsBench O.seen_in bench.old }
+    requires bench { IsBench O.model_of bench.old }
     requires based { pin.now.base < pin.now.next }
-    requires shown { IsShown pin.now pin.now.next shown.walks.items shown.last (bench_seen O.seen_in bench.old) }
-    ensures bench { IsBench O.seen_in bench.new }
-    ensures kept { IfSome result (λ last. IsKept pin.now last (bench_seen O.seen_in bench.new)) }
+    requires shown { IsShown pin.now pin.now.next shown.walks.items shown.last (bench_model O.model_of bench.old) }
+    ensures bench { IsBench O.model_of bench.new }
+    ensures kept { IfSome result (λ last. IsKept pin.now last (bench_model O.model_of bench.new)) }
 {
     let (walks, last) = shown.into_parts();
     match advance(alloc, bench, pin, walks, pin.next()) {

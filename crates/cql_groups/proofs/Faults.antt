@@ -7,8 +7,8 @@ use Rattle.cql_plan.specs.declared.fault.Fault.TheVariants.{Overflow}
 use Rattle.cql_plan.specs.declared.node.Shape.{Shape}
 use Rattle.cql_algebra.specs.Shape.{shape_value}
 use Rattle.cql_algebra.specs.Value.{or_overflow}
-use Rattle.cql_ops.specs.Clauses.{fault_in, value_seen, IsAtFault}
-use Rattle.cql_ops.specs.Seen.{Seen}
+use Rattle.cql_ops.specs.Clauses.{fault_in, model_value, IsAtFault}
+use Rattle.cql_ops.specs.OperatorModel.{OperatorModel}
 use Rattle.cql_groups.specs.GroupLaws.{Laws}
 use Rattle.cql_groups.specs.GroupShape.{known_fault}
 use Rattle.cql_groups.specs.Grouped.{lacking_groups}
@@ -41,10 +41,10 @@ in_err (Ok bag) f h = absurd cc
 in_err (Err g) f h = (let same : f ≡ g = cc in ap (λ e. Err e) (sym same))
 
 -- who knows the fault says no other
-pub is_at_fault : (s : Seen) (o : Option Fault) → o ≡ known_fault s → IfSome o (IsAtFault s)
+pub is_at_fault : (s : OperatorModel) (o : Option Fault) → o ≡ known_fault s → IfSome o (IsAtFault s)
 is_at_fault s None h = tt
 is_at_fault s (Some f) h = by_running s.running refl
   where
     by_running : (b : Bool) → s.running ≡ b → IsAtFault s f
-    by_running true r = record { running = r; value = in_err (value_seen s) f (h ∙ ap (λ b. if b then fault_in (value_seen s) else None) r) }
-    by_running false r = absurd (let none : Some f ≡ None = h ∙ ap (λ b. if b then fault_in (value_seen s) else None) r in cc)
+    by_running true r = record { running = r; value = in_err (model_value s) f (h ∙ ap (λ b. if b then fault_in (model_value s) else None) r) }
+    by_running false r = absurd (let none : Some f ≡ None = h ∙ ap (λ b. if b then fault_in (model_value s) else None) r in cc)

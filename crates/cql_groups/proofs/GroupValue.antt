@@ -13,7 +13,7 @@ use Rattle.cql_algebra.specs.Shape.{with_first, as_bag, times_over, key_bag, gro
 use Rattle.cql_groups.specs.GroupLaws.{Laws}
 use Rattle.cql_groups.specs.Grouped.{IsLacking, IsHeldOf, IsHeldAt, at_key, told_rows, IsGrouping}
 use Rattle.cql_ops.specs.Linear.{with_entry}
-use Rattle.cql_groups.specs.declared.grouped.Group.{Group}
+use Rattle.cql_groups.specs.declared.group.Group.{Group}
 use Rattle.cql_groups.specs.declared.layout.Layout.{Layout}
 use Rattle.cql_groups.proofs.PartLaws.{row_is}
 use Rattle.cql_algebra.proofs.Keys.{bag_of_keys}

@@ -27,7 +27,7 @@ use Rattle.cql_groups.specs.Grouped.{IsGroupOf, IsChangedGroup, IsDue, IsHeldOf,
 use Rattle.cql_groups.specs.GroupLaws.{Laws}
 use Rattle.cql_ops.specs.Linear.{with_entry, with_change}
 use Rattle.cql_ops.specs.Settle.{is_among}
-use Rattle.cql_groups.specs.declared.grouped.Group.{Group}
+use Rattle.cql_groups.specs.declared.group.Group.{Group}
 use Rattle.cql_groups.specs.declared.layout.Layout.{Layout}
 use Rattle.cql_groups.specs.declared.accumulator.AccumulatorKind.{AccumulatorKind}
 use Rattle.cql_groups.proofs.PartLaws.{group_after, group_types, row_is, lacks_is}
@@ -309,7 +309,7 @@ module _ (laws : Laws) (typing : IsGroupTypesLaw) (layout : Layout) (port told :
       → now ≡ set_value (λ k. is_eq (row_cmp key k)) es (record g { told = Some row; pushed = false }) → IsGrouping layout port (changed_by (with_change true (Some row) []) gone) now rest
   kept_on row now due looks is =
       renewed (Some row) due (Some (record g { told = Some row; pushed = false })) now looks (record {
-        group = record { size = held.group.size; few = held.group.few; parts = held.group.parts; sample = held.group.sample; types = held.group.types };
+        group = record { keyed = held.group.keyed; size = held.group.size; few = held.group.few; parts = held.group.parts; sample = held.group.sample; types = held.group.types };
         lacks = held.lacks;
         waits = λ p. absurd cc;
         settled = λ p. (row, refl, due.0, row_of row due);
@@ -350,8 +350,9 @@ module _ (laws : Laws) (typing : IsGroupTypesLaw) (layout : Layout) (port told :
 -- ---- a row that comes or goes
 
 -- the group that was taken holds the rows of its key
-taken_is : (layout : Layout) (left : List Row) (key row : Row) (rows : Counts) (o : Option Group) (g : Group) → IsHeldAt layout left key rows o → key_of layout.shape.groups row ≡ key → HasTypes layout.shape.columns row → IsTaken layout.asked row o g → IsGroupOf layout key rows g
+taken_is : (layout : Layout) (left : List Row) (key row : Row) (rows : Counts) (o : Option Group) (g : Group) → IsHeldAt layout left key rows o → key_of layout.shape.groups row ≡ key → HasTypes layout.shape.columns row → IsTaken layout.asked key row o g → IsGroupOf layout key rows g
 taken_is layout left key row rows None g none has types new = record {
+  keyed = new.keyed;
   size = new.size ∙ ap size_of (sym none);
   few = subst (λ n. n < 9223372036854775808) (sym new.size) (omega arith);
   parts = new.parts ∙ ap (λ r. map (part_of r) layout.asked) (sym none);
@@ -363,11 +364,11 @@ taken_is layout left key row rows (Some h) g held has types same = subst (IsGrou
 abbrev none_typed : List ColumnType → Option Row → Type 0
 none_typed columns o = IfSome o (HasTypes columns)
 
-taken_typed : (layout : Layout) (left : List Row) (key row : Row) (rows : Counts) (o : Option Group) (g : Group) → IsHeldAt layout left key rows o → IsTaken layout.asked row o g → IsTyped layout.shape → IfSome g.told (HasTypes (item_types layout.shape.columns layout.shape.items))
+taken_typed : (layout : Layout) (left : List Row) (key row : Row) (rows : Counts) (o : Option Group) (g : Group) → IsHeldAt layout left key rows o → IsTaken layout.asked key row o g → IsTyped layout.shape → IfSome g.told (HasTypes (item_types layout.shape.columns layout.shape.items))
 taken_typed layout left key row rows None g none new typed = subst (none_typed (item_types layout.shape.columns layout.shape.items)) (sym new.told) tt
 taken_typed layout left key row rows (Some h) g held same typed = subst (λ (x : Group). none_typed (item_types layout.shape.columns layout.shape.items) x.told) (sym same) (held.typed typed)
 
-taken_waits : (layout : Layout) (left : List Row) (key row : Row) (rows : Counts) (o : Option Group) (g : Group) → IsHeldAt layout left key rows o → IsTaken layout.asked row o g → g.pushed ≡ true → is_among left key ≡ true
+taken_waits : (layout : Layout) (left : List Row) (key row : Row) (rows : Counts) (o : Option Group) (g : Group) → IsHeldAt layout left key rows o → IsTaken layout.asked key row o g → g.pushed ≡ true → is_among left key ≡ true
 taken_waits layout left key row rows None g none new p = absurd (let f = new.pushed in cc)
 taken_waits layout left key row rows (Some h) g held same p = held.waits (ap (λ (x : Group). x.pushed) (sym same) ∙ p)
 
@@ -409,7 +410,7 @@ now_waits false left key h = list_any-append (λ x. is_eq (row_cmp x key)) left 
 
 -- the rows of a row's key, where it goes
 some_rows : (laws : Laws) (layout : Layout) (port told : Counts) (es : Groups) (left : List Row) (c : Change) (key : Row) (g : Group) → key_of layout.shape.groups c.row ≡ key → IsGrouping layout port told es left → HasTypes layout.shape.columns c.row → CanChange c port
-    → IsTaken layout.asked c.row (at_key key es) g → IsGroupOf layout key (group_of layout.shape.groups port key) g × (c.plus ≡ false → 1 ≤ g.size)
+    → IsTaken layout.asked key c.row (at_key key es) g → IsGroupOf layout key (group_of layout.shape.groups port key) g × (c.plus ≡ false → 1 ≤ g.size)
 some_rows laws layout port told es left c key g is_key was types can taken =
     let of = taken_is layout left key c.row (group_of layout.shape.groups port key) (at_key key es) g (was.held key) is_key types taken in
     let can_group = can_change laws c port was.port_bag can layout.shape.groups key (ties (key_of layout.shape.groups c.row) key is_key) in
@@ -420,11 +421,11 @@ some_rows laws layout port told es left c key g is_key was types can taken =
 
 -- a group changed where it stands
 pub changed_some : (asked : List AccumulatorKind) (c : Change) (key : Row) (es now : Groups) (left more : List Row) (old_count new_count : ℕ) (g new : Group) → Some g ≡ at_key key es → IsChangedGroup c (record g { pushed = true }) new
-    → now ≡ set_value (λ k. is_eq (row_cmp key k)) es new → ((q : Row) → at_key q now ≡ cond (is_eq (row_cmp key q)) (Some new) (at_key q es)) → more ≡ waiting g.pushed left key → new_count + one_if g.lacks ≡ old_count + one_if new.lacks → IsChangedAt asked c key es now left more old_count new_count
+    → now ≡ set_value (λ k. is_eq (row_cmp key k)) es new → ((q : Row) → at_key q now ≡ cond (is_eq (row_cmp key q)) (Some new) (at_key q es)) → more ≡ waiting g.pushed left g.key → new_count + one_if g.lacks ≡ old_count + one_if new.lacks → IsChangedAt asked c key es now left more old_count new_count
 changed_some asked c key es now left more old_count new_count g new there turned is looks waits counts = record {
   was = g;
   now = new;
-  taken = subst (λ o. IsTaken asked c.row o g) there refl;
+  taken = subst (λ o. IsTaken asked key c.row o g) there refl;
   turned = turned;
   looks = looks;
   told = λ q. ap (λ l. count q (told_rows l)) is ∙ ap (count q) (told_set key es g new (sym there) turned.told);
@@ -433,12 +434,12 @@ changed_some asked c key es now left more old_count new_count g new there turned
 }
 
 -- and one that is put in
-pub changed_none : (asked : List AccumulatorKind) (c : Change) (key : Row) (es now : Groups) (left more : List Row) (old_count new_count : ℕ) (g new : Group) → None ≡ at_key key es → IsNew asked c.row g → IsChangedGroup c (record g { pushed = true }) new
-    → now ≡ insert_entry row_cmp es key new → ((q : Row) → at_key q now ≡ cond (is_eq (row_cmp key q)) (Some new) (at_key q es)) → more ≡ waiting g.pushed left key → new_count + one_if g.lacks ≡ old_count + one_if new.lacks → IsChangedAt asked c key es now left more old_count new_count
+pub changed_none : (asked : List AccumulatorKind) (c : Change) (key : Row) (es now : Groups) (left more : List Row) (old_count new_count : ℕ) (g new : Group) → None ≡ at_key key es → IsNew asked key c.row g → IsChangedGroup c (record g { pushed = true }) new
+    → now ≡ insert_entry row_cmp es key new → ((q : Row) → at_key q now ≡ cond (is_eq (row_cmp key q)) (Some new) (at_key q es)) → more ≡ waiting g.pushed left g.key → new_count + one_if g.lacks ≡ old_count + one_if new.lacks → IsChangedAt asked c key es now left more old_count new_count
 changed_none asked c key es now left more old_count new_count g new none is_new turned is looks waits counts = record {
   was = g;
   now = new;
-  taken = subst (λ o. IsTaken asked c.row o g) none is_new;
+  taken = subst (λ o. IsTaken asked key c.row o g) none is_new;
   turned = turned;
   looks = looks;
   told = λ q. ap (λ l. count q (told_rows l)) is ∙ told_put q key es new (sym none) (turned.told ∙ is_new.told);
@@ -447,12 +448,12 @@ changed_none asked c key es now left more old_count new_count g new none is_new 
 }
 
 -- whether the group that was taken lacks a value
-taken_lacks : (layout : Layout) (left : List Row) (key row : Row) (rows : Counts) (o : Option Group) (g : Group) → IsHeldAt layout left key rows o → IsTaken layout.asked row o g → one_if g.lacks ≡ times_lacking layout.shape.items rows
+taken_lacks : (layout : Layout) (left : List Row) (key row : Row) (rows : Counts) (o : Option Group) (g : Group) → IsHeldAt layout left key rows o → IsTaken layout.asked key row o g → one_if g.lacks ≡ times_lacking layout.shape.items rows
 taken_lacks layout left key row rows None g none new = ap one_if new.lacks ∙ sym (ap (times_lacking layout.shape.items) none)
 taken_lacks layout left key row rows (Some h) g held same = ap (λ (x : Group). one_if x.lacks) same ∙ held.lacks
 
 pub can_change_at : (laws : Laws) (layout : Layout) (port told : Counts) (es : Groups) (left : List Row) (lacking : ℕ) (c : Change) (key : Row) → key_of layout.shape.groups c.row ≡ key → IsGrouping layout port told es left → lacking ≡ lacking_groups layout.shape port → HasTypes layout.shape.columns c.row → CanChange c port
-    → CanChangeAt layout.asked c (at_key key es) lacking
+    → CanChangeAt layout.asked c key (at_key key es) lacking
 can_change_at laws layout port told es left lacking c key is_key was counts types can g taken =
     let of = some_rows laws layout port told es left c key g is_key was types can taken in
     let lacks = taken_lacks layout left key c.row (group_of layout.shape.groups port key) (at_key key es) g (was.held key) taken in
@@ -464,7 +465,7 @@ can_change_at laws layout port told es left lacking c key is_key was counts type
 
 -- a row that came or went in the group of its key
 module _ (laws : Laws) (layout : Layout) (port told : Counts) (es : Groups) (left : List Row) (c : Change) (key : Row) (is_key : key_of layout.shape.groups c.row ≡ key) (was : IsGrouping layout port told es left) (types : HasTypes layout.shape.columns c.row) (can : CanChange c port)
-    (g new : Group) (taken : IsTaken layout.asked c.row (at_key key es) g) (turned : IsChangedGroup c (record g { pushed = true }) new) where
+    (g new : Group) (taken : IsTaken layout.asked key c.row (at_key key es) g) (turned : IsChangedGroup c (record g { pushed = true }) new) where
   abbrev its : Counts
   its = group_of layout.shape.groups port key
 
@@ -480,12 +481,15 @@ module _ (laws : Laws) (layout : Layout) (port told : Counts) (es : Groups) (lef
   types_after : AreOf layout.shape.columns (changed c port)
   types_after = laws.changes layout.shape.columns c port was.in_port types
 
+  pub its_key : g.key ≡ key
+  its_key = (some_rows laws layout port told es left c key g is_key was types can taken).0.keyed
+
   new_of : IsGroupOf layout key its_after new
   new_of =
       let of = (some_rows laws layout port told es left c key g is_key was types can taken).0 in
       let its_bag : IsBag its = (laws.group layout.shape.groups port key was.port_bag).is_bag in
       let can_group = can_change laws c port was.port_bag can layout.shape.groups key at_it in
-      let marked : IsGroupOf layout key its (record g { pushed = true }) = record { size = of.size; few = of.few; parts = of.parts; sample = of.sample; types = of.types } in
+      let marked : IsGroupOf layout key its (record g { pushed = true }) = record { keyed = of.keyed; size = of.size; few = of.few; parts = of.parts; sample = of.sample; types = of.types } in
       subst (λ r. IsGroupOf layout key r new) (sym (group_changed laws c port was.port_bag can layout.shape.groups key at_it)) (group_after laws c its its_bag can_group layout key (record g { pushed = true }) new marked turned)
 
   new_lacks : one_if new.lacks ≡ times_lacking layout.shape.items its_after
@@ -525,7 +529,9 @@ module _ (laws : Laws) (layout : Layout) (port told : Counts) (es : Groups) (lef
 module _ (laws : Laws) (layout : Layout) (port told : Counts) (es now : Groups) (left more : List Row) (before after : ℕ) (c : Change) (key : Row) (is_key : key_of layout.shape.groups c.row ≡ key) (was : IsGrouping layout port told es left) (types : HasTypes layout.shape.columns c.row) (can : CanChange c port)
     (at : IsChangedAt layout.asked c key es now left more before after) where
   pub row_pushed : IsGrouping layout (changed c port) told now more
-  row_pushed = subst (IsGrouping layout (changed c port) told now) (sym at.waits) (row_waits laws layout port told es left c key is_key was types can at.was at.now at.taken at.turned now at.looks at.told)
+  row_pushed =
+      let is = ap (waiting at.was.pushed left) (its_key laws layout port told es left c key is_key was types can at.was at.now at.taken at.turned) in
+      subst (IsGrouping layout (changed c port) told now) (sym (at.waits ∙ is)) (row_waits laws layout port told es left c key is_key was types can at.was at.now at.taken at.turned now at.looks at.told)
 
   pub count_pushed : before ≡ lacking_groups layout.shape port → after ≡ lacking_groups layout.shape (changed c port)
   count_pushed is = counted laws layout port told es left c key is_key was types can at.was at.now at.taken at.turned before after is at.counted

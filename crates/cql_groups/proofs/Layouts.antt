@@ -77,9 +77,9 @@ module _ (items : List Item) (x : Item) (is_in : Contains items x) where
   still_apart (Some one) before after (inl same) apart = subst AreApart (sym same) apart
   still_apart (Some one) before after (inr (more, other)) apart = subst AreApart (sym more) (apart_more before one apart other)
 
-  one_more : (seen : List Item) (before after : List AccumulatorKind) (sources : List ItemSource) (source : ItemSource) → AreSources items seen before sources → IsGrownBy (asks x) before after → IsSourceOf after x source → AreSources items (seen ++ x ∷ []) after (sources ++ source ∷ [])
-  one_more seen before after sources source was grown of = record {
-    each = zip_more (IsSourceOf after) seen sources x source (still_sources before after (stands (asks x) before after grown) seen sources was.each) of;
+  one_more : (model : List Item) (before after : List AccumulatorKind) (sources : List ItemSource) (source : ItemSource) → AreSources items model before sources → IsGrownBy (asks x) before after → IsSourceOf after x source → AreSources items (model ++ x ∷ []) after (sources ++ source ∷ [])
+  one_more model before after sources source was grown of = record {
+    each = zip_more (IsSourceOf after) model sources x source (still_sources before after (stands (asks x) before after grown) model sources was.each) of;
     wanted = asked_more (asks x) before after refl grown was.wanted;
     apart = still_apart (asks x) before after grown was.apart;
   }

@@ -20,13 +20,13 @@ use Rattle.cql_plan.specs.declared.expr.Expr.TheFolds.{fold-Expr, fold-roll-Expr
 use Rattle.cql_plan.specs.declared.node.Item.{Item}
 use Rattle.cql_plan.specs.declared.node.Item.TheVariants as i
 use Rattle.cql_plan.specs.Fit.{is_empty, HasColumn}
-use Rattle.cql_algebra.specs.Shape.{with_first, all_of, key_of, group_of, item_over, items_over}
+use Rattle.cql_algebra.specs.Shape.{all_of, key_of, group_of, item_over, items_over}
 use Rattle.cql_algebra.specs.ShapeLaws.{IsInColumn}
 use Rattle.cql_algebra.specs.GroupChanges.{first_of, last_of, times_lacking}
 use Rattle.cql_algebra.specs.Typed.{HasTypes, AreOf}
 use Rattle.cql_groups.specs.Keyed.{IsKeyedItem, IsKeyed}
 use Rattle.cql_groups.specs.Parts.{part_of, part_changed, is_outside}
-use Rattle.cql_groups.specs.Layouts.{place_step, place_in, asks, IsAskedIn, IsSourceOf, IsLayout, sum_in, values_in, source_value, row_of_parts}
+use Rattle.cql_groups.specs.Layouts.{index_step, column_in, asks, IsAskedIn, IsSourceOf, IsLayout, sum_in, values_in, source_value, row_of_parts}
 use Rattle.cql_groups.specs.GroupLaws.{Laws}
 use Rattle.cql_groups.specs.Grouped.{IsGroupOf, IsChangedGroup, one_if}
 use Rattle.cql_groups.specs.declared.accumulator.AccumulatorKind.{AccumulatorKind}
@@ -36,7 +36,7 @@ use Rattle.cql_groups.specs.declared.accumulator.Accumulator.TheVariants as part
 use Rattle.cql_groups.specs.declared.layout.ItemSource.{ItemSource}
 use Rattle.cql_groups.specs.declared.layout.ItemSource.TheVariants as s
 use Rattle.cql_groups.specs.declared.layout.Layout.{Layout}
-use Rattle.cql_groups.specs.declared.grouped.Group.{Group}
+use Rattle.cql_groups.specs.declared.group.Group.{Group}
 use Rattle.cql_groups.proofs.Changes.{size_changed, total_changed, keys_changed}
 
 abbrev Row : Type 0
@@ -59,6 +59,7 @@ module _ (laws : Laws) (c : Change) (rows : Counts) (is : IsBag rows) (can : Can
   -- what is kept of a group, after a change of it
   pub group_after : (l : Layout) (key : Row) (old new : Group) → IsGroupOf l key rows old → IsChangedGroup c old new → IsGroupOf l key (changed c rows) new
   group_after l key old new was now = record {
+    keyed = now.key ∙ was.keyed;
     size = same_size new.size old.size (size_of rows) (size_of (changed c rows)) (if c.plus then 0 else 1) (if c.plus then 1 else 0) now.size (size_changed laws c rows is can) was.size;
     few = now.few;
     parts = now.parts ∙ ap (map (part_changed c)) was.parts ∙ parts_law l.asked;
@@ -68,9 +69,9 @@ module _ (laws : Laws) (c : Change) (rows : Counts) (is : IsBag rows) (can : Can
 
 -- ---- the row
 
-pub place_is : (at : ℕ) → place_in (expr.Column at) ≡ at
-unfolding place_in
-place_is at = ap (fold-Expr ℕ place_step) (sym (rolls-Column at)) ∙ fold-roll-Expr ℕ place_step (Expr-F.Column at)
+pub column_is : (at : ℕ) → column_in (expr.Column at) ≡ at
+unfolding column_in
+column_is at = ap (fold-Expr ℕ index_step) (sym (rolls-Column at)) ∙ fold-roll-Expr ℕ index_step (Expr-F.Column at)
 
 same_at : (groups : List ℕ) (key r s : Row) (at : ℕ) → AllZip (λ at v. slice_get r at ≡ Some v) groups key → AllZip (λ at v. slice_get s at ≡ Some v) groups key → Contains groups at → slice_get r at ≡ slice_get s at
 same_at [] key r s at p q c = absurd (nothing at c)
@@ -124,9 +125,9 @@ filled (e ∷ es) is = inr (more e.1 (size_of es) is.0, refl)
     more : (n m : ℕ) → 1 ≤ n → 1 ≤ n + m
     more n m h = omega (arith, h)
 
--- what is asked at a place is kept at that place
-kept_at : (rows : Counts) (asked : List AccumulatorKind) (place : ℕ) (a : AccumulatorKind) → slice_get asked place ≡ Some a → slice_get (map (part_of rows) asked) place ≡ Some (part_of rows a)
-kept_at rows asked place a h = slice_get-map (part_of rows) asked place ∙ ap (option_map (part_of rows)) h
+-- what is asked at an index is kept at that index
+kept_at : (rows : Counts) (asked : List AccumulatorKind) (index : ℕ) (a : AccumulatorKind) → slice_get asked index ≡ Some a → slice_get (map (part_of rows) asked) index ≡ Some (part_of rows a)
+kept_at rows asked index a h = slice_get-map (part_of rows) asked index ∙ ap (option_map (part_of rows)) h
 
 -- a value of a column that there is
 in_row : (key : Row) (at : ℕ) (row : Row) → AllZip (λ at v. slice_get row at ≡ Some v) (at ∷ []) key → (v : Value) × (slice_get row at ≡ Some v)
@@ -164,9 +165,9 @@ module _ (laws : Laws) (l : Layout) (is_layout : IsLayout l) (port : Counts) (is
     parts = map (part_of rows) l.asked
 
     value_is : (x : Item) (source : ItemSource) → IsKeyedItem l.shape.columns l.shape.groups x → IsSourceOf l.asked x source → source_value (size_of rows) sample parts source ≡ item_over rows x
-    value_is (i.Value x) (s.Column place) fits of =
+    value_is (i.Value x) (s.Column column) fits of =
         let at = fits.0 in
-        ap (slice_get sample) of ∙ ap (λ y. slice_get sample (place_in y)) fits.1 ∙ ap (slice_get sample) (place_is at) ∙ on_sample at fits.2 ∙ ap (λ y. item_over rows (i.Value y)) (sym fits.1)
+        ap (slice_get sample) of ∙ ap (λ y. slice_get sample (column_in y)) fits.1 ∙ ap (slice_get sample) (column_is at) ∙ on_sample at fits.2 ∙ ap (λ y. item_over rows (i.Value y)) (sym fits.1)
     value_is (i.Value x) s.Count fits of = absurd of
     value_is (i.Value x) (s.Sum p) fits of = absurd of
     value_is (i.Value x) (s.Least p) fits of = absurd of

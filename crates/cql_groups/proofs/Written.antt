@@ -1,8 +1,8 @@
--- Lists that are written place by place.
+-- Lists that are written index by index.
 use Rattle.std.proofs.Common.{◌≡◌, ℕ, zero, suc, ◌+◌, ◌<◌, List, [], ◌∷◌, ◌++◌, map, take, drop, set, length, get_or, refl, ap, ◌∙◌, arith, add-one}
 
 module _ {A : Type 0} (f : A → A) where
-  -- the places so far are turned
+  -- the indices so far are turned
   abbrev pub written : List A → ℕ → List A
   written old i = map f (take i old) ++ drop i old
 
@@ -16,7 +16,7 @@ module _ {A : Type 0} (f : A → A) where
   write_next (o ∷ old) zero d lt = refl
   write_next (o ∷ old) (suc i) d lt = ap (λ l. f o ∷ l) (write_next old i d (omega arith))
 
-  -- one place more
+  -- one index more
   pub written_on : (old now : List A) (i : ℕ) (x y : A) → i < length old → now ≡ written old i → x ≡ get_or now i x → y ≡ f x → set now i y ≡ written old (i + 1)
   written_on old now i x y lt was at is =
       let same : x ≡ get_or old i x = at ∙ ap (λ l. get_or l i x) was ∙ next_is old i x lt in

@@ -20,13 +20,14 @@ use Rattle.cql_groups.specs.Layouts.{IsLayout, row_of_parts}
 use Rattle.cql_ops.specs.Clauses.{AreChangesOf}
 use Rattle.cql_ops.specs.Linear.{with_entry}
 use Rattle.cql_ops.specs.Settle.{is_among}
-use Rattle.cql_groups.specs.declared.grouped.Group.{Group}
+use Rattle.cql_groups.specs.declared.group.Group.{Group}
 use Rattle.cql_groups.specs.declared.layout.Layout.{Layout}
 use Rattle.cql_groups.specs.declared.layout.ItemSource.{ItemSource}
 use Rattle.cql_groups.specs.declared.accumulator.AccumulatorKind.{AccumulatorKind}
 
 -- what is kept of the rows of a key: how many there are, one row that has the key, and what is asked of columns
 pub record IsGroupOf (l : Layout) (key : List Value) (rows : Counts) (g : Group) : Type 0 where
+  pub keyed : g.key ≡ key
   pub size : g.size ≡ size_of rows
   pub few : g.size < 2 ^ 63
   pub parts : g.parts.items ≡ map (part_of rows) l.asked
@@ -35,6 +36,7 @@ pub record IsGroupOf (l : Layout) (key : List Value) (rows : Counts) (g : Group)
 
 -- after one of its rows came or went
 pub record IsChangedGroup (c : Change) (old new : Group) : Type 0 where
+  pub key : new.key ≡ old.key
   pub size : new.size + (if c.plus then 0 else 1) ≡ old.size + (if c.plus then 1 else 0)
   pub few : new.size < 2 ^ 63
   pub parts : new.parts.items ≡ map (part_changed c) old.parts.items
@@ -72,7 +74,8 @@ abbrev pub at_key : List Value → List (List Value × Group) → Option Group
 at_key key groups = lookup (λ k. is_eq (row_cmp key k)) groups
 
 -- the group that was at a key, or one without a row, none of which was told
-pub record IsNew (asked : List AccumulatorKind) (row : List Value) (g : Group) : Type 0 where
+pub record IsNew (asked : List AccumulatorKind) (key row : List Value) (g : Group) : Type 0 where
+  pub keyed : g.key ≡ key
   pub size : g.size ≡ 0
   pub sample : g.sample ≡ row
   pub parts : g.parts.items ≡ map (part_of []) asked
@@ -80,9 +83,9 @@ pub record IsNew (asked : List AccumulatorKind) (row : List Value) (g : Group) :
   pub told : g.told ≡ None
   pub pushed : g.pushed ≡ false
 
-abbrev pub IsTaken : List AccumulatorKind → List Value → Option Group → Group → Type 0
-IsTaken asked row None g = IsNew asked row g
-IsTaken asked row (Some h) g = g ≡ h
+abbrev pub IsTaken : List AccumulatorKind → List Value → List Value → Option Group → Group → Type 0
+IsTaken asked key row None g = IsNew asked key row g
+IsTaken asked key row (Some h) g = g ≡ h
 
 -- the rows told of some groups
 abbrev pub told_rows : List (List Value × Group) → Counts
@@ -100,18 +103,18 @@ pub record IsSettled (sources : List ItemSource) (old new : Group) (some : Bool)
   pub is : some ≡ is_some new.told
 
 -- a row may come or go where such a group is, or where there is none; one that lacks a value is among as many
-abbrev pub CanChangeAt : List AccumulatorKind → Change → Option Group → ℕ → Type 0
-CanChangeAt asked c at lacking = (g : Group) → IsTaken asked c.row at g → (g.size < 2 ^ 63) × (c.plus ≡ false → 1 ≤ g.size) × (g.lacks ≡ true → 1 ≤ lacking)
+abbrev pub CanChangeAt : List AccumulatorKind → Change → List Value → Option Group → ℕ → Type 0
+CanChangeAt asked c key at lacking = (g : Group) → IsTaken asked key c.row at g → (g.size < 2 ^ 63) × (c.plus ≡ false → 1 ≤ g.size) × (g.lacks ≡ true → 1 ≤ lacking)
 
 -- a row came or went in the group of its key, which waits: the groups of other keys, and what was told of each, are as they were
 pub record IsChangedAt (asked : List AccumulatorKind) (c : Change) (key : List Value) (old new : List (List Value × Group)) (left more : List (List Value)) (before after : ℕ) : Type 0 where
   pub was : Group
   pub now : Group
-  pub taken : IsTaken asked c.row (at_key key old) was
+  pub taken : IsTaken asked key c.row (at_key key old) was
   pub turned : IsChangedGroup c (record was { pushed = true }) now
   pub looks : (q : List Value) → at_key q new ≡ (if is_eq (row_cmp key q) then Some now else at_key q old)
   pub told : (q : List Value) → count q (told_rows new) ≡ count q (told_rows old)
-  pub waits : more ≡ (if was.pushed then left else left ++ key ∷ [])
+  pub waits : more ≡ (if was.pushed then left else left ++ was.key ∷ [])
   pub counted : after + one_if was.lacks ≡ before + one_if now.lacks
 
 -- the groups of the port's bag, and the bag that was told of them
@@ -138,10 +141,10 @@ abbrev pub TellsGroups : Shape → Counts → Counts → List Change → List Ch
 TellsGroups shape told after before out = (changes : List Change) × (out ≡ before ++ changes) × AreTold shape told after changes
 
 -- a group after one of its rows came or went: its key waits, and so many lack a value
-abbrev pub IsChangedOne : Change → List Value → Group → Group → List (List Value) → List (List Value) → ℕ → ℕ → Type 0
-IsChangedOne c key old new left more before after = record {
+abbrev pub IsChangedOne : Change → Group → Group → List (List Value) → List (List Value) → ℕ → ℕ → Type 0
+IsChangedOne c old new left more before after = record {
   group : IsChangedGroup c (record old { pushed = true }) new;
-  touched : more ≡ (if old.pushed then left else left ++ key ∷ []);
+  touched : more ≡ (if old.pushed then left else left ++ old.key ∷ []);
   lacking : after + one_if old.lacks ≡ before + one_if new.lacks;
 }
 

@@ -22,14 +22,14 @@ use Rattle.cql_groups.specs.declared.layout.Layout.{Layout}
 
 -- ---- what items ask
 
--- the place of a column; 0 of another expression
-abbrev pub place_step : Expr-F ℕ → ℕ
-place_step (Expr-F.Column at) = at
-place_step (Expr-F.Constant v) = 0
-place_step (Expr-F.Binary op a b) = 0
+-- the index of a column; 0 of another expression
+abbrev pub index_step : Expr-F ℕ → ℕ
+index_step (Expr-F.Column at) = at
+index_step (Expr-F.Constant v) = 0
+index_step (Expr-F.Binary op a b) = 0
 
-unfoldable pub place_in : Expr → ℕ
-place_in = fold-Expr ℕ place_step
+unfoldable pub column_in : Expr → ℕ
+column_in = fold-Expr ℕ index_step
 
 -- SUM asks the sum of its column, MIN and MAX its values
 abbrev pub asks : Item → Option AccumulatorKind
@@ -56,18 +56,18 @@ AreApart (x ∷ xs) = AllByRecursion (λ y. y ≢ x) xs × AreApart xs
 abbrev pub IsAskedIn : List Item → AccumulatorKind → Type 0
 IsAskedIn items one = (x : Item) × Contains items x × (asks x ≡ Some one)
 
--- the source of an item: the place of its column, or that of what it asks
+-- the source of an item: the index of its column, or that of what it asks
 abbrev pub IsSourceOf : List AccumulatorKind → Item → ItemSource → Type 0
-IsSourceOf asked (i.Value x) (s.Column at) = at ≡ place_in x
+IsSourceOf asked (i.Value x) (s.Column at) = at ≡ column_in x
 IsSourceOf asked i.Count s.Count = Unit {0}
-IsSourceOf asked (i.Sum at) (s.Sum place) = slice_get asked place ≡ asks (i.Sum at)
-IsSourceOf asked (i.Min at) (s.Least place) = slice_get asked place ≡ asks (i.Min at)
-IsSourceOf asked (i.Max at) (s.Greatest place) = slice_get asked place ≡ asks (i.Max at)
+IsSourceOf asked (i.Sum at) (s.Sum index) = slice_get asked index ≡ asks (i.Sum at)
+IsSourceOf asked (i.Min at) (s.Least index) = slice_get asked index ≡ asks (i.Min at)
+IsSourceOf asked (i.Max at) (s.Greatest index) = slice_get asked index ≡ asks (i.Max at)
 IsSourceOf asked x source = ⊥
 
 -- the sources of some of the items, and what these ask: nothing twice, and nothing that no item asks
-pub record AreSources (items seen : List Item) (asked : List AccumulatorKind) (sources : List ItemSource) : Type 0 where
-  pub each : AllZip (IsSourceOf asked) seen sources
+pub record AreSources (items model : List Item) (asked : List AccumulatorKind) (sources : List ItemSource) : Type 0 where
+  pub each : AllZip (IsSourceOf asked) model sources
   pub wanted : AllByRecursion (IsAskedIn items) asked
   pub apart : AreApart asked
 
@@ -91,9 +91,9 @@ values_in _ = []
 abbrev pub source_value : ℕ → List Value → List Accumulator → ItemSource → Option Value
 source_value size sample parts (s.Column at) = slice_get sample at
 source_value size sample parts s.Count = Some (Number (pos size))
-source_value size sample parts (s.Sum place) = sum_in (slice_get parts place)
-source_value size sample parts (s.Least place) = first_of (values_in (slice_get parts place))
-source_value size sample parts (s.Greatest place) = last_of (values_in (slice_get parts place))
+source_value size sample parts (s.Sum index) = sum_in (slice_get parts index)
+source_value size sample parts (s.Least index) = first_of (values_in (slice_get parts index))
+source_value size sample parts (s.Greatest index) = last_of (values_in (slice_get parts index))
 
 abbrev pub row_of_parts : List ItemSource → ℕ → List Value → List Accumulator → Option (List Value)
 row_of_parts sources size sample parts = all_of (map (source_value size sample parts) sources)

@@ -2,7 +2,7 @@
 ghost use Rattle.std.specs.Prelude.{◌≡◌, Some, slice_get, IfOk, IfSome, OnOk};
 ghost use Rattle.std.specs.List.{AllByRecursion};
 ghost use Rattle.cql_groups.specs.Keyed.{IsKeyed};
-ghost use Rattle.cql_groups.specs.Layouts.{place_in, asks, IsOther, IsGrownBy, IsSourceOf, IsLayout};
+ghost use Rattle.cql_groups.specs.Layouts.{column_in, asks, IsOther, IsGrownBy, IsSourceOf, IsLayout};
 
 use crate::accumulator::AccumulatorKind;
 use cql_plain::copy_of_shape;
@@ -11,7 +11,7 @@ use cql_value::Items;
 use std::alloc::{AllocError, Global};
 
 /// Where the value of an item is found: in a column of the group's rows, in how many there are, or
-/// in the part at a place.
+/// in the part at an index.
 #[derive(Clone, Copy)]
 pub(crate) enum ItemSource {
     Column(usize),
@@ -38,20 +38,20 @@ impl Drop for Layout {
     }
 }
 
-// The place of a column.
-#[tactic(auto, unfolding(crate::specs::Layouts::place_in))]
-fn place_in(expr: &Expr) -> usize
-    ensures { result ≡ place_in expr.now }
+// The index of a column.
+#[tactic(auto, unfolding(crate::specs::Layouts::column_in))]
+fn column_in(expr: &Expr) -> usize
+    ensures { result ≡ column_in expr.now }
 {
     match expr {
-        Expr::Column(place) => *place,
+        Expr::Column(column) => *column,
         _ => 0,
     }
 }
 
 // Where it stands.
 fn found(asked: &[AccumulatorKind], one: AccumulatorKind) -> Option<usize>
-    ensures place { IfSome result (λ at. slice_get asked.now at ≡ Some one) }
+    ensures index { IfSome result (λ at. slice_get asked.now at ≡ Some one) }
     ensures none { result ≡ None → AllByRecursion (IsOther one) asked.now }
 {
     for i in 0..asked.len() {
@@ -63,16 +63,16 @@ fn found(asked: &[AccumulatorKind], one: AccumulatorKind) -> Option<usize>
 }
 
 // Where it stands, put at the end if it isn't there.
-fn place_of(one: AccumulatorKind, asked: &mut Vec<AccumulatorKind>) -> Result<usize, AllocError>
-    ensures place { IfOk result (λ at. slice_get asked.new.items at ≡ Some one) }
+fn index_of(one: AccumulatorKind, asked: &mut Vec<AccumulatorKind>) -> Result<usize, AllocError>
+    ensures index { IfOk result (λ at. slice_get asked.new.items at ≡ Some one) }
     ensures grown { OnOk result (IsGrownBy (Some one) asked.old.items asked.new.items) }
 {
-    if let Some(place) = found(asked.as_slice(), one) {
-        return Ok(place);
+    if let Some(index) = found(asked.as_slice(), one) {
+        return Ok(index);
     }
-    let place = asked.len();
+    let index = asked.len();
     asked.push(one)?;
-    Ok(place)
+    Ok(index)
 }
 
 // Where the item finds its value; what it asks is put at the end if it isn't there.
@@ -81,14 +81,14 @@ fn source_of(item: &Item, asked: &mut Vec<AccumulatorKind>) -> Result<ItemSource
     ensures grown { OnOk result (IsGrownBy (asks item.now) asked.old.items asked.new.items) }
 {
     match item {
-        Item::Value(expr) => Ok(ItemSource::Column(place_in(expr))),
+        Item::Value(expr) => Ok(ItemSource::Column(column_in(expr))),
         Item::Count => Ok(ItemSource::Count),
-        Item::Sum(column) => Ok(ItemSource::Sum(place_of(AccumulatorKind::Sum(*column), asked)?)),
-        Item::Min(column) => Ok(ItemSource::Least(place_of(
+        Item::Sum(column) => Ok(ItemSource::Sum(index_of(AccumulatorKind::Sum(*column), asked)?)),
+        Item::Min(column) => Ok(ItemSource::Least(index_of(
             AccumulatorKind::Values(*column),
             asked,
         )?)),
-        Item::Max(column) => Ok(ItemSource::Greatest(place_of(
+        Item::Max(column) => Ok(ItemSource::Greatest(index_of(
             AccumulatorKind::Values(*column),
             asked,
         )?)),

@@ -3,8 +3,8 @@
 #![tactic(auto)]
 
 mod accumulator;
+mod group;
 mod group_shape;
-mod grouped;
 mod keyed_shape;
 mod layout;
 mod row;

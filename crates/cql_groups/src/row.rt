@@ -85,9 +85,9 @@ impl ItemSource {
         match self {
             ItemSource::Column(column) => copy_of(alloc, at(sample.values(), *column)),
             ItemSource::Count => Ok(Some(Value::Number(size as i64))),
-            ItemSource::Sum(place) => Ok(sum_in(at(parts, *place))),
-            ItemSource::Least(place) => copy_of(alloc, least(at(parts, *place))),
-            ItemSource::Greatest(place) => copy_of(alloc, greatest(at(parts, *place))),
+            ItemSource::Sum(index) => Ok(sum_in(at(parts, *index))),
+            ItemSource::Least(index) => copy_of(alloc, least(at(parts, *index))),
+            ItemSource::Greatest(index) => copy_of(alloc, greatest(at(parts, *index))),
         }
     }
 }
@@ -103,7 +103,7 @@ pub(crate) fn row_of_parts(
     requires { size < 2 ^ 63 }
     ensures { IfOk result (λ r. r ≡ row_of_parts sources.now size sample.now parts.now) }
 {
-    let mut values = Vec::new(alloc);
+    let mut values = Vec::with_capacity(alloc, sources.len())?;
     for source in sources {
         match source.value(alloc, size, sample, parts)? {
             Some(value) => values.push(value)?,

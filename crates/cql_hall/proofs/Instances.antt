@@ -7,8 +7,8 @@ use Rattle.cql_value.specs.Named.{same_name}
 use Rattle.cql_core.specs.declared.command.Command.{Command}
 use Rattle.cql_core.specs.declared.command.Command.TheVariants.{Stream}
 use Rattle.cql_core.specs.declared.refusal.Refusal.TheVariants.{StreamExists}
-use Rattle.cql_core.specs.Told.{Told, Done, Refused, Says}
-use Rattle.cql_core.specs.Machine.{opening}
+use Rattle.cql_core.specs.ReplyModel.{ReplyModel, Done, Refused}
+use Rattle.cql_core.specs.Machine.{opening, Says}
 use Rattle.cql_core.specs.declared.mark.Mark.TheVariants as mark
 use Rattle.cql_core.specs.Journal.{IsJournal}
 use Rattle.cql_hall.specs.Audit.{Journal, Heard, LeavesFree, Agrees, AllAgree, FirstFails}
@@ -30,7 +30,7 @@ journal = record {
 }
 
 -- the receipt of a call of the tenant
-abbrev receipt : Option ℕ → Told → Heard
+abbrev receipt : Option ℕ → ReplyModel → Heard
 receipt place told = record { caller = 0; place = place; call = record { tenant = 0; command = make; reply = Says told } }
 
 abbrev receipts : List Heard

@@ -1,6 +1,6 @@
 pub mod Goes
 pub mod Crosses
-pub mod Places
+pub mod Lookups
 pub mod Claiming
 pub mod Receipts
 pub mod Calls

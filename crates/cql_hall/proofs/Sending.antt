@@ -7,15 +7,14 @@ use Rattle.std.proofs.lemmas.Bool.Decides.{nat_tests}
 use Rattle.std.proofs.lemmas.List.{append-nil, map-append, map-set, length-map, get_or-set_same, get_or-set_other}
 use Rattle.std.proofs.lemmas.List.Elements.{All-nil, All-cons, All-head, All-tail, All-append, All-push, All-weaker, All-contains, Contains-push, Contains-append_left, filter-append}
 use Rattle.std.proofs.lemmas.Option.{slice_get_within, get_or_from_slice_get}
-use Rattle.cql_core.specs.Told.{Stepped}
-use Rattle.cql_core.specs.Machine.{State, opening}
+use Rattle.cql_core.specs.Machine.{State, opening, Stepped}
 use Rattle.cql_core.specs.Journal.{Noted}
 use Rattle.cql_hall.specs.Audit.{Journal, Heard, is_want}
 use Rattle.cql_hall.specs.Alone.{IsToldAlone, alone_before, HoldsAlone, AgreesAlone, FirstFailsAlone}
 use Rattle.cql_hall.specs.Tells.{told_to, replayed_alone}
 use Rattle.cql_hall.specs.Tracks.{is_at}
 use Rattle.cql_hall.specs.Sent.{Sent, sent_of, is_sent, sent_by, IsTold, is_before, FailsFirst, IsWithin, MissesFirst, numbers_at, AreNumbers, Replies, FailsAmong}
-use Rattle.cql_hall.proofs.Places.{get_within, get_map}
+use Rattle.cql_hall.proofs.Lookups.{get_within, get_map}
 use Rattle.cql_hall.proofs.Telling.{told_here}
 
 -- RECEIPTS THAT WERE SENT

@@ -2,8 +2,7 @@
 use Rattle.std.proofs.Common.{◌≡◌, ℕ, Bool, true, false, ◌&&◌, ◌||◌, not, ◌==◌, List, [], ◌∷◌, ◌++◌, take, refl, ap, ◌∙◌, sym, subst, arith}
 use Rattle.std.specs.Prelude.{Some, None, IsSomeAnd, slice_get, if◌then◌else◌}
 use Rattle.std.proofs.lemmas.Bool.Decides.{nat_tests}
-use Rattle.cql_core.specs.Told.{Stepped}
-use Rattle.cql_core.specs.Machine.{State, opening, state_after}
+use Rattle.cql_core.specs.Machine.{State, opening, state_after, Stepped}
 use Rattle.cql_core.specs.Cql.{cql}
 use Rattle.cql_core.specs.Prepared.{is_on_query}
 use Rattle.cql_core.specs.Journal.{Noted, is_unsent, after, replayed}

@@ -1,7 +1,7 @@
 -- What an audit of one tenant asks of its receipts, and the number of the first that fails.
 use Rattle.std.specs.Prelude.{◌≡◌, ℕ, ◌+◌, ◌<◌, Bool, true, ◌&&◌, ◌==◌, not, List, [], ◌∷◌, ◌++◌, map, filter, Option, Some, None, IfSome, IsSomeAnd, All, Contains, ◌⊎◌, slice_get, slice_index_or, if◌then◌else◌, nat_lt}
 use Rattle.std.specs.Borrow.{Bor}
-use Rattle.cql_core.specs.Told.{Stepped}
+use Rattle.cql_core.specs.Machine.{Stepped}
 use Rattle.cql_core.specs.Steps.{answered_by}
 use Rattle.cql_hall.specs.declared.hall.Receipt.{Receipt}
 use Rattle.cql_hall.specs.Audit.{Journal, Called, Heard, is_want}
@@ -54,6 +54,10 @@ pub record MissesFirst (count : ℕ) (sent : List Sent) (first : Option ℕ) : T
 abbrev pub numbers_at : ℕ → ℕ → List Sent → List ℕ
 numbers_at place number [] = []
 numbers_at place number (s ∷ sent) = (if is_at place s.place then number ∷ [] else []) ++ numbers_at place (number + 1) sent
+
+-- behind the numbers of the receipt's place, if it has one of the first so many, comes its own
+abbrev pub AddsNumber : ℕ → Option ℕ → ℕ → List (List ℕ) → List (List ℕ) → Type 0
+AddsNumber count at number old new = (place : ℕ) → place < count → slice_index_or new place [] ≡ slice_index_or old place [] ++ (if is_at place at then number ∷ [] else [])
 
 -- these are the numbers by place
 abbrev pub AreNumbers : ℕ → List Sent → List (List ℕ) → Type 0

@@ -1,7 +1,6 @@
 -- What a journal's replay tells a tenant, entry by entry, where the others' commands on queries are left out.
 use Rattle.std.specs.Prelude.{ℕ, ◌&&◌, ◌==◌, not, List, [], ◌∷◌, Option, None, if◌then◌else◌}
-use Rattle.cql_core.specs.Told.{Stepped}
-use Rattle.cql_core.specs.Machine.{State}
+use Rattle.cql_core.specs.Machine.{State, Stepped}
 use Rattle.cql_core.specs.Prepared.{is_on_query}
 use Rattle.cql_core.specs.Journal.{Noted, after}
 use Rattle.cql_hall.specs.Audit.{told}

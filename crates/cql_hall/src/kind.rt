@@ -2,7 +2,7 @@
 use cql_core::Command;
 
 /// What a command is, without its fields.
-#[derive(Clone, Copy, Debug, PartialEq, Eq)]
+#[derive(Clone, Copy, PartialEq, Eq)]
 pub enum Kind {
     Stream,
     Grant,
@@ -47,8 +47,8 @@ impl Kind {
         }
     }
 
-    /// Its place among all, of which 0 is the first.
-    pub fn place(self) -> usize {
+    /// Its index among all, of which 0 is the first.
+    pub fn index(self) -> usize {
         self as usize
     }
 

@@ -29,13 +29,13 @@ use std::alloc::Global;
 /// a list for each entry. No step is kept.
 pub fn audit_alone(
     alloc: Global,
-    table: TenantTable,
+    table: &TenantTable,
     entries: &[Entry],
     tenant: TenantId,
     receipts: &[Vec<Receipt>],
 ) -> Result<(), AuditError>
-    ensures audits { AuditsAlone tenant (record { table = table; entries = map noted entries.now }) (in_order 0 (map (λ list. list.items) receipts.now)) result }
-    ensures agreed { AllAgree (record { table = table; entries = map noted entries.now }) [] (in_order 0 (map (λ list. list.items) receipts.now)) → IsNoMismatch result }
+    ensures audits { AuditsAlone tenant (record { table = table.now; entries = map noted entries.now }) (in_order 0 (map (λ list. list.items) receipts.now)) result }
+    ensures agreed { AllAgree (record { table = table.now; entries = map noted entries.now }) [] (in_order 0 (map (λ list. list.items) receipts.now)) → IsNoMismatch result }
 {
     let sent = sent_by(alloc, tenant, receipts)?;
     let Some(number) = first_failing(alloc, table, entries, tenant, &sent)? else {
@@ -48,12 +48,12 @@ pub fn audit_alone(
 // The number of the tenant's first receipt that isn't what it is told alone.
 fn first_failing(
     alloc: Global,
-    table: TenantTable,
+    table: &TenantTable,
     entries: &[Entry],
     tenant: TenantId,
     sent: &[&Receipt],
 ) -> Result<Option<usize>, AuditError>
-    ensures ok { IfOk result (λ first. FailsFirst tenant (record { table = table; entries = map noted entries.now }) (map sent_as sent.now) first) }
+    ensures ok { IfOk result (λ first. FailsFirst tenant (record { table = table.now; entries = map noted entries.now }) (map sent_as sent.now) first) }
     ensures err { IfErr result (λ e. e ≡ error.NoMemory) }
 {
     let numbers = by_place(alloc, sent, entries.len())?;

@@ -7,7 +7,7 @@ ghost use Rattle.cql_core.specs.Journal.{is_unsent, after};
 ghost use Rattle.cql_core.specs.Steps.{stepped_of, answered_by};
 ghost use Rattle.cql_hall.specs.Entering.{noted};
 ghost use Rattle.cql_hall.specs.Audit.{called, is_want, told, IsCall};
-ghost use Rattle.cql_hall.specs.Tracks.{claim_seen, AreRight};
+ghost use Rattle.cql_hall.specs.Tracks.{claim_model, AreRight};
 ghost use Rattle.cql_hall.specs.declared.audits.AuditError.TheVariants as error;
 
 use crate::audits::AuditError;
@@ -21,13 +21,13 @@ use std::alloc::Global;
 /// out, and is told nothing. No step is kept.
 pub(crate) fn replay(
     alloc: Global,
-    table: TenantTable,
+    table: &TenantTable,
     entries: &[Entry],
     claims: &[Option<&Receipt>],
 ) -> Result<Vec<bool>, AuditError>
     requires { length claims.now ≡ length entries.now }
     ensures ok { IfOk result (λ right. length right.items ≡ length entries.now) }
-    ensures right { IfOk result (λ right. AreRight (record { table = table; entries = map noted entries.now }) (length entries.now) (map claim_seen claims.now) right.items) }
+    ensures right { IfOk result (λ right. AreRight (record { table = table.now; entries = map noted entries.now }) (length entries.now) (map claim_model claims.now) right.items) }
     ensures err { IfErr result (λ e. e ≡ error.NoMemory) }
 {
     let mut core = Core::new(alloc, table)?;
@@ -46,7 +46,7 @@ fn judge(
     entry: &Entry,
     claim: Option<&Receipt>,
 ) -> Result<bool, AuditError>
-    ensures right { IfOk result (λ right. IfSome (claim_seen claim.entry) (λ call. Decides right (IsCall core.old call (noted entry.now)))) }
+    ensures right { IfOk result (λ right. IfSome (claim_model claim.entry) (λ call. Decides right (IsCall core.old call (noted entry.now)))) }
     ensures core { IfOk result (λ right. core.new ≡ after core.old (noted entry.now)) }
     ensures err { IfErr result (λ e. e ≡ error.NoMemory) }
 {
@@ -68,7 +68,7 @@ fn is_call(entry: &Entry, step: &Option<Step>, receipt: &Receipt) -> bool
 fn is_asked(entry: &Entry, receipt: &Receipt) -> bool
     ensures { Decides result ((entry.now.tenant ≡ receipt.now.tenant) × (arc_value entry.now.prepared ≡ arc_value receipt.now.prepared)) }
 {
-    entry.tenant == receipt.tenant && entry.prepared.is_same(&receipt.prepared)
+    entry.tenant == receipt.tenant && entry.prepared.is_equal(&receipt.prepared)
 }
 
 fn is_told(step: &Option<Step>, reply: &Reply) -> bool

@@ -1,8 +1,7 @@
 // The receipts of one tenant, each under its number in their order, and which of them have a place.
-ghost use Rattle.std.specs.Prelude.{◌≡◌, ℕ, ◌<◌, ◌++◌, ◌∷◌, [], map, vec_len, MatchOption, IfOk, IfErr, OnOk, Some, slice_index_or, if◌then◌else◌};
+ghost use Rattle.std.specs.Prelude.{◌≡◌, ℕ, ◌<◌, ◌++◌, [], map, vec_len, MatchOption, IfOk, IfErr, OnOk, Some};
 ghost use Rattle.cql_hall.specs.Audit.{called, heard, in_order};
-ghost use Rattle.cql_hall.specs.Tracks.{is_at};
-ghost use Rattle.cql_hall.specs.Sent.{sent_as, is_sent, sent_by, IsWithin, MissesFirst, AreNumbers};
+ghost use Rattle.cql_hall.specs.Sent.{sent_as, is_sent, sent_by, IsWithin, MissesFirst, AreNumbers, AddsNumber};
 ghost use Rattle.cql_hall.specs.declared.audits.AuditError.TheVariants as error;
 
 use crate::audits::AuditError;
@@ -97,7 +96,8 @@ fn add_number(
     number: usize,
 ) -> Result<(), AuditError>
     ensures room { vec_len numbers.new ≡ vec_len numbers.old }
-    ensures ok { OnOk result ((place : ℕ) → place < vec_len numbers.old → slice_index_or (map (λ list. list.items) numbers.new.items) place [] ≡ slice_index_or (map (λ list. list.items) numbers.old.items) place [] ++ (if is_at place receipt.now.place then number ∷ [] else [])) }
+    ensures ok { OnOk result (AddsNumber (vec_len numbers.old) receipt.now.place number
+        (map (λ list. list.items) numbers.old.items) (map (λ list. list.items) numbers.new.items)) }
     ensures err { IfErr result (λ e. e ≡ error.NoMemory) }
 {
     let Some(place) = place_in(receipt, numbers.len()) else {

@@ -12,8 +12,13 @@ use std::time::Clock;
 
 // The place at which an audit of one tenant alone fails.
 fn failing_alone(alloc: Global, ran: &Ran, tenant: TenantId) -> Result<Option<u64>, Unmade> {
-    let table = ran.ended.table.try_clone(alloc)?;
-    match audit_alone(alloc, table, &ran.ended.entries, tenant, &ran.lists) {
+    match audit_alone(
+        alloc,
+        &ran.ended.table,
+        &ran.ended.entries,
+        tenant,
+        &ran.lists,
+    ) {
         Ok(()) => Ok(None),
         Err(AuditError::Mismatch { place }) => Ok(Some(place)),
         Err(AuditError::NoMemory) => Err(Unmade::NoMemory),

@@ -34,7 +34,7 @@ const CALLS: Meeting = Meeting {
 };
 
 // The place at which an audit over the table fails.
-fn failing(alloc: Global, table: TenantTable, ran: &Ran) -> Result<Option<u64>, Unmade> {
+fn failing(alloc: Global, table: &TenantTable, ran: &Ran) -> Result<Option<u64>, Unmade> {
     match audit(alloc, table, &ran.ended.entries, &ran.lists) {
         Ok(()) => Ok(None),
         Err(AuditError::Mismatch { place }) => Ok(Some(place)),
@@ -43,8 +43,7 @@ fn failing(alloc: Global, table: TenantTable, ran: &Ran) -> Result<Option<u64>, 
 }
 
 pub(crate) fn failing_here(alloc: Global, ran: &Ran) -> Result<Option<u64>, Unmade> {
-    let table = ran.ended.table.try_clone(alloc)?;
-    failing(alloc, table, ran)
+    failing(alloc, &ran.ended.table, ran)
 }
 
 // What is done before an audit.
@@ -81,7 +80,7 @@ fn failing_behind<R: Threads + Wait + Clock + Copy + Sync>(
     let mut ran = meet(rt, alloc, &CALLS)?;
     exchange(&mut ran.lists, twist)?;
     match twist {
-        Twist::Table => failing(alloc, other_table(alloc)?, &ran),
+        Twist::Table => failing(alloc, &other_table(alloc)?, &ran),
         _ => failing_here(alloc, &ran),
     }
 }

@@ -63,7 +63,7 @@ fn put(alloc: Global, core: &mut Core, tenant: TenantId, number: i64) -> Result<
 fn core_of(alloc: Global, text: &str) -> Result<(Core, TenantId), Unmade> {
     let table = many_table(alloc)?;
     let tenant = table.find("a").ok_or(Unmade::Wrong)?;
-    let mut core = Core::new(alloc, table)?;
+    let mut core = Core::new(alloc, &table)?;
     for line in &[STREAM, text, NEXT] {
         let _step = step(alloc, &mut core, tenant, line)?;
     }
@@ -100,8 +100,8 @@ fn give_up<R: Threads + Clock + Sync, O: Operator>(
     flag: &Cancellation,
     pin: Pin,
 ) -> (Warm<O>, bool)
-    requires { IsWarm O.seen_in bench }
-    ensures { IsWarm O.seen_in result.0 }
+    requires { IsWarm O.model_of bench }
+    ensures { IsWarm O.model_of result.0 }
 {
     let done = AtomicBool::new(false);
     let told = &done;
@@ -147,7 +147,7 @@ fn goes_on<R: Threads + Clock + Sync, O: Operator>(
     bench: BenchOf<O>,
     text: &str,
 ) -> Result<bool, Unmade>
-    requires { IsBench O.seen_in bench }
+    requires { IsBench O.model_of bench }
 {
     let (mut core, tenant) = core_of(alloc, text)?;
     let flag = Cancellation::new(alloc)?;

@@ -135,7 +135,7 @@ pub(crate) fn hall(alloc: Global) -> Result<(Hall<Kept>, TenantId), Unmade> {
 }
 
 // Whether a core tells each entry its mark, from the opening of the table.
-fn is_replayed(alloc: Global, table: TenantTable, entries: &[Entry]) -> Result<bool, AllocError> {
+fn is_replayed(alloc: Global, table: &TenantTable, entries: &[Entry]) -> Result<bool, AllocError> {
     let mut core = Core::new(alloc, table)?;
     for entry in entries {
         let step = core.step(alloc, entry.tenant, &entry.prepared);
@@ -179,7 +179,7 @@ fn two_at_once<R: Threads + Wait + Sync>(
     put_by_two(rt, alloc, &hall, &mut one, &mut two)?;
     let count = one.count();
     let Ended { table, entries } = hall.close(&[one, two]).map_err(|_| Unmade::Wrong)?;
-    let is_replayed = is_replayed(alloc, table, &entries)?;
+    let is_replayed = is_replayed(alloc, &table, &entries)?;
     Ok((count, entries.len(), are_all_done(&entries), is_replayed))
 }
 

@@ -1,4 +1,4 @@
--- What stands at a place of a text without escapes.
+-- What stands at an offset of a text without escapes.
 use Rattle.std.proofs.Common.{◌≡◌, ℕ, suc, ◌+◌, ◌-◌, ◌<◌, Bool, true, false, ◌||◌, cond, ◌==◌, List, [], ◌∷◌, ◌++◌, length, take, drop, get_or, Option, Some, None, option_and_then, ◌⊎◌, inl, inr, refl, sym, ap, ap₂, ◌∙◌, subst, add-zero, arith}
 use Rattle.std.specs.Prelude.{IfSome}
 use Rattle.std.proofs.lemmas.Bool.{or_parts, or_cases, not-true, eqb-true, ne_eqb}
@@ -102,6 +102,6 @@ pub number_at : (d : List ℕ) (i stop : ℕ) → i < stop → stop < length d �
     → lex between (drop i d) ≡ token (number (take (stop - i) (drop i d))) ∷ lex between (drop stop d)
 number_at d i stop some within mark number_is =
     let t = drop i d in
-    let place : i + (stop - i) ≡ stop = omega arith in
-    let joined : take (stop - i) t ++ drop stop d ≡ t = ap (λ r. take (stop - i) t ++ r) (sym (drop-drop (stop - i) i d ∙ ap (λ k. drop k d) place)) ∙ take-append-drop (stop - i) t in
+    let sum : i + (stop - i) ≡ stop = omega arith in
+    let joined : take (stop - i) t ++ drop stop d ≡ t = ap (λ r. take (stop - i) t ++ r) (sym (drop-drop (stop - i) i d ∙ ap (λ k. drop k d) sum)) ∙ take-append-drop (stop - i) t in
     read_number t (take (stop - i) t) (drop stop d) joined number_is (ap is_mark (head_at d stop within) ∙ mark)

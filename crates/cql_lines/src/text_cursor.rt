@@ -1,4 +1,4 @@
-// A place in a text, and the lexemes that are written plainly there.
+// An offset in a text, and the lexemes that are written plainly there.
 ghost use Rattle.std.specs.Prelude.{◌≡◌, ◌+◌, ◌≤◌, ◌<◌, ◌∷◌, length, drop, get_or, true, false, Some, IfSome, IsTrue, []};
 ghost use Rattle.std.specs.List.{prefix_len};
 ghost use Rattle.std.specs.Char.{is_ascii_digit};
@@ -10,7 +10,7 @@ ghost use Rattle.cql_lines.specs.Plain.{is_mark};
 
 use std::marker::Model;
 
-/// A place in a text. Contracts see the rest of the text.
+/// An offset in a text. Contracts see the rest of the text.
 #[derive(Drop)]
 pub(crate) struct TextCursor<'a> {
     text: &'a str,
@@ -28,14 +28,14 @@ impl<'a> Model for TextCursor<'a> {
     ghost invariant = { λ c. IsUtf8 c.text.now × (c.at ≤ length c.text.now) };
 }
 
-// The byte at a place, or a space past the end.
+// The byte at an offset, or a space past the end.
 fn byte_at(text: &[u8], at: usize) -> u8
     ensures { result ≡ head (drop at text.now) }
 {
     if at < text.len() { text[at] } else { b' ' }
 }
 
-// The first byte that isn't plain text of a string, from a place on.
+// The first byte that isn't plain text of a string, from an offset on.
 fn plain_end(text: &[u8], from: usize) -> usize
     requires { from ≤ length text.now }
     ensures value { result ≡ from + prefix_len is_plain (drop from text.now) }
@@ -48,7 +48,7 @@ fn plain_end(text: &[u8], from: usize) -> usize
     i
 }
 
-// The first byte that is no digit, from a place on.
+// The first byte that is no digit, from an offset on.
 fn digits_end(text: &[u8], from: usize) -> usize
     requires { from ≤ length text.now }
     ensures value { result ≡ from + prefix_len is_ascii_digit (drop from text.now) }
@@ -68,7 +68,7 @@ fn is_mark(byte: u8) -> bool
     byte == b',' || byte == b']' || byte == b'}'
 }
 
-// Where the digits of a whole number end that begin at a place, before a mark.
+// Where the digits of a whole number end that begin at an offset, before a mark.
 fn whole_end(text: &[u8], from: usize) -> Option<usize>
     requires { from ≤ length text.now }
     ensures whole { IfSome result (λ stop. after_whole (drop from text.now) ≡ Some (drop stop text.now)) }
@@ -85,7 +85,7 @@ fn whole_end(text: &[u8], from: usize) -> Option<usize>
     Some(stop)
 }
 
-// Where the number ends that begins at a place, before a mark.
+// Where the number ends that begins at an offset, before a mark.
 fn number_end(text: &[u8], from: usize) -> Option<usize>
     requires { from ≤ length text.now }
     ensures number { IfSome result (λ stop. after_number (drop from text.now) ≡ Some (drop stop text.now)) }

@@ -2,7 +2,7 @@
 ghost use Rattle.std.specs.Prelude.{◌≡◌};
 ghost use Rattle.cql_plan.specs.declared.node.OperatorKind.TheVariants.{Join as join_kind, Shape as shape_kind};
 ghost use Rattle.cql_ops.specs.Bench.{IsBench};
-ghost use Rattle.cql_ops.specs.Mixed.{seen_of};
+ghost use Rattle.cql_ops.specs.Mixed.{mixed_model};
 
 use crate::bench::{BenchOf, BlockOf};
 use crate::cancellation::Cancellation;
@@ -34,7 +34,7 @@ impl<J: Drop, S: Drop> Drop for Mixed<J, S> {
 }
 
 impl<J: Operator, S: Operator> Operator for Mixed<J, S> {
-    ghost seen_in = { seen_of J.seen_in S.seen_in };
+    ghost model_of = { mixed_model J.model_of S.model_of };
 
     fn kind(&self) -> OperatorKind {
         match self {
@@ -97,9 +97,9 @@ pub fn mixed_bench<J: Operator, S: Operator>(
     joins: (J, J),
     shapes: (S, S),
 ) -> BenchOf<Mixed<J, S>>
-    requires joins { ((J.seen_in joins.0).kind ≡ join_kind) × ((J.seen_in joins.1).kind ≡ join_kind) }
-    requires shapes { ((S.seen_in shapes.0).kind ≡ shape_kind) × ((S.seen_in shapes.1).kind ≡ shape_kind) }
-    ensures { IsBench (seen_of J.seen_in S.seen_in) result }
+    requires joins { ((J.model_of joins.0).kind ≡ join_kind) × ((J.model_of joins.1).kind ≡ join_kind) }
+    requires shapes { ((S.model_of shapes.0).kind ≡ shape_kind) × ((S.model_of shapes.1).kind ≡ shape_kind) }
+    ensures { IsBench (mixed_model J.model_of S.model_of) result }
 {
     let (left_join, right_join) = joins;
     let (left_shape, right_shape) = shapes;

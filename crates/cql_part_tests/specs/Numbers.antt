@@ -6,7 +6,7 @@ use Rattle.cql_bag.specs.declared.change.Change.{Change}
 use Rattle.cql_plan.specs.declared.node.Node.{Node}
 use Rattle.cql_plan.specs.Node.{kind_of_node, port_columns}
 use Rattle.cql_plan.specs.declared.node.OperatorKind.TheVariants.{Shape}
-use Rattle.cql_ops.specs.Seen.{Seen}
+use Rattle.cql_ops.specs.OperatorModel.{OperatorModel}
 
 -- the node of a shape of one number
 pub record IsOfNumbers (n : Node) : Type 0 where
@@ -14,7 +14,7 @@ pub record IsOfNumbers (n : Node) : Type 0 where
   pub columns : port_columns n ≡ (Number ∷ []) ∷ []
 
 -- an operator that was started with such a node
-pub record HasNumbers (s : Seen) : Type 0 where
+pub record HasNumbers (s : OperatorModel) : Type 0 where
   pub kind : s.kind ≡ Shape
   pub columns : port_columns s.node ≡ (Number ∷ []) ∷ []
   pub ports : length s.ports ≡ 1

@@ -7,7 +7,7 @@ use Rattle.cql_bag.specs.declared.change.Change.{Change}
 use Rattle.cql_plan.specs.declared.node.Node.{Node}
 use Rattle.cql_plan.specs.Node.{kind_of_node, port_columns, port_count}
 use Rattle.cql_plan.specs.declared.node.OperatorKind.TheVariants.{Join}
-use Rattle.cql_ops.specs.Seen.{Seen}
+use Rattle.cql_ops.specs.OperatorModel.{OperatorModel}
 
 abbrev pub two_numbers : List (List ColumnType)
 two_numbers = (Number ∷ []) ∷ (Number ∷ []) ∷ []
@@ -19,7 +19,7 @@ pub record IsOfPairs (n : Node) : Type 0 where
   pub many : port_count n ≡ 2
 
 -- an operator that was started with such a node
-pub record HasPairs (s : Seen) : Type 0 where
+pub record HasPairs (s : OperatorModel) : Type 0 where
   pub kind : s.kind ≡ Join
   pub columns : port_columns s.node ≡ two_numbers
   pub ports : length s.ports ≡ 2

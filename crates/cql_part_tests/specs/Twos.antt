@@ -7,7 +7,7 @@ use Rattle.cql_bag.specs.declared.change.Change.{Change}
 use Rattle.cql_plan.specs.declared.node.Node.{Node}
 use Rattle.cql_plan.specs.Node.{kind_of_node, port_columns, port_count}
 use Rattle.cql_plan.specs.declared.node.OperatorKind.TheVariants.{Join}
-use Rattle.cql_ops.specs.Seen.{Seen}
+use Rattle.cql_ops.specs.OperatorModel.{OperatorModel}
 
 abbrev pub two : List ColumnType
 two = Number ∷ Number ∷ []
@@ -19,7 +19,7 @@ pub record IsOfTwos (n : ℕ) (node : Node) : Type 0 where
   pub many : port_count node ≡ n
 
 -- an operator that was started with such a node
-pub record HasTwos (n : ℕ) (s : Seen) : Type 0 where
+pub record HasTwos (n : ℕ) (s : OperatorModel) : Type 0 where
   pub kind : s.kind ≡ Join
   pub columns : port_columns s.node ≡ replicate n two
   pub ports : length s.ports ≡ n

@@ -69,11 +69,11 @@ fn numbers(alloc: Global, from: i64, to: i64) -> Result<Vec<Change>, AllocError>
 // The rows come one after another.
 #[tactic(auto, using(crate::proofs::Numbers::can_push, crate::proofs::Numbers::has_pushed))]
 fn push_all<O: Operator>(op: &mut O, changes: &[Change]) -> Result<(), OpError>
-    requires held { HasNumbers (O.seen_in op.old) }
+    requires held { HasNumbers (O.model_of op.old) }
     requires rows { All IsNumber changes.now }
-    ensures held { OnOk result (HasNumbers (O.seen_in op.new)) }
-    ensures kind { (O.seen_in op.new).kind ≡ shape_kind }
-    ensures stopped { OnErr result ((O.seen_in op.new).running ≡ false) }
+    ensures held { OnOk result (HasNumbers (O.model_of op.new)) }
+    ensures kind { (O.model_of op.new).kind ≡ shape_kind }
+    ensures stopped { OnErr result ((O.model_of op.new).running ≡ false) }
 {
     for change in changes {
         op.push(0, change)?;
@@ -84,10 +84,10 @@ fn push_all<O: Operator>(op: &mut O, changes: &[Change]) -> Result<(), OpError>
 // The row comes so many times.
 #[tactic(auto, using(crate::proofs::Numbers::can_push, crate::proofs::Numbers::has_pushed))]
 fn push_often<O: Operator>(op: &mut O, change: &Change, times: u64) -> Result<(), OpError>
-    requires held { HasNumbers (O.seen_in op.old) }
+    requires held { HasNumbers (O.model_of op.old) }
     requires row { IsNumber change.now }
-    ensures held { OnOk result (HasNumbers (O.seen_in op.new)) }
-    ensures kind { (O.seen_in op.new).kind ≡ shape_kind }
+    ensures held { OnOk result (HasNumbers (O.model_of op.new)) }
+    ensures kind { (O.model_of op.new).kind ≡ shape_kind }
 {
     for _ in 0..times {
         op.push(0, change)?;
@@ -105,11 +105,11 @@ fn tell_often<O: Operator>(
     times: u64,
     out: &mut Vec<Change>,
 ) -> Result<(), OpError>
-    requires kind { (O.seen_in op.old).kind ≡ shape_kind }
+    requires kind { (O.model_of op.old).kind ≡ shape_kind }
     requires node { IsOfNumbers node.now }
     requires rows { All IsNumber changes.now }
     requires one { IsNumber one.now }
-    ensures { (O.seen_in op.new).kind ≡ shape_kind }
+    ensures { (O.model_of op.new).kind ≡ shape_kind }
 {
     op.start(node, 1000)?;
     push_all(op, changes)?;
@@ -125,7 +125,7 @@ fn tell_each<O: Operator>(
     changes: &[Change],
     out: &mut Vec<Change>,
 ) -> Result<(), OpError>
-    requires kind { (O.seen_in op.old).kind ≡ shape_kind }
+    requires kind { (O.model_of op.old).kind ≡ shape_kind }
     requires node { IsOfNumbers node.now }
     requires rows { All IsNumber changes.now }
 {
@@ -146,12 +146,12 @@ fn tell_twice<O: Operator>(
     more: &Change,
     out: &mut Vec<Change>,
 ) -> Result<(), OpError>
-    requires kind { (O.seen_in op.old).kind ≡ shape_kind }
+    requires kind { (O.model_of op.old).kind ≡ shape_kind }
     requires node { IsOfNumbers node.now }
     requires rows { All IsNumber changes.now }
     requires more { IsNumber more.now }
-    ensures kind { (O.seen_in op.new).kind ≡ shape_kind }
-    ensures stopped { OnErr result ((O.seen_in op.new).running ≡ false) }
+    ensures kind { (O.model_of op.new).kind ≡ shape_kind }
+    ensures stopped { OnErr result ((O.model_of op.new).running ≡ false) }
 {
     op.start(node, 1000)?;
     push_all(op, changes)?;
@@ -162,8 +162,8 @@ fn tell_twice<O: Operator>(
 
 // Whether it answers that it has to be started.
 fn is_spent<O: Operator>(op: &mut O, change: &Change, out: &mut Vec<Change>) -> bool
-    requires { (O.seen_in op.old).running ≡ false }
-    ensures { (O.seen_in op.new).kind ≡ (O.seen_in op.old).kind }
+    requires { (O.model_of op.old).running ≡ false }
+    ensures { (O.model_of op.new).kind ≡ (O.model_of op.old).kind }
 {
     op.push(0, change) == Err(OpError::Spent) && op.emit(out) == Err(OpError::Spent)
 }
@@ -226,7 +226,7 @@ fn are_told(out: &[Change]) -> bool {
 // Whether each of a hundred groups is told, and then the one that has a row more. A shape that had no
 // memory has to be started, and then tells.
 fn tells_one_anew<O: Operator>(alloc: Global, op: &mut O) -> Result<bool, OpError>
-    requires { (O.seen_in op.old).kind ≡ shape_kind }
+    requires { (O.model_of op.old).kind ≡ shape_kind }
 {
     let node = node_at_last(alloc)?;
     let hundred = numbers_at_last(alloc, 1, 101)?;
@@ -258,7 +258,7 @@ fn one_group_is_computed_anew(rt: HostRuntime) -> Result<(), Fail> {
 
 // How many rows are told of 4,000 groups, of which one has 6,001 rows, and whether that is told.
 fn tells_many<O: Operator>(alloc: Global, op: &mut O) -> Result<(usize, bool), OpError>
-    requires { (O.seen_in op.old).kind ≡ shape_kind }
+    requires { (O.model_of op.old).kind ≡ shape_kind }
 {
     let node = counts_by_number(alloc)?;
     let many = numbers(alloc, 0, 4000)?;
@@ -307,7 +307,7 @@ fn is_of_all(change: &Change, plus: bool, to: i64, sum: i64) -> bool {
 // How many rows are told of one group that goes on a hundred times, and whether its last rows are
 // right.
 fn tells_one<O: Operator>(alloc: Global, op: &mut O) -> Result<(usize, bool), OpError>
-    requires { (O.seen_in op.old).kind ≡ shape_kind }
+    requires { (O.model_of op.old).kind ≡ shape_kind }
 {
     let node = sum_and_ends(alloc)?;
     let hundred = numbers(alloc, 1, 101)?;
@@ -341,10 +341,10 @@ fn tell_under<O: Operator>(
     flag: &Cancellation,
     out: &mut Vec<Change>,
 ) -> Result<(), OpError>
-    requires kind { (O.seen_in op.old).kind ≡ shape_kind }
+    requires kind { (O.model_of op.old).kind ≡ shape_kind }
     requires node { IsOfNumbers node.now }
     requires rows { All IsNumber changes.now }
-    ensures { (O.seen_in op.new).kind ≡ shape_kind }
+    ensures { (O.model_of op.new).kind ≡ shape_kind }
 {
     flag.clear();
     op.start(node, 1000)?;
@@ -356,7 +356,7 @@ fn tell_under<O: Operator>(
 // Whether the operator has no memory where the flag is set behind 1,100 rows, and before them; and
 // else tells as many rows.
 fn gives_up<O: Operator>(alloc: Global, op: &mut O) -> Result<bool, OpError>
-    requires { (O.seen_in op.old).kind ≡ shape_kind }
+    requires { (O.model_of op.old).kind ≡ shape_kind }
 {
     let node = counts_by_number(alloc)?;
     let many = numbers(alloc, 0, 1100)?;

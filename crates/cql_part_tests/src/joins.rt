@@ -65,12 +65,12 @@ fn numbers_at_last(alloc: Global, to: i64) -> Result<Vec<Change>, AllocError>
 // The rows come into a port one after another.
 #[tactic(auto, using(crate::proofs::Pairs::can_push, crate::proofs::Pairs::has_pushed))]
 fn push_all<O: Operator>(op: &mut O, port: usize, changes: &[Change]) -> Result<(), OpError>
-    requires held { HasPairs (O.seen_in op.old) }
+    requires held { HasPairs (O.model_of op.old) }
     requires port { port < 2 }
     requires rows { All IsComing changes.now }
-    ensures held { OnOk result (HasPairs (O.seen_in op.new)) }
-    ensures kind { (O.seen_in op.new).kind ≡ join_kind }
-    ensures stopped { OnErr result ((O.seen_in op.new).running ≡ false) }
+    ensures held { OnOk result (HasPairs (O.model_of op.new)) }
+    ensures kind { (O.model_of op.new).kind ≡ join_kind }
+    ensures stopped { OnErr result ((O.model_of op.new).running ≡ false) }
 {
     for change in changes {
         op.push(port, change)?;
@@ -87,11 +87,11 @@ fn tell_pairs<O: Operator>(
     changes: &[Change],
     out: &mut Vec<Change>,
 ) -> Result<(), OpError>
-    requires kind { (O.seen_in op.old).kind ≡ join_kind }
+    requires kind { (O.model_of op.old).kind ≡ join_kind }
     requires node { IsOfPairs node.now }
     requires rows { All IsComing changes.now }
-    ensures kind { (O.seen_in op.new).kind ≡ join_kind }
-    ensures stopped { OnErr result ((O.seen_in op.new).running ≡ false) }
+    ensures kind { (O.model_of op.new).kind ≡ join_kind }
+    ensures stopped { OnErr result ((O.model_of op.new).running ≡ false) }
 {
     op.start(node, limit)?;
     push_all(op, 0, changes)?;
@@ -107,10 +107,10 @@ fn tell_at_last<O: Operator>(
     changes: &[Change],
     out: &mut Vec<Change>,
 ) -> Result<(), OpError>
-    requires kind { (O.seen_in op.old).kind ≡ join_kind }
+    requires kind { (O.model_of op.old).kind ≡ join_kind }
     requires node { IsOfPairs node.now }
     requires rows { All IsComing changes.now }
-    ensures { (O.seen_in op.new).kind ≡ join_kind }
+    ensures { (O.model_of op.new).kind ≡ join_kind }
 {
     match tell_pairs(op, node, limit, changes, out) {
         Err(OpError::NoMemory) => {
@@ -153,7 +153,7 @@ fn answered<O: Operator>(
     op: &mut O,
     limit: u64,
 ) -> Result<(Result<(), OpError>, bool), AllocError>
-    requires { (O.seen_in op.old).kind ≡ join_kind }
+    requires { (O.model_of op.old).kind ≡ join_kind }
 {
     let node = node_at_last(alloc)?;
     let hundred = numbers_at_last(alloc, 100)?;

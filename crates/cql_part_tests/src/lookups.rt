@@ -155,9 +155,9 @@ fn come<O: Operator>(
     tells: bool,
     out: &mut Vec<Change>,
 ) -> Result<(), OpError>
-    requires held { HasTwos count (O.seen_in op.old) }
-    ensures held { OnOk result (HasTwos count (O.seen_in op.new)) }
-    ensures kind { (O.seen_in op.new).kind ≡ join_kind }
+    requires held { HasTwos count (O.model_of op.old) }
+    ensures held { OnOk result (HasTwos count (O.model_of op.new)) }
+    ensures kind { (O.model_of op.new).kind ≡ join_kind }
 {
     if put.port >= count {
         return Ok(());
@@ -182,9 +182,9 @@ fn run<O: Operator>(
     tells: bool,
     out: &mut Vec<Change>,
 ) -> Result<(), OpError>
-    requires kind { (O.seen_in op.old).kind ≡ join_kind }
+    requires kind { (O.model_of op.old).kind ≡ join_kind }
     requires node { IsOfTwos count node.now }
-    ensures kind { (O.seen_in op.new).kind ≡ join_kind }
+    ensures kind { (O.model_of op.new).kind ≡ join_kind }
 {
     op.start(node, limit)?;
     for put in puts {
@@ -195,8 +195,8 @@ fn run<O: Operator>(
 
 // How many rows the operator tells.
 fn told<O: Operator>(alloc: Global, op: &mut O, case: &Case) -> Result<usize, OpError>
-    requires { (O.seen_in op.old).kind ≡ join_kind }
-    ensures { (O.seen_in op.new).kind ≡ join_kind }
+    requires { (O.model_of op.old).kind ≡ join_kind }
+    ensures { (O.model_of op.new).kind ≡ join_kind }
 {
     let puts = puts_of(alloc, case.rows)?;
     let condition = condition_of(alloc, case.all)?;
@@ -338,7 +338,7 @@ const THREE_TENS: Case = Case {
 
 // Whether the operator has no memory while the flag is set, and else tells a thousand rows.
 fn gives_up<O: Operator>(alloc: Global, op: &mut O, case: &Case) -> Result<bool, OpError>
-    requires { (O.seen_in op.old).kind ≡ join_kind }
+    requires { (O.model_of op.old).kind ≡ join_kind }
 {
     let flag = Cancellation::new(alloc)?;
     op.heed(flag.share()?);

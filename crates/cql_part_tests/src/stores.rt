@@ -4,7 +4,7 @@ ghost use Rattle.cql_store.specs.Next.{FitsWindow};
 
 use cql_chunks::Chunks;
 use cql_store::{Store, StubId};
-use cql_value::{Items, Row, Timed, Value, are_same};
+use cql_value::{Items, Row, Timed, Value, slices_equal};
 use cql_window::{Count, Length, Window, WindowPin};
 use std::alloc::{AllocError, AllocFailed, Global};
 use std::marker::Model;
@@ -195,7 +195,7 @@ fn make_or_same(
     };
     let after = pins_of(alloc, tried, ids)?;
     make(alloc, tried, call)?;
-    Ok(are_same(&before, &after))
+    Ok(slices_equal(&before, &after))
 }
 
 // A row, and each stub goes to the instant after it.
@@ -213,7 +213,7 @@ fn round_or_same(
     Ok(same)
 }
 
-// With one allocation refused, at whatever place, the call that needed it has changed nothing:
+// With one allocation refused, whichever it is, the call that needed it has changed nothing:
 // `rt try --test --fail-alloc` passes here with every number.
 #[test]
 fn a_refused_call(rt: HostRuntime) -> Result<(), Fail> {
@@ -267,8 +267,8 @@ fn is_newest(content: &Chunks, at: u64) -> bool {
     content.len() == 24
 }
 
-// Of many parts one has a row more, and the stub passes it: with one allocation refused, at whatever
-// place, the call that needed it has changed nothing.
+// Of many parts one has a row more, and the stub passes it: with one allocation refused, whichever
+// it is, the call that needed it has changed nothing.
 #[test]
 fn a_refused_ack_of_few_rows(rt: HostRuntime) -> Result<(), Fail> {
     let alloc = rt.alloc();
@@ -315,9 +315,9 @@ fn many_rounds(rt: HostRuntime) -> Result<(), Fail> {
 
 const STUBS: u64 = 301;
 
-// Whether the stub at a place is one of so many, which are spread over all.
-fn is_early(place: usize, few: u64) -> bool {
-    (place as u64 % STUBS * 10) % STUBS < few
+// Whether the stub at an index is one of so many, which are spread over all.
+fn is_early(index: usize, few: u64) -> bool {
+    (index as u64 % STUBS * 10) % STUBS < few
 }
 
 // Stubs of the last instant, each of which may hold two rows.
@@ -331,8 +331,8 @@ fn of_two_rows(alloc: Global, tried: &mut Tried) -> Result<Vec<StubId>, Refused>
 
 // All but so many let go of the row of the first instant.
 fn pass_first(tried: &mut Tried, ids: &[StubId], few: u64) -> Result<(), Refused> {
-    for (place, id) in ids.iter().enumerate() {
-        if !is_early(place, few) {
+    for (index, id) in ids.iter().enumerate() {
+        if !is_early(index, few) {
             tried.go(*id, 2)?;
         }
     }
@@ -341,8 +341,8 @@ fn pass_first(tried: &mut Tried, ids: &[StubId], few: u64) -> Result<(), Refused
 
 // Whether just these live: of so many, and of the others.
 fn are_live(tried: &Tried, ids: &[StubId], few: u64, early: bool, others: bool) -> bool {
-    for (place, id) in ids.iter().enumerate() {
-        let lives = if is_early(place, few) { early } else { others };
+    for (index, id) in ids.iter().enumerate() {
+        let lives = if is_early(index, few) { early } else { others };
         if tried.store.may_advance(*id, 2) != lives {
             return false;
         }

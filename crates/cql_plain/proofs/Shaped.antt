@@ -11,12 +11,12 @@ use Rattle.cql_plan.specs.declared.node.Shape.{Shape}
 use Rattle.cql_plan.specs.Fit.{is_grouped, IsTyped}
 use Rattle.cql_plan.specs.Node.{item_types}
 use Rattle.cql_algebra.specs.PlanLaws.{IsNodeTypesLaw, IsItemTypesLaw, IsChangeTypesLaw}
-use Rattle.cql_algebra.specs.Shape.{items_on, plain_value, grouped_value, shape_value}
+use Rattle.cql_algebra.specs.Shape.{items_on, plain_value, shape_value, groups_value, groups_in}
 use Rattle.cql_algebra.specs.Typed.{HasTypes, AreOf}
 use Rattle.cql_algebra.specs.Value.{or_overflow}
 use Rattle.cql_ops.specs.Clauses.{AreChangesOf, IsFaulty}
 use Rattle.cql_ops.specs.Linear.{with_change, turned_changes, image}
-use Rattle.cql_ops.specs.Seen.{Seen}
+use Rattle.cql_ops.specs.OperatorModel.{OperatorModel}
 use Rattle.cql_ops.specs.declared.error.OpError.{OpError}
 use Rattle.cql_ops.specs.declared.error.OpError.TheVariants.{NoMemory, Overflow}
 use Rattle.cql_plain.specs.Logs.{logged_bag, told_all, told_image, IsTellsLaw}
@@ -26,13 +26,13 @@ use Rattle.cql_plain.specs.declared.projected.Projected.{Projected}
 use Rattle.cql_ops.proofs.ByRow.{whole_value, no_value}
 use Rattle.cql_ops.proofs.Linear.{IsBag-changed_by}
 
-pub of_groups : (shape : Shape) (bag : Counts) → is_grouped shape ≡ true → shape_value shape bag ≡ grouped_value shape bag
+pub of_groups : (shape : Shape) (bag : Counts) → is_grouped shape ≡ true → shape_value shape bag ≡ groups_value shape.items (groups_in shape bag)
 unfolding shape_value
-of_groups shape bag e = ap (λ b. if b then grouped_value shape bag else plain_value shape.items bag) e
+of_groups shape bag e = ap (λ b. if b then groups_value shape.items (groups_in shape bag) else plain_value shape.items bag) e
 
 pub of_rows : (shape : Shape) (bag : Counts) → is_grouped shape ≡ false → shape_value shape bag ≡ plain_value shape.items bag
 unfolding shape_value
-of_rows shape bag e = ap (λ b. if b then grouped_value shape bag else plain_value shape.items bag) e
+of_rows shape bag e = ap (λ b. if b then groups_value shape.items (groups_in shape bag) else plain_value shape.items bag) e
 
 -- ---- pushes
 
@@ -41,7 +41,7 @@ groups_pushed keeps shape port told c row has = record { grouped = has.grouped; 
 
 -- ---- shapes with groups
 
-module _ (types : IsNodeTypesLaw) (shape : Shape) (port told value : Counts) (has : KeepsGroups shape port told) (given : grouped_value shape port ≡ Some value) where
+module _ (types : IsNodeTypesLaw) (shape : Shape) (port told value : Counts) (has : KeepsGroups shape port told) (given : groups_value shape.items (groups_in shape port) ≡ Some value) where
   is : shape_value shape port ≡ Some value
   is = of_groups shape port has.grouped ∙ given
 
@@ -63,7 +63,7 @@ module _ (types : IsNodeTypesLaw) (shape : Shape) (port told value : Counts) (ha
     },
   )
 
-pub groups_fail : (shape : Shape) (port : Counts) (e : OpError) → is_grouped shape ≡ true → (e ≡ NoMemory) ⊎ ((e ≡ Overflow) × (grouped_value shape port ≡ None)) → FailsToShape shape port e
+pub groups_fail : (shape : Shape) (port : Counts) (e : OpError) → is_grouped shape ≡ true → (e ≡ NoMemory) ⊎ ((e ≡ Overflow) × (groups_value shape.items (groups_in shape port) ≡ None)) → FailsToShape shape port e
 groups_fail shape port e g (inl none) = inl none
 groups_fail shape port e g (inr (over, none)) = inr (over, of_groups shape port g ∙ none)
 
@@ -104,7 +104,7 @@ module _ (same : IsSameCountsLaw) (puts : IsPutAllLaw) (takes : IsTakeLaw) (shap
 -- ---- the operator
 
 -- an operator of a shape that runs
-abbrev pub running_shape : Shape → ℕ → Counts → Counts → Seen
+abbrev pub running_shape : Shape → ℕ → Counts → Counts → OperatorModel
 running_shape shape limit port told = record { kind = shape_kind; node = node.Shape shape; limit = limit; ports = port ∷ []; told = told; running = true }
 
 pub faulty : (shape : Shape) (limit : ℕ) (port told : Counts) (e : OpError) → FailsToShape shape port e → IsFaulty (running_shape shape limit port told) e

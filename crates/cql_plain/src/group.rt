@@ -1,5 +1,5 @@
 // The items of a shape on the groups of a bag.
-ghost use Rattle.std.specs.Prelude.{◌≡◌, ◌≤◌, [], ◌∷◌, length, None, IfOk, IsTrue, OnOk};
+ghost use Rattle.std.specs.Prelude.{◌≡◌, ◌≤◌, ◌++◌, [], ◌∷◌, length, None, IfOk, IsTrue, OnOk};
 ghost use Rattle.std.specs.Option.{option_copied, option_map, unwrap_or};
 ghost use Rattle.std.specs.Map.{lookup};
 ghost use Rattle.std.specs.BTreeMap.{is_at, insert_entry};
@@ -15,23 +15,37 @@ use cql_bag::Bag;
 use cql_bag::law::{own_entries, put_all_counts, same_counts};
 use cql_ops::Meter;
 use cql_plan::Item;
-use cql_value::{Row, Same, Value};
+use cql_value::{Equals, Row, Value};
 use sqlite_items::at;
 use std::alloc::{AllocError, Global};
 use std::collections::BTreeMap;
 use std::collections::btree_map::Iter;
 
-/// The values of these columns of a row, in the order of the columns; one that the row lacks is
-/// left out.
-pub fn key(alloc: Global, columns: &[usize], row: &[Value]) -> Result<Row, AllocError>
-    ensures { IfOk result (λ k. k ≡ key_of columns.now row.now) }
+/// The values of these columns of a row go to the end of `values`, in the order of the columns; one
+/// that the row lacks is left out.
+pub fn choose(
+    alloc: Global,
+    columns: &[usize],
+    row: &[Value],
+    values: &mut Vec<Value>,
+) -> Result<(), AllocError>
+    ensures { OnOk result (values.new.items ≡ values.old.items ++ key_of columns.now row.now) }
 {
-    let mut values = Vec::with_capacity(alloc, columns.len())?;
+    values.reserve_exact(columns.len())?;
     for column in columns {
         if let Some(value) = at(row, *column) {
             values.push(value.try_clone(alloc)?)?;
         }
     }
+    Ok(())
+}
+
+/// A row of what `choose` chooses.
+pub fn key(alloc: Global, columns: &[usize], row: &[Value]) -> Result<Row, AllocError>
+    ensures { IfOk result (λ k. k ≡ key_of columns.now row.now) }
+{
+    let mut values = Vec::new(alloc);
+    choose(alloc, columns, row, &mut values)?;
     Row::new(alloc, values)
 }
 
@@ -45,7 +59,7 @@ fn has_key(columns: &[usize], row: &[Value], key: &[Value]) -> bool
             let Some((first, rest)) = left.split_first() else {
                 return false;
             };
-            if !first.is_same(value) {
+            if !first.is_equal(value) {
                 return false;
             }
             left = rest;

@@ -25,26 +25,26 @@ fn item_on(alloc: Global, item: &Item, row: &[Value]) -> Result<Option<Value>, A
     }
 }
 
-// Whether the item is the column at a place.
+// Whether the item is the column of that index.
 #[tactic(auto, unfolding(cql_plan::specs::Expr::expr_value))]
-fn is_column(item: &Item, place: usize) -> bool
-    ensures { IsTrue result → (row : List CqlValue) → item_value row item.now ≡ slice_get row place }
+fn is_column(item: &Item, index: usize) -> bool
+    ensures { IsTrue result → (row : List CqlValue) → item_value row item.now ≡ slice_get row index }
 {
     match item {
-        Item::Value(Expr::Column(column)) => *column == place,
+        Item::Value(Expr::Column(column)) => *column == index,
         _ => false,
     }
 }
 
-// Whether the items are all columns of the row, each at its place.
+// Whether the items are all columns of the row, each at its index.
 fn are_columns(items: &[Item], row: &[Value]) -> bool
     ensures { IsTrue result → items_on items.now row.now ≡ Some row.now }
 {
     if items.len() != row.len() {
         return false;
     }
-    for (place, item) in items.iter().enumerate() {
-        if !is_column(item, place) {
+    for (index, item) in items.iter().enumerate() {
+        if !is_column(item, index) {
             return false;
         }
     }

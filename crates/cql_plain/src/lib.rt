@@ -21,7 +21,7 @@ mod recomputed;
 mod shape;
 mod shape_copy;
 
-pub use group::key;
+pub use group::{choose, key};
 pub use join_copy::copy_of_join;
 pub use once::said_once;
 pub use plain::{PlainOperator, plain_bench};

@@ -4,7 +4,7 @@ ghost use Rattle.cql_plan.specs.declared.node.Item.{Item};
 ghost use Rattle.cql_algebra.specs.Shape.{items_on};
 ghost use Rattle.cql_plain.specs.Made.{AreMade};
 
-use cql_value::{Row, Same};
+use cql_value::{Equals, Row};
 use std::alloc::AllocError;
 use std::collections::VecDeque;
 
@@ -32,7 +32,7 @@ pub(crate) fn taken(kept: &mut VecDeque<Made>, leaves: &Row) -> Option<Row>
     ensures rest { (items : List Item) → AreMade items kept.old.items → AreMade items kept.new.items }
 {
     let Made { came, row } = kept.pop_front()?;
-    if came.is_same(leaves) {
+    if came.is_equal(leaves) {
         Some(row)
     } else {
         None

@@ -1,6 +1,6 @@
 // The bench of the plain operators.
 ghost use Rattle.cql_ops.specs.Bench.{IsBench};
-ghost use Rattle.cql_plain.specs.Plain.{plain_seen};
+ghost use Rattle.cql_plain.specs.Plain.{plain_model};
 
 use crate::plain_join::PlainJoin;
 use crate::plain_shape::PlainShape;
@@ -12,7 +12,7 @@ pub type PlainOperator = Mixed<PlainJoin, PlainShape>;
 
 /// A bench of the plain operators. Takes no memory.
 pub fn plain_bench(alloc: Global) -> BenchOf<PlainOperator>
-    ensures { IsBench plain_seen result }
+    ensures { IsBench plain_model result }
 {
     mixed_bench(
         alloc,

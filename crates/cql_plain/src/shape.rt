@@ -3,7 +3,7 @@ ghost use Rattle.std.specs.Prelude.{◌≡◌, ◌⊎◌, [], ◌∷◌, Some, N
 ghost use Rattle.std.specs.List.{list_any};
 ghost use Rattle.cql_bag.specs.Changes.{Grows};
 ghost use Rattle.cql_plan.specs.Fit.{is_aggregate, is_grouped};
-ghost use Rattle.cql_algebra.specs.Shape.{is_count, all_are, grouped_value, groups_value, key_groups};
+ghost use Rattle.cql_algebra.specs.Shape.{is_count, all_are, groups_in, groups_value, key_groups};
 ghost use Rattle.cql_ops.specs.declared.error.OpError.TheVariants.{NoMemory, Overflow};
 ghost use Rattle.cql_plain.specs.Shaped.{KeepsGroups, TellsShape, FailsToShape};
 
@@ -83,8 +83,8 @@ pub(crate) fn is_grouped(shape: &Shape) -> bool
 
 // The value of a shape with groups.
 fn shape_groups(alloc: Global, shape: &Shape, bag: &Bag, meter: &mut Meter) -> Result<Bag, OpError>
-    ensures ok { IfOk result (λ b. grouped_value shape.now bag.now ≡ Some b) }
-    ensures err { IfErr result (λ e. (e ≡ NoMemory) ⊎ ((e ≡ Overflow) × (grouped_value shape.now bag.now ≡ None))) }
+    ensures ok { IfOk result (λ b. groups_value shape.now.items (groups_in shape.now bag.now) ≡ Some b) }
+    ensures err { IfErr result (λ e. (e ≡ NoMemory) ⊎ ((e ≡ Overflow) × (groups_value shape.now.items (groups_in shape.now bag.now) ≡ None))) }
 {
     if shape.groups.len() != 0 {
         shape_keys(

@@ -18,7 +18,7 @@ use Rattle.cql_plan.specs.declared.source.BlockInput.{BlockInput}
 use Rattle.cql_plan.specs.declared.block.Checked.{Checked}
 use Rattle.cql_plan.specs.Outcome.{Outcome, ◌>>=◌, unless, each}
 use Rattle.cql_plan.specs.Plan.{IsFew}
-use Rattle.cql_plan.specs.Sources.{Readable, source_of, are_apart, joined_row, inputs_of}
+use Rattle.cql_plan.specs.Sources.{SchemaLookup, source_of, are_apart, joined_row, inputs_of}
 use Rattle.cql_plan.specs.Typing.{typing, with_second, block_of, body_of, where_of, group_of, items_of, is_grouped, join_of, checked_of, output_of, same_kinds, alone, combined}
 use Rattle.cql_plan.proofs.Each.{passes}
 
@@ -102,14 +102,14 @@ body_length sources block checked so =
     let same : checked ≡ checked_of block.distinct (inputs_of sources) (join_of sources one.0) (joined_row sources) two.0 three.0 = cc (three.2) in
     ap (λ (c : Checked). length c.inputs) same ∙ length-map sources _
 
-block_length : (readable : Readable) (block : SelectBlock) (checked : Checked) → block_of readable block ≡ Ok checked → length checked.inputs ≡ length block.inputs
+block_length : (readable : SchemaLookup) (block : SelectBlock) (checked : Checked) → block_of readable block ≡ Ok checked → length checked.inputs ≡ length block.inputs
 unfolding block_of
 block_length readable block checked so =
     let one = passes (each (source_of readable) block.inputs) _ checked so in
     let two = passes (unless (are_apart one.0) AmbiguousColumn) _ checked one.2 in
     body_length one.0 block checked two.2 ∙ each_length (source_of readable) block.inputs one.0 one.1
 
-with_few : (readable : Readable) (output : OutputKind) (first : Checked) (second : Option Second) (planned : Planned)
+with_few : (readable : SchemaLookup) (output : OutputKind) (first : Checked) (second : Option Second) (planned : Planned)
     → (1 ≤ length first.inputs) × (length first.inputs ≤ 3) → SecondFew second → with_second readable output first second ≡ Ok planned → IsFew planned
 unfolding with_second
 with_few readable output first None planned few other so =
@@ -126,7 +126,7 @@ with_few readable output first (Some second) planned few other so =
     (omega arith, omega arith)
 
 -- a plan has 1 to 6 inputs
-pub planned_few : (readable : Readable) (query : Query) (planned : Planned) → IsSyntax query → typing readable query ≡ Ok planned → IsFew planned
+pub planned_few : (readable : SchemaLookup) (query : Query) (planned : Planned) → IsSyntax query → typing readable query ≡ Ok planned → IsFew planned
 unfolding typing
 planned_few readable query planned is so =
     let few = syntax_few query is in

@@ -13,9 +13,9 @@ abbrev pub found_list : Option FoundColumn → List FoundColumn
 found_list None = []
 found_list (Some found) = found ∷ []
 
--- the column at this place is the first of those that are left
+-- the column at this index is the first of those that are left
 abbrev pub here : ℕ → Field → FoundColumn
-here place field = record { place = place; kind = field.kind }
+here column field = record { column = column; kind = field.kind }
 
 turn : (q : Option (List ℕ)) (n : List ℕ) (fs : List Field) (i : ℕ) (f : Field) → i < length fs → f ≡ get_or fs i f
     → meant q n i (drop i fs) ≡ (if may_mean q n f then here i f ∷ meant q n (suc i) (drop (suc i) fs) else meant q n (suc i) (drop (suc i) fs))

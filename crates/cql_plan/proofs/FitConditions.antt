@@ -56,8 +56,8 @@ unfolding operand_of
 operand_typed fields (written.Constant constant) t h =
     subst (λ t. operand_type (kinds_of fields) t.operand ≡ Some t.kind) (ok_is (record { operand = operand.Constant (value_of constant); kind = kind_of constant }) t h) (ap (λ k. Some k) (constant_kind constant))
 operand_typed fields (written.Column column) t h =
-    let b = passes (column_of fields column) (λ found. Ok (record { operand = operand.Column found.place; kind = found.kind })) t h in
-    subst (λ t. operand_type (kinds_of fields) t.operand ≡ Some t.kind) (ok_is (record { operand = operand.Column b.0.place; kind = b.0.kind }) t b.2) (column_found fields column b.0 b.1)
+    let b = passes (column_of fields column) (λ found. Ok (record { operand = operand.Column found.column; kind = found.kind })) t h in
+    subst (λ t. operand_type (kinds_of fields) t.operand ≡ Some t.kind) (ok_is (record { operand = operand.Column b.0.column; kind = b.0.kind }) t b.2) (column_found fields column b.0 b.1)
 
 comparison_typed : (fields : List Field) (left : WrittenOperand) (how : Comparison) (right : WrittenOperand) (x : Condition) → comparison_of fields left how right ≡ Ok x → is_typed_condition (kinds_of fields) x ≡ true
 unfolding comparison_of

@@ -65,20 +65,20 @@ each_ok check (x ∷ xs) ys h =
 
 -- ---- columns
 
-meant_at : (qualifier : Option (List ℕ)) (name : List ℕ) (place : ℕ) (fields : List Field) (f : FoundColumn) → Contains (meant qualifier name place fields) f → (k : ℕ) × (f.place ≡ place + k) × (slice_get (kinds_of fields) k ≡ Some f.kind)
+meant_at : (qualifier : Option (List ℕ)) (name : List ℕ) (column : ℕ) (fields : List Field) (f : FoundColumn) → Contains (meant qualifier name column fields) f → (k : ℕ) × (f.column ≡ column + k) × (slice_get (kinds_of fields) k ≡ Some f.kind)
 unfolding meant
-meant_at qualifier name place [] f c = absurd (nothing f c)
-meant_at qualifier name place (field ∷ fields) f c =
-    elim (may_mean qualifier name field) as (λ b. Contains (if b then record { place = place; kind = field.kind } ∷ meant qualifier name (suc place) fields else meant qualifier name (suc place) fields) f → (k : ℕ) × (f.place ≡ place + k) × (slice_get (kinds_of (field ∷ fields)) k ≡ Some f.kind)) [
-      | true ↦ λ c. elim (cases (record { place = place; kind = field.kind }) f (meant qualifier name (suc place) fields) c) [
-        | inl s ↦ (0, (let p : place ≡ f.place = ap (λ x. x.place) s in omega arith), ap (λ x. Some x.kind) s)
-        | inr d ↦ later (meant_at qualifier name (suc place) fields f d)
+meant_at qualifier name column [] f c = absurd (nothing f c)
+meant_at qualifier name column (field ∷ fields) f c =
+    elim (may_mean qualifier name field) as (λ b. Contains (if b then record { column = column; kind = field.kind } ∷ meant qualifier name (suc column) fields else meant qualifier name (suc column) fields) f → (k : ℕ) × (f.column ≡ column + k) × (slice_get (kinds_of (field ∷ fields)) k ≡ Some f.kind)) [
+      | true ↦ λ c. elim (cases (record { column = column; kind = field.kind }) f (meant qualifier name (suc column) fields) c) [
+        | inl s ↦ (0, (let p : column ≡ f.column = ap (λ x. x.column) s in omega arith), ap (λ x. Some x.kind) s)
+        | inr d ↦ later (meant_at qualifier name (suc column) fields f d)
       ]
-      | false ↦ λ c. later (meant_at qualifier name (suc place) fields f c)
+      | false ↦ λ c. later (meant_at qualifier name (suc column) fields f c)
     ] c
   where
-    later : (k : ℕ) × (f.place ≡ suc place + k) × (slice_get (kinds_of fields) k ≡ Some f.kind) → (k : ℕ) × (f.place ≡ place + k) × (slice_get (kinds_of (field ∷ fields)) k ≡ Some f.kind)
-    later r = (suc r.0, (let p : f.place ≡ suc place + r.0 = r.1 in omega arith), r.2)
+    later : (k : ℕ) × (f.column ≡ suc column + k) × (slice_get (kinds_of fields) k ≡ Some f.kind) → (k : ℕ) × (f.column ≡ column + k) × (slice_get (kinds_of (field ∷ fields)) k ≡ Some f.kind)
+    later r = (suc r.0, (let p : f.column ≡ suc column + r.0 = r.1 in omega arith), r.2)
 
 one_of : (found : List FoundColumn) (f : FoundColumn) → the_one found ≡ Ok f → Contains found f
 one_of [] f h = absurd cc
@@ -86,11 +86,11 @@ one_of (x ∷ []) f h = subst (Contains (x ∷ [])) (ok_is x f h) (here x [])
 one_of (x ∷ y ∷ more) f h = absurd cc
 
 -- a written column holds what it is found to hold
-pub column_found : (fields : List Field) (written : QualifiedName) (f : FoundColumn) → column_of fields written ≡ Ok f → slice_get (kinds_of fields) f.place ≡ Some f.kind
+pub column_found : (fields : List Field) (written : QualifiedName) (f : FoundColumn) → column_of fields written ≡ Ok f → slice_get (kinds_of fields) f.column ≡ Some f.kind
 unfolding column_named
 column_found fields written f h =
     let m = meant_at written.qualifier written.name 0 fields f (one_of (meant written.qualifier written.name 0 fields) f h) in
-    let same : m.0 ≡ f.place = (let p : f.place ≡ 0 + m.0 = m.1 in omega arith) in
+    let same : m.0 ≡ f.column = (let p : f.column ≡ 0 + m.0 = m.1 in omega arith) in
     subst (λ k. slice_get (kinds_of fields) k ≡ Some f.kind) same m.2
 
 -- ---- expressions
@@ -131,9 +131,9 @@ level : (fields : List Field) (y : Expression-F ((x : Expression) × IsTypedAs f
 level fields (Expression-F.Constant written) t h =
     subst (λ t. expr_type (kinds_of fields) t.expr ≡ Some t.kind) (ok_is (record { expr = e.Constant (value_of written); kind = kind_of written }) t h) (constant_type (kinds_of fields) written)
 level fields (Expression-F.Column written) t h =
-    let b = passes (column_of fields written) (λ found. Ok (record { expr = e.Column found.place; kind = found.kind })) t h in
+    let b = passes (column_of fields written) (λ found. Ok (record { expr = e.Column found.column; kind = found.kind })) t h in
     let f = b.0 in
-    subst (λ t. expr_type (kinds_of fields) t.expr ≡ Some t.kind) (ok_is (record { expr = e.Column f.place; kind = f.kind }) t b.2) (column_type (kinds_of fields) f.place ∙ column_found fields written f b.1)
+    subst (λ t. expr_type (kinds_of fields) t.expr ≡ Some t.kind) (ok_is (record { expr = e.Column f.column; kind = f.kind }) t b.2) (column_type (kinds_of fields) f.column ∙ column_found fields written f b.1)
 level fields (Expression-F.Bracket inner) t h = inner.1 t h
 level fields (Expression-F.Binary op left right) t h =
     let a = passes (expression_of fields left.0) (λ l. expression_of fields right.0 >>= (λ r. operated op l r)) t h in
@@ -153,11 +153,11 @@ expression_typed fields = ind-Expression (IsTypedAs fields) (λ x y is. subst (�
 
 -- ---- grouped columns
 
-equal_found : (groups : List ℕ) (place : ℕ) → list_any (λ group. group == place) groups ≡ true → Contains groups place
-equal_found [] place h = absurd cc
-equal_found (g ∷ groups) place h = elim (g == place) as (λ b. (g == place) ≡ b → (b || list_any (λ group. group == place) groups) ≡ true → Contains (g ∷ groups) place) [
-  | true ↦ λ e h. (let same : g ≡ place = grind (arith, nat_tests) in subst (Contains (g ∷ groups)) same (here g groups))
-  | false ↦ λ e h. there g place groups (equal_found groups place h)
+equal_found : (groups : List ℕ) (column : ℕ) → list_any (λ group. group == column) groups ≡ true → Contains groups column
+equal_found [] column h = absurd cc
+equal_found (g ∷ groups) column h = elim (g == column) as (λ b. (g == column) ≡ b → (b || list_any (λ group. group == column) groups) ≡ true → Contains (g ∷ groups) column) [
+  | true ↦ λ e h. (let same : g ≡ column = grind (arith, nat_tests) in subst (Contains (g ∷ groups)) same (here g groups))
+  | false ↦ λ e h. there g column groups (equal_found groups column h)
 ] refl h
 
 abbrev IsAmongThem : List ℕ → Expr → Type 0

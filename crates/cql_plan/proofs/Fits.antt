@@ -32,7 +32,7 @@ use Rattle.cql_plan.specs.declared.plan.OutputKind.{OutputKind}
 use Rattle.cql_plan.specs.declared.plan.Planned.{Planned}
 use Rattle.cql_plan.specs.Outcome.{Outcome, ◌>>=◌, ◌>>◌, unless, each}
 use Rattle.cql_plan.specs.Columns.{kinds_of, column_of}
-use Rattle.cql_plan.specs.Sources.{Readable, source_of, are_apart, joined_row, ports_of, inputs_of}
+use Rattle.cql_plan.specs.Sources.{SchemaLookup, source_of, are_apart, joined_row, ports_of, inputs_of}
 use Rattle.cql_plan.specs.Typing.{same_kind, same_kinds, expression_of, group_of, is_among, is_column, is_grouped_by, function_of, aggregate_of, shown_of, item_of, all_items, items_of, is_aggregate as is_written_aggregate, has_aggregate, is_grouped as is_written_grouped, where_of, distinct_of, shown_in, kinds_in, join_of, shape_of, checked_of, body_of, block_of, output_of, alone, combined, with_second, typing}
 use Rattle.cql_plan.specs.Law.{IsFormLaw}
 use Rattle.cql_plan.specs.Fit.{is_empty, expr_type, is_aggregate, HasColumn, IsTypedItem, IsGroupedItem, is_typed_condition, all_columns}
@@ -51,15 +51,15 @@ record Fits (fields : List Field) (grouped : Bool) (groups : List ℕ) (plain : 
   allowed : grouped ≡ true → IsGroupedItem groups t.item
   same : plain ≡ true → is_aggregate t.item ≡ false
 
-over : (fields : List Field) (grouped : Bool) (groups : List ℕ) (function : Function) (f : FoundColumn) (t : TypedItem) → slice_get (kinds_of fields) f.place ≡ Some f.kind → function_of function f ≡ Ok t → Fits fields grouped groups false t
+over : (fields : List Field) (grouped : Bool) (groups : List ℕ) (function : Function) (f : FoundColumn) (t : TypedItem) → slice_get (kinds_of fields) f.column ≡ Some f.kind → function_of function f ≡ Ok t → Fits fields grouped groups false t
 over fields grouped groups Sum f t is h =
-    let made : TypedItem = record { item = i.Sum f.place; kind = Number } in
+    let made : TypedItem = record { item = i.Sum f.column; kind = Number } in
     let done = passed (same_kind f.kind Number) _ (Ok made) t h in
     subst (Fits fields grouped groups false) (ok_is made t done.1) (record { typed = is ∙ ap (λ k. Some k) (is_number f.kind done.0); gives = refl; allowed = λ g. tt; same = λ p. absurd cc })
 over fields grouped groups Min f t is h =
-    subst (Fits fields grouped groups false) (ok_is (record { item = i.Min f.place; kind = f.kind }) t h) (record { typed = (f.kind, is); gives = is; allowed = λ g. tt; same = λ p. absurd cc })
+    subst (Fits fields grouped groups false) (ok_is (record { item = i.Min f.column; kind = f.kind }) t h) (record { typed = (f.kind, is); gives = is; allowed = λ g. tt; same = λ p. absurd cc })
 over fields grouped groups Max f t is h =
-    subst (Fits fields grouped groups false) (ok_is (record { item = i.Max f.place; kind = f.kind }) t h) (record { typed = (f.kind, is); gives = is; allowed = λ g. tt; same = λ p. absurd cc })
+    subst (Fits fields grouped groups false) (ok_is (record { item = i.Max f.column; kind = f.kind }) t h) (record { typed = (f.kind, is); gives = is; allowed = λ g. tt; same = λ p. absurd cc })
 
 abbrev is_plain : Shown → Bool
 is_plain (shown.Aggregate written) = false
@@ -114,16 +114,16 @@ items_fit fields grouped groups (x ∷ written) [] zip = absurd zip
 items_fit fields grouped groups (x ∷ written) (t ∷ items) zip =
     one_more fields grouped groups (is_plain x.shown) (are_plain written) t items (item_fits fields grouped groups x.shown t zip.0) (items_fit fields grouped groups written items zip.1)
 
--- all columns from a place on
-all_fit : (whole : List Field) (place : ℕ) (fields : List Field) → ((k : ℕ) → slice_get (kinds_of whole) (place + k) ≡ slice_get (kinds_of fields) k) → (groups : List ℕ) → AllFit whole false groups true (all_items place fields)
+-- all columns from an index on
+all_fit : (whole : List Field) (column : ℕ) (fields : List Field) → ((k : ℕ) → slice_get (kinds_of whole) (column + k) ≡ slice_get (kinds_of fields) k) → (groups : List ℕ) → AllFit whole false groups true (all_items column fields)
 unfolding all_items
-all_fit whole place [] at groups = record { typed = tt; gives = refl; allowed = λ g. absurd cc; same = λ p. refl }
-all_fit whole place (field ∷ fields) at groups =
-    let here_is : slice_get (kinds_of whole) place ≡ Some field.kind = ap (slice_get (kinds_of whole)) (plus_zero place) ∙ at 0 in
-    let type_is : expr_type (kinds_of whole) (e.Column place) ≡ Some field.kind = column_type (kinds_of whole) place ∙ here_is in
-    one_more whole false groups true true (record { item = i.Value (e.Column place); kind = field.kind }) (all_items (suc place) fields)
+all_fit whole column [] at groups = record { typed = tt; gives = refl; allowed = λ g. absurd cc; same = λ p. refl }
+all_fit whole column (field ∷ fields) at groups =
+    let here_is : slice_get (kinds_of whole) column ≡ Some field.kind = ap (slice_get (kinds_of whole)) (plus_zero column) ∙ at 0 in
+    let type_is : expr_type (kinds_of whole) (e.Column column) ≡ Some field.kind = column_type (kinds_of whole) column ∙ here_is in
+    one_more whole false groups true true (record { item = i.Value (e.Column column); kind = field.kind }) (all_items (suc column) fields)
     (record { typed = (field.kind, type_is); gives = type_is; allowed = λ g. absurd cc; same = λ p. refl })
-    (all_fit whole (suc place) fields (λ k. ap (slice_get (kinds_of whole)) (plus_suc place k) ∙ at (suc k)) groups)
+    (all_fit whole (suc column) fields (λ k. ap (slice_get (kinds_of whole)) (plus_suc column k) ∙ at (suc k)) groups)
   where
     plus_zero : (n : ℕ) → n ≡ n + 0
     plus_zero n = omega arith
@@ -159,9 +159,9 @@ groups_fit fields [] [] zip = tt
 groups_fit fields [] (g ∷ groups) zip = absurd zip
 groups_fit fields (x ∷ written) [] zip = absurd zip
 groups_fit fields (x ∷ written) (g ∷ groups) zip =
-    let b = passes (column_of fields x) (λ found. Ok found.place) g zip.0 in
+    let b = passes (column_of fields x) (λ found. Ok found.column) g zip.0 in
     let f = b.0 in
-    (subst (HasColumn (kinds_of fields)) (ok_is f.place g b.2) (f.kind, column_found fields x f b.1), groups_fit fields written groups zip.1)
+    (subst (HasColumn (kinds_of fields)) (ok_is f.column g b.2) (f.kind, column_found fields x f b.1), groups_fit fields written groups zip.1)
 
 no_groups : (written : List QualifiedName) (groups : List ℕ) (check : QualifiedName → Outcome ℕ) → not (is_empty written) ≡ false → AllZip (λ x g. check x ≡ Ok g) written groups → groups ≡ []
 no_groups [] [] check h zip = refl
@@ -234,7 +234,7 @@ body_well sources block c h =
       gives = shown.1;
     })
 
-block_well : (readable : Readable) (block : SelectBlock) (c : Checked) → block_of readable block ≡ Ok c → IsWell c
+block_well : (readable : SchemaLookup) (block : SelectBlock) (c : Checked) → block_of readable block ≡ Ok c → IsWell c
 unfolding block_of
 block_well readable block c h =
     let s = passes (each (source_of readable) block.inputs) (λ sources. unless (are_apart sources) _ >> body_of sources block) c h in
@@ -251,26 +251,26 @@ same_type Text Text h = refl
 abbrev agree : List ColumnType → List ColumnType → Bool
 agree left right = list_all (λ p. same_kind p.0 p.1) (zip left right)
 
-place_by_place : (left right : List ColumnType) → length left ≡ length right → agree left right ≡ true → left ≡ right
-place_by_place [] [] long h = refl
-place_by_place [] (r ∷ right) long h = absurd cc
-place_by_place (l ∷ left) [] long h = absurd cc
-place_by_place (l ∷ left) (r ∷ right) long h =
+type_by_type : (left right : List ColumnType) → length left ≡ length right → agree left right ≡ true → left ≡ right
+type_by_type [] [] long h = refl
+type_by_type [] (r ∷ right) long h = absurd cc
+type_by_type (l ∷ left) [] long h = absurd cc
+type_by_type (l ∷ left) (r ∷ right) long h =
     let b = and_parts (same_kind l r) (agree left right) h in
-    let rest : left ≡ right = place_by_place left right (let is : suc (length left) ≡ suc (length right) = long in omega arith) b.1 in
+    let rest : left ≡ right = type_by_type left right (let is : suc (length left) ≡ suc (length right) = long in omega arith) b.1 in
     ap (λ x. x ∷ left) (same_type l r b.0) ∙ ap (λ l. r ∷ l) rest
 
 same_types : (left right : List ColumnType) → same_kinds left right ≡ true → left ≡ right
 same_types left right h =
     let b = and_parts (length left == length right) (agree left right) h in
     let equal : (length left == length right) ≡ true = b.0 in
-    place_by_place left right (grind (arith, nat_tests)) b.1
+    type_by_type left right (grind (arith, nat_tests)) b.1
 
 -- the blocks of a plan, and what joins them
 abbrev HasForm : Planned → Type 0
 HasForm plan = IsBlock plan.first × IfSome plan.combined (IsCombined plan.first)
 
-second_formed : (readable : Readable) (output : OutputKind) (first : Checked) (written : Option Second) (plan : Planned) → IsWell first → with_second readable output first written ≡ Ok plan → HasForm plan
+second_formed : (readable : SchemaLookup) (output : OutputKind) (first : Checked) (written : Option Second) (plan : Planned) → IsWell first → with_second readable output first written ≡ Ok plan → HasForm plan
 unfolding with_second
 second_formed readable output first None plan well h = subst HasForm (ok_is (alone output first) plan h) (well.block, tt)
 second_formed readable output first (Some written) plan well h =

@@ -20,9 +20,9 @@ use Rattle.cql_plan.specs.Ports.{IsPlain}
 use Rattle.cql_plan.specs.declared.error.PlanFault.TheVariants.{AmbiguousColumn}
 use Rattle.cql_plan.specs.declared.source.BlockInput.{BlockInput}
 use Rattle.cql_plan.specs.Outcome.{each}
-use Rattle.cql_plan.specs.Visible.{Visible}
+use Rattle.cql_plan.specs.VisibleColumns.{VisibleColumns}
 use Rattle.cql_plan.specs.Columns.{column_named}
-use Rattle.cql_plan.specs.Sources.{Readable, window_of, source_of, are_apart, joined_row}
+use Rattle.cql_plan.specs.Sources.{SchemaLookup, window_of, source_of, are_apart, joined_row}
 use Rattle.cql_plan.specs.Typing.{where_of, all_items, items_of, is_grouped, body_of, block_of, with_second, typing}
 use Rattle.cql_plan.specs.PortsRead.{IsPlainQuery, IsPlainLaw}
 use Rattle.cql_plan.specs.Law.{AreSchemas, IsQualifiedLaw}
@@ -34,13 +34,13 @@ abbrev v : List ℕ
 v = 118 ∷ []
 
 -- of every stream one column of numbers is seen
-abbrev seen : Visible
-seen = record { schema = record { name = v; kind = Number } ∷ []; places = 0 ∷ [] }
+abbrev seen : VisibleColumns
+seen = record { schema = record { name = v; kind = Number } ∷ []; projection = 0 ∷ [] }
 
-abbrev readable : Readable
+abbrev readable : SchemaLookup
 readable = λ owner stream. Some seen
 
-abbrev is_distinct : Option Visible → Bool
+abbrev is_distinct : Option VisibleColumns → Bool
 is_distinct None = true
 is_distinct (Some other) = are_distinct other.schema
 
@@ -59,7 +59,7 @@ query = record {
 }
 
 abbrev input : Input
-input = record { owner = None; stream = s; window = all; places = 0 ∷ [] }
+input = record { owner = None; stream = s; window = all; projection = 0 ∷ [] }
 
 abbrev source : BlockInput
 source = record { input = input; alias = s; fields = record { alias = s; name = v; kind = Number } ∷ [] }

@@ -27,7 +27,7 @@ pub record First (q : Option (List ℕ)) (n : List ℕ) (p : ℕ) (fs : List Fie
   pub field : Field
   pub stands : slice_get fs at ≡ Some field
   pub may : may_mean q n field ≡ true
-  pub place : found.place ≡ p + at
+  pub column : found.column ≡ p + at
   pub kind : found.kind ≡ field.kind
   pub alone : more ≡ [] → (j : ℕ) → MayMeanAt q n fs j → j ≡ at
   pub other : (another : FoundColumn) (rest : List FoundColumn) → more ≡ another ∷ rest → (j : ℕ) × (at < j) × MayMeanAt q n fs j
@@ -47,7 +47,7 @@ first_here q n p f fs found more later same so =
       field = f;
       stands = refl;
       may = same;
-      place = (let place : p ≡ found.place = ap (λ (x : FoundColumn). x.place) one in omega arith);
+      column = (let column : p ≡ found.column = ap (λ (x : FoundColumn). x.column) one in omega arith);
       kind = sym (ap (λ (x : FoundColumn). x.kind) one);
       alone = λ nothing j is. alone_here q n p f fs (rest ∙ nothing) j is;
       other = λ another others is.
@@ -66,7 +66,7 @@ first_later q n p f fs found more next same = record {
   field = next.field;
   stands = next.stands;
   may = next.may;
-  place = (let place : found.place ≡ suc p + next.at = next.place in omega arith);
+  column = (let column : found.column ≡ suc p + next.at = next.column in omega arith);
   kind = next.kind;
   alone = λ nothing j is. alone_later q n f fs next.at same (next.alone nothing) j is;
   other = λ another others is. (let o = next.other another others is in (suc o.0, (let below : next.at < o.0 = o.1 in omega arith), o.2));
@@ -89,9 +89,9 @@ meaning_go : (q : Option (List ℕ)) (n : List ℕ) (fs : List Field) (l : List 
 meaning_go q n fs [] so = inl (refl, none_meant q n 0 fs so)
 meaning_go q n fs (found ∷ []) so =
     let is = first_meant q n 0 fs found [] so in
-    let place : is.at ≡ found.place = omega (arith, is.place) in
+    let column : is.at ≡ found.column = omega (arith, is.column) in
     let P : ℕ → Type 0 = λ i. slice_get fs i ≡ Some is.field in
-    ((is.field, subst P place is.stands, is.may, is.kind), λ other o. is.alone refl other o ∙ place)
+    ((is.field, subst P column is.stands, is.may, is.kind), λ other o. is.alone refl other o ∙ column)
 meaning_go q n fs (found ∷ another ∷ rest) so =
     let is = first_meant q n 0 fs found (another ∷ rest) so in
     let o = is.other another rest refl in

@@ -22,7 +22,7 @@ use Rattle.cql_plan.specs.declared.item.TypedItem.{TypedItem}
 use Rattle.cql_plan.specs.declared.block.Checked.{Checked}
 use Rattle.cql_plan.specs.Outcome.{Outcome, ◌>>=◌, ◌>>◌, unless, each}
 use Rattle.cql_plan.specs.Columns.{kinds_of}
-use Rattle.cql_plan.specs.Sources.{Readable, source_of, are_apart, joined_row, ports_of, inputs_of}
+use Rattle.cql_plan.specs.Sources.{SchemaLookup, source_of, are_apart, joined_row, ports_of, inputs_of}
 use Rattle.cql_plan.specs.Typing.{where_of, group_of, all_items, items_of, is_grouped, shown_in, kinds_in, join_of, shape_of, distinct_of, checked_of, body_of, block_of, output_of, alone, with_second, typing}
 use Rattle.cql_plan.specs.Ports.{columns_from, IsPlain}
 use Rattle.cql_plan.specs.PortsRead.{IsPlainQuery, IsPlainLaw}
@@ -53,10 +53,10 @@ all_chosen fields grouped groups selection.All items chosen h =
     sym (ok_is (all_items 0 fields) items (passed (not grouped) _ (Ok (all_items 0 fields)) items h).1)
 all_chosen fields grouped groups (selection.List written) items chosen h = absurd cc
 
-all_shown : (place : ℕ) (fields : List Field) → shown_in (all_items place fields) ≡ columns_from place (kinds_of fields)
+all_shown : (index : ℕ) (fields : List Field) → shown_in (all_items index fields) ≡ columns_from index (kinds_of fields)
 unfolding all_items
-all_shown place [] = refl
-all_shown place (field ∷ fields) = ap (λ l. value (column place) ∷ l) (all_shown (suc place) fields)
+all_shown index [] = refl
+all_shown index (field ∷ fields) = ap (λ l. value (column index) ∷ l) (all_shown (suc index) fields)
 
 one_row : (source : BlockInput) → joined_row (source ∷ []) ≡ source.fields
 unfolding joined_row
@@ -99,7 +99,7 @@ body_plain sources source block c one chosen distinct condition groups h =
       distinct = ap (λ d. distinct_of d (kinds_in n.0)) distinct;
     })
 
-block_plain : (readable : Readable) (query : Query) (c : Checked) → IsPlainQuery query → block_of readable query.first ≡ Ok c → IsPlainBlock c
+block_plain : (readable : SchemaLookup) (query : Query) (c : Checked) → IsPlainQuery query → block_of readable query.first ≡ Ok c → IsPlainBlock c
 unfolding block_of
 block_plain readable query c plain h =
     let block = query.first in
@@ -109,7 +109,7 @@ block_plain readable query c plain h =
 
 -- ---- queries
 
-plan_plain : (readable : Readable) (output : OutputKind) (first : Checked) (written : Option Second) (plan : Planned) → written ≡ None → IsPlainBlock first → with_second readable output first written ≡ Ok plan → IsPlain plan
+plan_plain : (readable : SchemaLookup) (output : OutputKind) (first : Checked) (written : Option Second) (plan : Planned) → written ≡ None → IsPlainBlock first → with_second readable output first written ≡ Ok plan → IsPlain plan
 unfolding with_second
 plan_plain readable output first None plan none plain h =
     subst IsPlain (ok_is (alone output first) plan h) (record { columns = plain.columns; join = plain.join; shape = plain.shape; distinct = plain.distinct; combined = refl })

@@ -14,9 +14,9 @@ use Rattle.cql_plan.specs.declared.row.Field.{Field}
 use Rattle.cql_plan.specs.declared.row.FoundColumn.{FoundColumn}
 use Rattle.cql_plan.specs.declared.source.BlockInput.{BlockInput}
 use Rattle.cql_plan.specs.Outcome.{Outcome, ◌>>=◌, each}
-use Rattle.cql_plan.specs.Visible.{Visible}
+use Rattle.cql_plan.specs.VisibleColumns.{VisibleColumns}
 use Rattle.cql_plan.specs.Columns.{fields_of, may_mean, meant, the_one, column_named}
-use Rattle.cql_plan.specs.Sources.{Readable, alias_of, window_of, source_with, source_of, are_apart, joined_row}
+use Rattle.cql_plan.specs.Sources.{SchemaLookup, alias_of, window_of, source_with, source_of, are_apart, joined_row}
 use Rattle.cql_plan.specs.Law.{AreSchemas, IsQualifiedLaw}
 use Rattle.cql_plan.proofs.Each.{passes}
 
@@ -110,18 +110,18 @@ abbrev AreInputs : List BlockInput → Type 0
 AreInputs [] = Unit {0}
 AreInputs (s ∷ ss) = IsInput s × AreInputs ss
 
-source_go : (readable : Readable) (input : Input) (s : BlockInput) → AreSchemas readable
-    → (o : Option Visible) → readable input.stream.qualifier input.stream.name ≡ o → source_with input o ≡ Ok s → IsInput s
+source_go : (readable : SchemaLookup) (input : Input) (s : BlockInput) → AreSchemas readable
+    → (o : Option VisibleColumns) → readable input.stream.qualifier input.stream.name ≡ o → source_with input o ≡ Ok s → IsInput s
 source_go readable input s schemas None same so = absurd (cc)
 source_go readable input s schemas (Some seen) same so =
     let one = passes (window_of (fields_of (alias_of input) seen.schema) input.window) _ s so in
     subst IsInput (ok_same _ s one.2) (seen.schema, refl, schemas input.stream.qualifier input.stream.name seen same)
 
-source_is : (readable : Readable) (input : Input) (s : BlockInput) → AreSchemas readable → source_of readable input ≡ Ok s → IsInput s
+source_is : (readable : SchemaLookup) (input : Input) (s : BlockInput) → AreSchemas readable → source_of readable input ≡ Ok s → IsInput s
 unfolding source_of
 source_is readable input s schemas so = source_go readable input s schemas (readable input.stream.qualifier input.stream.name) refl so
 
-sources_are : (readable : Readable) (inputs : List Input) (ss : List BlockInput) → AreSchemas readable → each (source_of readable) inputs ≡ Ok ss → AreInputs ss
+sources_are : (readable : SchemaLookup) (inputs : List Input) (ss : List BlockInput) → AreSchemas readable → each (source_of readable) inputs ≡ Ok ss → AreInputs ss
 unfolding each
 sources_are readable [] ss schemas so = let none : [] ≡ ss = cc in subst AreInputs none tt
 sources_are readable (input ∷ inputs) ss schemas so =

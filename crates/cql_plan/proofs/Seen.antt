@@ -10,9 +10,9 @@ use Rattle.cql_syntax.specs.declared.syntax.SelectBlock.{SelectBlock}
 use Rattle.cql_syntax.specs.declared.syntax.Second.{Second}
 use Rattle.cql_syntax.specs.declared.syntax.Query.{Query}
 use Rattle.cql_window.specs.declared.window.Window.{Window}
-use Rattle.cql_window.specs.RowPlaces.{all_places}
+use Rattle.cql_window.specs.Projection.{whole_projection}
 use Rattle.cql_window.specs.Through.{wide_window}
-use Rattle.cql_window.proofs.PlacesLaws.{wide_law}
+use Rattle.cql_window.proofs.ProjectionLaws.{wide_law}
 use Rattle.cql_plan.specs.declared.condition.Condition.{Condition}
 use Rattle.cql_plan.specs.declared.error.PlanFault.TheVariants.{AmbiguousColumn, TypeMismatch}
 use Rattle.cql_plan.specs.declared.plan.Input.{Input}
@@ -23,11 +23,11 @@ use Rattle.cql_plan.specs.declared.block.Checked.{Checked}
 use Rattle.cql_plan.specs.declared.item.TypedItem.{TypedItem}
 use Rattle.cql_plan.specs.declared.node.Node.TheVariants as node
 use Rattle.cql_plan.specs.Outcome.{Outcome, ◌>>=◌, ◌>>◌, unless, each}
-use Rattle.cql_plan.specs.Visible.{Visible}
+use Rattle.cql_plan.specs.VisibleColumns.{VisibleColumns}
 use Rattle.cql_plan.specs.Columns.{kinds_of, fields_of}
-use Rattle.cql_plan.specs.Sources.{Readable, alias_of, window_of, input_of, source_with, source_of, are_apart, joined_row, ports_of, inputs_of}
+use Rattle.cql_plan.specs.Sources.{SchemaLookup, alias_of, window_of, input_of, source_with, source_of, are_apart, joined_row, ports_of, inputs_of}
 use Rattle.cql_plan.specs.Typing.{same_kinds, where_of, group_of, items_of, is_grouped, checked_of, body_of, block_of, output_of, combined, with_second, typing}
-use Rattle.cql_plan.specs.Seen.{alone, seen_alone, widened_by, widened, or_widened, IsSeenLaw}
+use Rattle.cql_plan.specs.Projected.{alone, visible_alone, widened_by, widened, or_widened, IsSeenLaw}
 use Rattle.cql_plan.proofs.Ports.{parts_within}
 
 -- ---- checks whose outcome is changed
@@ -51,10 +51,10 @@ each_changed {A} {B} check other f same (x ∷ xs) =
 -- ---- inputs
 
 -- an input of a block, over what is seen of its stream
-abbrev made_of : WrittenInput → Visible → Input → BlockInput
+abbrev made_of : WrittenInput → VisibleColumns → Input → BlockInput
 made_of input seen kept = record { input = kept; alias = alias_of input; fields = fields_of (alias_of input) seen.schema }
 
-module _ (readable : Readable) where
+module _ (readable : SchemaLookup) where
   -- an input of a block, with its window over the whole rows
   abbrev source_widened : BlockInput → BlockInput
   source_widened s = record s { input = widened readable s.input }
@@ -63,19 +63,19 @@ module _ (readable : Readable) where
   checked_widened c = record c { inputs = map (widened readable) c.inputs }
 
   -- the input of a stream of which this is seen
-  one_input : (input : WrittenInput) (o : Option Visible) → readable input.stream.qualifier input.stream.name ≡ o → source_with input o ≡ changed source_widened (source_with input (option_map alone o))
+  one_input : (input : WrittenInput) (o : Option VisibleColumns) → readable input.stream.qualifier input.stream.name ≡ o → source_with input o ≡ changed source_widened (source_with input (option_map alone o))
   one_input input None same = refl
   one_input input (Some seen) same = by (window_of (fields_of (alias_of input) seen.schema) input.window) refl
     where
       by : (o : Outcome Window) → window_of (fields_of (alias_of input) seen.schema) input.window ≡ o
-          → (o >>= (λ w. Ok (made_of input seen (input_of input seen.places w)))) ≡ changed source_widened (o >>= (λ w. Ok (made_of input seen (input_of input (all_places (length seen.schema)) w))))
+          → (o >>= (λ w. Ok (made_of input seen (input_of input seen.projection w)))) ≡ changed source_widened (o >>= (λ w. Ok (made_of input seen (input_of input (whole_projection (length seen.schema)) w))))
       by (Err e) is = refl
       by (Ok w) is =
-          let once : wide_window (all_places (length seen.schema)) w ≡ w = wide_law w (length seen.schema) (parts_within (alias_of input) seen.schema input.window w is) in
-          (λ i. Ok (made_of input seen (input_of input seen.places (sym once i))))
-          ∙ (λ i. Ok (made_of input seen (widened_by (sym same i) (input_of input (all_places (length seen.schema)) w))))
+          let once : wide_window (whole_projection (length seen.schema)) w ≡ w = wide_law w (length seen.schema) (parts_within (alias_of input) seen.schema input.window w is) in
+          (λ i. Ok (made_of input seen (input_of input seen.projection (sym once i))))
+          ∙ (λ i. Ok (made_of input seen (widened_by (sym same i) (input_of input (whole_projection (length seen.schema)) w))))
 
-  one_source : (input : WrittenInput) → source_of readable input ≡ changed source_widened (source_of (seen_alone readable) input)
+  one_source : (input : WrittenInput) → source_of readable input ≡ changed source_widened (source_of (visible_alone readable) input)
   unfolding source_of
   one_source input = one_input input (readable input.stream.qualifier input.stream.name) refl
 
@@ -138,11 +138,11 @@ module _ (readable : Readable) where
       (λ i. body_over block (same_row ss i) (same_ports ss i) (their_inputs ss i))
       ∙ inputs_changed block (joined_row ss) (ports_of ss) (inputs_of ss)
 
-  one_block : (block : SelectBlock) → block_of readable block ≡ changed checked_widened (block_of (seen_alone readable) block)
+  one_block : (block : SelectBlock) → block_of readable block ≡ changed checked_widened (block_of (visible_alone readable) block)
   unfolding block_of
   one_block block =
-      ap (λ o. o >>= (λ (ss : List BlockInput). unless (are_apart ss) AmbiguousColumn >> body_of ss block)) (each_changed (source_of readable) (source_of (seen_alone readable)) source_widened one_source block.inputs)
-      ∙ in_sources (each (source_of (seen_alone readable)) block.inputs)
+      ap (λ o. o >>= (λ (ss : List BlockInput). unless (are_apart ss) AmbiguousColumn >> body_of ss block)) (each_changed (source_of readable) (source_of (visible_alone readable)) source_widened one_source block.inputs)
+      ∙ in_sources (each (source_of (visible_alone readable)) block.inputs)
     where
       in_test : (ss : List BlockInput) (b : Bool) → (unless b AmbiguousColumn >> body_of (map source_widened ss) block) ≡ changed checked_widened (unless b AmbiguousColumn >> body_of ss block)
       in_test ss true = one_body ss block
@@ -154,12 +154,12 @@ module _ (readable : Readable) where
 
   -- ---- queries
 
-  one_second : (output : OutputKind) (first : Checked) (written : Option Second) → with_second readable output (checked_widened first) written ≡ or_widened readable (with_second (seen_alone readable) output first written)
+  one_second : (output : OutputKind) (first : Checked) (written : Option Second) → with_second readable output (checked_widened first) written ≡ or_widened readable (with_second (visible_alone readable) output first written)
   unfolding with_second
   one_second output first None = refl
   one_second output first (Some written) =
       ap (λ o. o >>= (λ (second : Checked). unless (same_kinds first.kinds second.kinds) TypeMismatch >> Ok (combined output written.operator (checked_widened first) second))) (one_block written.block)
-      ∙ in_block (block_of (seen_alone readable) written.block)
+      ∙ in_block (block_of (visible_alone readable) written.block)
     where
       in_test : (second : Checked) (b : Bool) → (unless b TypeMismatch >> Ok (combined output written.operator (checked_widened first) (checked_widened second))) ≡ or_widened readable (unless b TypeMismatch >> Ok (combined output written.operator first second))
       in_test second true = ap (λ is. Ok (record (combined output written.operator first second) { inputs = is })) (sym (map-append (widened readable) first.inputs second.inputs))
@@ -170,13 +170,13 @@ module _ (readable : Readable) where
       in_block (Ok second) = in_test second (same_kinds first.kinds second.kinds)
       in_block (Err e) = refl
 
-  one_query : (query : Query) → typing readable query ≡ or_widened readable (typing (seen_alone readable) query)
+  one_query : (query : Query) → typing readable query ≡ or_widened readable (typing (visible_alone readable) query)
   unfolding typing
   one_query query =
       ap (λ o. o >>= (λ (first : Checked). with_second readable (output_of query.output) first query.second)) (one_block query.first)
-      ∙ in_first (block_of (seen_alone readable) query.first)
+      ∙ in_first (block_of (visible_alone readable) query.first)
     where
-      in_first : (o : Outcome Checked) → (changed checked_widened o >>= (λ first. with_second readable (output_of query.output) first query.second)) ≡ or_widened readable (o >>= (λ first. with_second (seen_alone readable) (output_of query.output) first query.second))
+      in_first : (o : Outcome Checked) → (changed checked_widened o >>= (λ first. with_second readable (output_of query.output) first query.second)) ≡ or_widened readable (o >>= (λ first. with_second (visible_alone readable) (output_of query.output) first query.second))
       in_first (Ok first) = one_second (output_of query.output) first query.second
       in_first (Err e) = refl
 

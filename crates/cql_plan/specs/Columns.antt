@@ -28,13 +28,13 @@ is_of (Some qualifier) alias = bytes_eq qualifier alias
 abbrev pub may_mean : Option (List ℕ) → List ℕ → Field → Bool
 may_mean qualifier name field = bytes_eq name field.name && is_of qualifier field.alias
 
--- the columns that a written one may mean, of those from this place on
+-- the columns that a written one may mean, of those from this index on
 unfoldable pub meant : Option (List ℕ) → List ℕ → ℕ → List Field → List FoundColumn
-meant qualifier name place [] = []
-meant qualifier name place (field ∷ fields) =
+meant qualifier name column [] = []
+meant qualifier name column (field ∷ fields) =
     if may_mean qualifier name field
-    then record { place = place; kind = field.kind } ∷ meant qualifier name (suc place) fields
-    else meant qualifier name (suc place) fields
+    then record { column = column; kind = field.kind } ∷ meant qualifier name (suc column) fields
+    else meant qualifier name (suc column) fields
 
 -- none: unknown; more than one: ambiguous
 abbrev pub the_one : List FoundColumn → Outcome FoundColumn

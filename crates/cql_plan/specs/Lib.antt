@@ -5,10 +5,10 @@ pub mod Node
 pub mod Ports
 pub mod Plan
 pub mod Outcome
-pub mod Visible
+pub mod VisibleColumns
 pub mod Columns
 pub mod Sources
 pub mod Typing
 pub mod PortsRead
 pub mod Law
-pub mod Seen
+pub mod Projected

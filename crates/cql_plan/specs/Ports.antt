@@ -29,26 +29,26 @@ later_ports (Some combined) = ports_in combined.branch.join
 abbrev pub ports : Planned → List (List ColumnType)
 ports p = ports_in p.first.join ++ later_ports p.combined
 
--- a window over whole rows parts by some of these places
+-- a window over whole rows parts by some of these columns
 abbrev pub PartsAmong : List ℕ → Window → Type 0
-PartsAmong places (Range len slide) = Unit {0}
-PartsAmong places (Rows count slide) = Unit {0}
-PartsAmong places all = Unit {0}
-PartsAmong places (Parts columns count) = AllByRecursion (Contains places) columns
+PartsAmong projection (Range len slide) = Unit {0}
+PartsAmong projection (Rows count slide) = Unit {0}
+PartsAmong projection all = Unit {0}
+PartsAmong projection (Parts columns count) = AllByRecursion (Contains projection) columns
 
--- each input stands beside a port, and parts by places of its own
+-- each input stands beside a port, and parts by columns of its own
 abbrev pub HavePorts : List Input → List (List ColumnType) → Type 0
 HavePorts [] [] = Unit {0}
 HavePorts [] (c ∷ cs) = ⊥
 HavePorts (i ∷ is) [] = ⊥
-HavePorts (i ∷ is) (c ∷ cs) = PartsAmong i.places i.window × HavePorts is cs
+HavePorts (i ∷ is) (c ∷ cs) = PartsAmong i.projection i.window × HavePorts is cs
 
 -- ---- plans that show what one input's window holds
 
--- the columns of a row, from this place on
+-- the columns of a row, from this index on
 abbrev pub columns_from : ℕ → List ColumnType → List Item
-columns_from place [] = []
-columns_from place (t ∷ types) = value (column place) ∷ columns_from (suc place) types
+columns_from index [] = []
+columns_from index (t ∷ types) = value (column index) ∷ columns_from (suc index) types
 
 -- one block over one input, which shows all columns of all its rows
 pub record IsPlain (p : Planned) : Type 0 where

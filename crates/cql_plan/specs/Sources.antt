@@ -15,12 +15,12 @@ use Rattle.cql_plan.specs.declared.source.BlockInput.{BlockInput}
 use Rattle.cql_plan.specs.declared.source.Joined.{Joined}
 use Rattle.cql_window.specs.Through.{wide_window}
 use Rattle.cql_plan.specs.Outcome.{Outcome, ◌>>=◌, each}
-use Rattle.cql_plan.specs.Visible.{Visible}
+use Rattle.cql_plan.specs.VisibleColumns.{VisibleColumns}
 use Rattle.cql_plan.specs.Columns.{fields_of, kinds_of, column_named}
 
 -- What is seen of a stream of an owner, or with no owner of the caller's own, where the caller may read it.
-abbrev pub Readable : Type 0
-Readable = Option (List ℕ) → List ℕ → Option Visible
+abbrev pub SchemaLookup : Type 0
+SchemaLookup = Option (List ℕ) → List ℕ → Option VisibleColumns
 
 abbrev pub name_or : Option (List ℕ) → List ℕ → List ℕ
 name_or None other = other
@@ -30,9 +30,9 @@ name_or (Some name) other = name
 abbrev pub alias_of : WrittenInput → List ℕ
 alias_of input = name_or input.alias input.stream.name
 
--- a column by which an input is parted: a place among those that are seen
+-- a column by which an input is parted: an index among those that are seen
 abbrev pub part_column : List Field → List ℕ → Outcome ℕ
-part_column fields name = column_named None name fields >>= (λ found. Ok found.place)
+part_column fields name = column_named None name fields >>= (λ found. Ok found.column)
 
 -- the numbers of a written window are those that a window may have
 abbrev pub HasBounds : WrittenWindow → Type 0
@@ -53,17 +53,17 @@ window_of fields (written.Partition names count) = each (part_column fields) nam
 
 -- what the plan keeps of an input: the window over the whole rows, and where the columns stand in these
 abbrev pub input_of : WrittenInput → List ℕ → Window → Input
-input_of input places window = record { owner = input.stream.qualifier; stream = input.stream.name; window = wide_window places window; places = places }
+input_of input projection window = record { owner = input.stream.qualifier; stream = input.stream.name; window = wide_window projection window; projection = projection }
 
 -- an input of a stream of which this is seen, where it can be read
-abbrev pub source_with : WrittenInput → Option Visible → Outcome BlockInput
+abbrev pub source_with : WrittenInput → Option VisibleColumns → Outcome BlockInput
 source_with input None = Err UnknownStream
 source_with input (Some seen) = do
   window ← window_of (fields_of (alias_of input) seen.schema) input.window
-  Ok (record { input = input_of input seen.places window; alias = alias_of input; fields = fields_of (alias_of input) seen.schema })
+  Ok (record { input = input_of input seen.projection window; alias = alias_of input; fields = fields_of (alias_of input) seen.schema })
 
 -- an input: its stream can be read, and has the columns by which it is parted
-unfoldable pub source_of : Readable → WrittenInput → Outcome BlockInput
+unfoldable pub source_of : SchemaLookup → WrittenInput → Outcome BlockInput
 source_of readable input = source_with input (readable input.stream.qualifier input.stream.name)
 
 -- no two inputs have one alias

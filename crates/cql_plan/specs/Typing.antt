@@ -58,11 +58,11 @@ use Rattle.cql_plan.specs.declared.block.Checked.{Checked}
 use Rattle.cql_plan.specs.declared.block.Selected.{Selected}
 use Rattle.cql_plan.specs.Outcome.{Outcome, ◌>>=◌, ◌>>◌, unless, each}
 use Rattle.cql_plan.specs.Columns.{column_of, kinds_of}
-use Rattle.cql_plan.specs.Sources.{Readable, source_of, are_apart, joined_row, ports_of, inputs_of}
+use Rattle.cql_plan.specs.Sources.{SchemaLookup, source_of, are_apart, joined_row, ports_of, inputs_of}
 
 -- ---- types
 
--- as many types, and the same, place by place
+-- as many types, and the same, column by column
 abbrev pub same_kinds : List ColumnType → List ColumnType → Bool
 same_kinds left right = (length left == length right) && list_all (λ p. same_kind p.0 p.1) (zip left right)
 
@@ -85,13 +85,13 @@ operated operation left right =
 abbrev pub constant_of : WrittenConstant → TypedExpr
 constant_of written = record { expr = e.Constant (value_of written); kind = kind_of written }
 
-abbrev pub place_of : List Field → QualifiedName → Outcome TypedExpr
-place_of fields written = column_of fields written >>= (λ found. Ok (record { expr = e.Column found.place; kind = found.kind }))
+abbrev pub typed_column : List Field → QualifiedName → Outcome TypedExpr
+typed_column fields written = column_of fields written >>= (λ found. Ok (record { expr = e.Column found.column; kind = found.kind }))
 
 -- one level of an expression: its operands from the left, then the operation round them
 abbrev pub expression_step : List Field → Expression-F (Outcome TypedExpr) → Outcome TypedExpr
 expression_step fields (Expression-F.Constant written) = Ok (constant_of written)
-expression_step fields (Expression-F.Column written) = place_of fields written
+expression_step fields (Expression-F.Column written) = typed_column fields written
 expression_step fields (Expression-F.Bracket inner) = inner
 expression_step fields (Expression-F.Binary operation left right) = left >>= (λ l. right >>= (λ r. operated operation l r))
 
@@ -103,7 +103,7 @@ expression_of fields = fold-Expression (Outcome TypedExpr) (expression_step fiel
 
 unfoldable pub operand_of : List Field → WrittenOperand → Outcome TypedOperand
 operand_of fields (operand.Constant written) = Ok (record { operand = o.Constant (value_of written); kind = kind_of written })
-operand_of fields (operand.Column written) = column_of fields written >>= (λ found. Ok (record { operand = o.Column found.place; kind = found.kind }))
+operand_of fields (operand.Column written) = column_of fields written >>= (λ found. Ok (record { operand = o.Column found.column; kind = found.kind }))
 
 -- both sides of a comparison have one type
 unfoldable pub comparison_of : List Field → WrittenOperand → Comparison → WrittenOperand → Outcome Condition
@@ -134,11 +134,11 @@ where_of fields (Some written) = condition_of fields written
 
 -- a column by which a block is grouped
 abbrev pub group_of : List Field → QualifiedName → Outcome ℕ
-group_of fields written = column_of fields written >>= (λ found. Ok found.place)
+group_of fields written = column_of fields written >>= (λ found. Ok found.column)
 
 -- one level of the test whether an expression is one of these columns
 abbrev pub among_step : List ℕ → Expr-F Bool → Bool
-among_step groups (Expr-F.Column place) = list_any (λ group. group == place) groups
+among_step groups (Expr-F.Column column) = list_any (λ group. group == column) groups
 among_step groups (Expr-F.Constant v) = false
 among_step groups (Expr-F.Binary operation left right) = false
 
@@ -161,9 +161,9 @@ is_grouped_by groups written x = is_column written && is_among groups x
 
 -- SUM takes a number, MIN and MAX take either type
 abbrev pub function_of : Function → FoundColumn → Outcome TypedItem
-function_of Sum found = unless (same_kind found.kind Number) TypeMismatch >> Ok (record { item = i.Sum found.place; kind = Number })
-function_of Min found = Ok (record { item = i.Min found.place; kind = found.kind })
-function_of Max found = Ok (record { item = i.Max found.place; kind = found.kind })
+function_of Sum found = unless (same_kind found.kind Number) TypeMismatch >> Ok (record { item = i.Sum found.column; kind = Number })
+function_of Min found = Ok (record { item = i.Min found.column; kind = found.kind })
+function_of Max found = Ok (record { item = i.Max found.column; kind = found.kind })
 
 unfoldable pub aggregate_of : List Field → WrittenAggregate → Outcome TypedItem
 aggregate_of fields aggregate.Count = Ok (record { item = i.Count; kind = Number })
@@ -180,10 +180,10 @@ shown_of fields grouped groups (shown.Expression written) = do
 abbrev pub item_of : List Field → Bool → List ℕ → WrittenItem → Outcome TypedItem
 item_of fields grouped groups item = shown_of fields grouped groups item.shown
 
--- all columns from this place on
+-- all columns from this index on
 unfoldable pub all_items : ℕ → List Field → List TypedItem
-all_items place [] = []
-all_items place (field ∷ fields) = record { item = i.Value (e.Column place); kind = field.kind } ∷ all_items (suc place) fields
+all_items column [] = []
+all_items column (field ∷ fields) = record { item = i.Value (e.Column column); kind = field.kind } ∷ all_items (suc column) fields
 
 -- `*` is all columns, and not allowed in a grouped block
 unfoldable pub items_of : List Field → Bool → List ℕ → Selection → Outcome (List TypedItem)
@@ -242,7 +242,7 @@ body_of sources block = do
   Ok (checked_of block.distinct (inputs_of sources) (join_of sources condition) (joined_row sources) groups items)
 
 -- a block: its inputs from the left, then their aliases, then the rest
-unfoldable pub block_of : Readable → SelectBlock → Outcome Checked
+unfoldable pub block_of : SchemaLookup → SelectBlock → Outcome Checked
 block_of readable block = do
   sources ← each (source_of readable) block.inputs
   unless (are_apart sources) AmbiguousColumn
@@ -271,7 +271,7 @@ combined output operator first second = record {
 }
 
 -- two blocks have the same number of columns with the same types
-unfoldable pub with_second : Readable → OutputKind → Checked → Option Second → Outcome Planned
+unfoldable pub with_second : SchemaLookup → OutputKind → Checked → Option Second → Outcome Planned
 with_second readable output first None = Ok (alone output first)
 with_second readable output first (Some written) = do
   second ← block_of readable written.block
@@ -279,7 +279,7 @@ with_second readable output first (Some written) = do
   Ok (combined output written.operator first second)
 
 -- The plan of a query, or the first fault: of the first block, then of the second, then of the two together.
-unfoldable pub typing : Readable → Query → Outcome Planned
+unfoldable pub typing : SchemaLookup → Query → Outcome Planned
 typing readable query = do
   first ← block_of readable query.first
   with_second readable (output_of query.output) first query.second

@@ -53,7 +53,7 @@ impl Operand {
         ensures { option_copied result ≡ operand_value row.now self.now }
     {
         match self {
-            Operand::Column(place) => at(row, *place),
+            Operand::Column(column) => at(row, *column),
             Operand::Constant(value) => Some(value),
         }
     }

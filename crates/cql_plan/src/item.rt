@@ -27,7 +27,7 @@ fn group_of(fields: &[Field], written: &QualifiedName) -> Result<usize, PlanFaul
     ensures { result ≡ spec.group_of fields.now written.now }
 {
     let found = column_of(fields, written)?;
-    Ok(found.place)
+    Ok(found.column)
 }
 
 /// The columns by which a block is grouped, from the left.
@@ -46,10 +46,10 @@ pub(crate) fn groups_of(
     Ok(groups)
 }
 
-fn has_place(groups: &[usize], place: usize) -> bool
-    ensures { result ≡ list_any (λ group. group == place) groups.now }
+fn has_column(groups: &[usize], column: usize) -> bool
+    ensures { result ≡ list_any (λ group. group == column) groups.now }
 {
-    groups.iter().any(|group| *group == place)
+    groups.iter().any(|group| *group == column)
 }
 
 // Whether it is one of these columns.
@@ -58,7 +58,7 @@ fn is_among(groups: &[usize], expr: &Expr) -> bool
     ensures { result ≡ spec.is_among groups.now expr.now }
 {
     match expr {
-        Expr::Column(place) => has_place(groups, *place),
+        Expr::Column(column) => has_column(groups, *column),
         _ => false,
     }
 }
@@ -90,16 +90,16 @@ fn function_of(function: Function, found: FoundColumn) -> Result<TypedItem, Plan
                 return Err(PlanFault::TypeMismatch);
             }
             Ok(TypedItem {
-                item: Item::Sum(found.place),
+                item: Item::Sum(found.column),
                 kind: ColumnType::Number,
             })
         }
         Function::Min => Ok(TypedItem {
-            item: Item::Min(found.place),
+            item: Item::Min(found.column),
             kind: found.kind,
         }),
         Function::Max => Ok(TypedItem {
-            item: Item::Max(found.place),
+            item: Item::Max(found.column),
             kind: found.kind,
         }),
     }
@@ -170,9 +170,9 @@ fn all_items(alloc: Global, fields: &[Field]) -> Result<Vec<TypedItem>, AllocErr
     ensures { IfOk result (λ items. items.items ≡ spec.all_items 0 fields.now) }
 {
     let mut items = Vec::new(alloc);
-    for (place, field) in fields.iter().enumerate() {
+    for (column, field) in fields.iter().enumerate() {
         items.push(TypedItem {
-            item: Item::Value(Expr::Column(place)),
+            item: Item::Value(Expr::Column(column)),
             kind: field.kind,
         })?;
     }

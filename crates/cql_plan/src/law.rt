@@ -6,7 +6,7 @@ ghost use Rattle.cql_plan.specs.Law.{
   IsQualifiedLaw,
 };
 ghost use Rattle.cql_plan.specs.PortsRead.{IsPortsLaw, IsPlainLaw};
-ghost use Rattle.cql_plan.specs.Seen.{IsSeenLaw};
+ghost use Rattle.cql_plan.specs.Projected.{IsSeenLaw};
 
 /// A written column means the one column of the joined row that it may mean; it is unknown where
 /// there is none, and ambiguous where there are two.
@@ -15,7 +15,7 @@ pub fn column_law()
 {}
 
 /// Of inputs, columns of GROUP BY and items the first fault from the left is told, and where there
-/// is none each gives what stands at its place.
+/// is none each gives what stands at its index.
 pub fn first_fault_law()
     ensures { IsFirstFaultLaw }
 {}
@@ -27,7 +27,7 @@ pub fn qualified_law()
 {}
 
 /// The inputs of a plan are streams that can be read, and each has a port of its own, with the
-/// types of the columns that are seen, and their places.
+/// types of the columns that are seen, and their indices.
 pub fn ports_law()
     ensures { IsPortsLaw }
 {}
@@ -46,7 +46,7 @@ pub fn plain_law()
 
 /// What columns of a stream a caller doesn't see decides nothing but where those that it sees stand:
 /// the plan, or the fault, is that over streams which have the seen columns alone, with each input's
-/// window and places widened to the whole rows.
+/// window and projection widened to the whole rows.
 pub fn seen_law()
     ensures { IsSeenLaw }
 {}

@@ -4,6 +4,7 @@
 
 mod block;
 pub mod condition;
+mod equals;
 pub mod error;
 pub mod expr;
 mod fault;
@@ -14,7 +15,6 @@ pub mod node;
 pub mod plan;
 mod resolution;
 mod row;
-mod same;
 mod source;
 mod typed;
 

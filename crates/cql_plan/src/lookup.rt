@@ -1,6 +1,6 @@
 // What streams a caller may read.
 ghost use Rattle.std.specs.Prelude.{◌≡◌, ℕ, List, Option, option_copied, option_map};
-ghost use Rattle.cql_plan.specs.Visible.{Visible, visible_of};
+ghost use Rattle.cql_plan.specs.VisibleColumns.{VisibleColumns, visible_of};
 
 use cql_value::Schema;
 
@@ -15,9 +15,9 @@ pub struct Readable<'a> {
 
 /// The streams that a caller may read.
 pub trait Lookup {
-    /// The columns and their places of a stream of an owner, or with no owner of the caller's own
+    /// The columns and their indices of a stream of an owner, or with no owner of the caller's own
     /// stream of that name, where it may be read.
-    ghost readable: { Self → Option (List ℕ) → List ℕ → Option Visible };
+    ghost readable: { Self → Option (List ℕ) → List ℕ → Option VisibleColumns };
 
     /// What may be read of the stream of this owner, or with no owner of the caller's own stream:
     /// none where there is no such stream, or the caller may not read it.

@@ -4,18 +4,18 @@ ghost use Rattle.cql_plan.specs.Plan as spec;
 ghost use Rattle.cql_plan.specs.Ports.{ports, HavePorts};
 
 use crate::node::Node;
-use cql_value::{Items, Name, Same};
+use cql_value::{Equals, Items, Name};
 use cql_window::Window;
 use std::marker::Model;
 
 /// A stream that a plan reads, of an owner or the caller's own, through a window over the stream's
-/// whole rows. The columns by which a window parts are places in the whole row, counted from 0.
+/// whole rows. The columns by which a window parts are those of the whole row, counted from 0.
 pub struct Input {
     pub owner: Option<Name>,
     pub stream: Name,
     pub window: Window,
     /// Where the columns that the plan is typed over stand in the whole row.
-    pub places: Items<usize>,
+    pub projection: Items<usize>,
 }
 
 /// What is computed of a block: the join of its inputs, its items, and with DISTINCT each row
@@ -82,7 +82,7 @@ impl Drop for Input {
             owner: _,
             stream: _,
             window: _,
-            places: _,
+            projection: _,
         } = self;
     }
 }
@@ -133,7 +133,7 @@ impl Plan {
     }
 
     /// Its inputs, 1 to 6, in order: those of the first block, then those of the second. Each
-    /// stands beside a port of a join, and parts by places among its own.
+    /// stands beside a port of a join, and parts by columns of its own.
     pub fn inputs(&self) -> &[Input]
         ensures value { result.now ≡ self.now.inputs }
         ensures few { spec.IsFew self.now }
@@ -174,9 +174,9 @@ impl Plan {
     }
 
     /// Whether both say the same. Takes no memory.
-    pub fn is_same(&self, other: &Plan) -> bool
+    pub fn is_equal(&self, other: &Plan) -> bool
         ensures { IsTrue result ↔ (self.now ≡ other.now) }
     {
-        self.planned.is_same(&other.planned)
+        self.planned.is_equal(&other.planned)
     }
 }

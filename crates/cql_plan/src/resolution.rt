@@ -38,7 +38,7 @@ fn agree(left: &[ColumnType], right: &[ColumnType]) -> bool
         .all(|(left, right)| same_kind(*left, *right))
 }
 
-// Whether there are as many types, and the same, place by place.
+// Whether there are as many types, and the same, column by column.
 fn same_kinds(left: &[ColumnType], right: &[ColumnType]) -> bool
     ensures { result ≡ spec.same_kinds left.now right.now }
 {

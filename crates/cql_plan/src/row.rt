@@ -15,10 +15,10 @@ pub(crate) struct Field {
     pub(crate) kind: ColumnType,
 }
 
-/// A column that was found: its place in the joined row, counted from 0, and what it holds.
+/// A column that was found: its index in the joined row, counted from 0, and what it holds.
 #[derive(Clone, Copy)]
 pub(crate) struct FoundColumn {
-    pub(crate) place: usize,
+    pub(crate) column: usize,
     pub(crate) kind: ColumnType,
 }
 
@@ -50,13 +50,13 @@ pub(crate) fn column_named(
     ensures { result ≡ spec.column_named qualifier.now name.now fields.now }
 {
     let mut found = None;
-    for (place, field) in fields.iter().enumerate() {
+    for (column, field) in fields.iter().enumerate() {
         if may_mean(qualifier, name, field) {
             if found.is_some() {
                 return Err(PlanFault::AmbiguousColumn);
             }
             found = Some(FoundColumn {
-                place,
+                column,
                 kind: field.kind,
             });
         }

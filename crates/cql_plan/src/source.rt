@@ -5,7 +5,7 @@ ghost use Rattle.std.specs.Str.{bytes_eq};
 ghost use Rattle.cql_plan.specs.Outcome.{Answers, AnswersList, each};
 ghost use Rattle.cql_plan.specs.Columns.{kinds_of};
 ghost use Rattle.cql_plan.specs.Sources as spec;
-ghost use Rattle.cql_plan.specs.Visible.{visible_of};
+ghost use Rattle.cql_plan.specs.VisibleColumns.{visible_of};
 
 use crate::error::{PlanError, PlanFault};
 use crate::lookup::{Lookup, Readable};
@@ -105,23 +105,23 @@ impl Joined {
     }
 }
 
-// A column by which an input is parted: its place among those that are seen.
+// A column by which an input is parted: its index among those that are seen.
 fn part_column(fields: &[Field], name: &Name) -> Result<usize, PlanFault>
     ensures { result ≡ spec.part_column fields.now name.now }
 {
     let found = column_named(fields, &None, name)?;
-    Ok(found.place)
+    Ok(found.column)
 }
 
 #[tactic(auto, using(crate::proofs::Each::stops, crate::proofs::Each::goes_on, crate::proofs::Each::ends))]
 fn part_columns(alloc: Global, fields: &[Field], names: &[Name]) -> Result<Items<usize>, PlanError>
     ensures { Answers (each (spec.part_column fields.now) names.now) result }
 {
-    let mut places = Items::new(alloc);
+    let mut columns = Items::new(alloc);
     for name in names {
-        places.push(part_column(fields, name)?)?;
+        columns.push(part_column(fields, name)?)?;
     }
-    Ok(places)
+    Ok(columns)
 }
 
 // The length of so many ticks.
@@ -190,12 +190,12 @@ fn alias_of(input: &syntax::Input) -> Result<Name, AllocError>
 fn input_of(
     alloc: Global,
     input: &syntax::Input,
-    places: &[usize],
+    projection: &[usize],
     window: Window,
 ) -> Result<Input, AllocError>
-    ensures { IfOk result (λ i. i ≡ record { owner = input.now.stream.qualifier; stream = input.now.stream.name; window = window; places = places.now }) }
+    ensures { IfOk result (λ i. i ≡ record { owner = input.now.stream.qualifier; stream = input.now.stream.name; window = window; projection = projection.now }) }
 {
-    let places = Items::from_slice(alloc, places)?;
+    let projection = Items::from_slice(alloc, projection)?;
     let stream = input.stream.name.try_clone()?;
     let owner = input
         .stream
@@ -207,7 +207,7 @@ fn input_of(
         owner,
         stream,
         window,
-        places,
+        projection,
     })
 }
 

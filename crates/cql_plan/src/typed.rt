@@ -79,12 +79,12 @@ fn constant_of(alloc: Global, written: &Constant) -> Result<TypedExpr, AllocErro
     })
 }
 
-fn place_of(fields: &[Field], written: &QualifiedName) -> Result<TypedExpr, PlanFault>
-    ensures { result ≡ spec.place_of fields.now written.now }
+fn typed_column(fields: &[Field], written: &QualifiedName) -> Result<TypedExpr, PlanFault>
+    ensures { result ≡ spec.typed_column fields.now written.now }
 {
     let found = column_of(fields, written)?;
     Ok(TypedExpr {
-        expr: Expr::Column(found.place),
+        expr: Expr::Column(found.column),
         kind: found.kind,
     })
 }
@@ -100,7 +100,7 @@ pub(crate) fn expression_of(
 {
     match written {
         Expression::Constant(constant) => Ok(constant_of(alloc, constant)?),
-        Expression::Column(column) => Ok(place_of(fields, column)?),
+        Expression::Column(column) => Ok(typed_column(fields, column)?),
         Expression::Bracket(inner) => expression_of(alloc, fields, inner.get()),
         Expression::Binary(operation, left, right) => {
             let left = expression_of(alloc, fields, left.get())?;
@@ -126,7 +126,7 @@ fn operand_of(
         syntax::Operand::Column(column) => {
             let found = column_of(fields, column)?;
             Ok(TypedOperand {
-                operand: Operand::Column(found.place),
+                operand: Operand::Column(found.column),
                 kind: found.kind,
             })
         }

@@ -4,9 +4,9 @@ ghost use Rattle.cql_server.specs.declared.failure.Failure.TheVariants as failur
 
 use crate::failure::Failure;
 use crate::held::tell_held;
-use crate::shared_pool::SharedPool;
 use cql_core::{Operator, TenantTable};
 use cql_hall::{Gate, Hall, Journal, Point};
+use cql_sessions::SharedPool;
 use crossbeam_channel::Receiver;
 use std::sync::Wait;
 use std::thread::{Builder, Scope};

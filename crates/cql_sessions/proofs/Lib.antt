@@ -1,2 +1,3 @@
+pub mod BenchesCrosses
 pub mod Crosses
 pub mod Seating

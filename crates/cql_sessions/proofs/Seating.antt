@@ -23,7 +23,7 @@ use Rattle.cql_wire.specs.declared.scripts.ScriptError.{ScriptError}
 use Rattle.cql_sessions.specs.declared.caller.Caller.{Caller}
 use Rattle.cql_sessions.specs.declared.visit.Visit.{Visit}
 use Rattle.cql_sessions.specs.Answering.{Account}
-use Rattle.cql_sessions.specs.Asked.{asked_of}
+use Rattle.cql_sessions.specs.Request.{request_of}
 use Rattle.cql_sessions.specs.Seating.{login_among, behind_login, Asks, Serves, Answers, AreFirst, Served, ServedOf, Seated, of_caller, account_of, Visits, Faces, HasGoneOn, IsNew, Reads}
 
 -- ---- booleans and results
@@ -79,21 +79,21 @@ asks_more : (lines more : List LineText) (receipts : List Receipt) → Asks line
 asks_more [] more receipts none = subst (Asks more) (sym none) (asks_none more)
 asks_more (line ∷ lines) more receipts (inl asks) = inl (asks_more lines more receipts asks)
 asks_more (line ∷ lines) more receipts (inr one) =
-    let (receipt, later, is, asked, asks) = one in inr (receipt, later, is, asked, asks_more lines more later asks)
+    let (receipt, later, is, request, asks) = one in inr (receipt, later, is, request, asks_more lines more later asks)
 
-asks_next : (lines : List LineText) (line : LineText) (receipts : List Receipt) (receipt : Receipt) → asked_of line ≡ Ok (arc_value receipt.prepared) → Asks lines receipts
+asks_next : (lines : List LineText) (line : LineText) (receipts : List Receipt) (receipt : Receipt) → request_of line ≡ Ok (arc_value receipt.prepared) → Asks lines receipts
     → Asks (lines ++ line ∷ []) (receipts ++ receipt ∷ [])
-asks_next [] line receipts receipt asked none = inr (receipt, [], ap (λ l. l ++ receipt ∷ []) none, asked, refl)
-asks_next (first ∷ lines) line receipts receipt asked (inl asks) = inl (asks_next lines line receipts receipt asked asks)
-asks_next (first ∷ lines) line receipts receipt asked (inr one) =
+asks_next [] line receipts receipt request none = inr (receipt, [], ap (λ l. l ++ receipt ∷ []) none, request, refl)
+asks_next (first ∷ lines) line receipts receipt request (inl asks) = inl (asks_next lines line receipts receipt request asks)
+asks_next (first ∷ lines) line receipts receipt request (inr one) =
     let (before, later, is, its, asks) = one in
-    inr (before, later ++ receipt ∷ [], ap (λ l. l ++ receipt ∷ []) is, its, asks_next lines line later receipt asked asks)
+    inr (before, later ++ receipt ∷ [], ap (λ l. l ++ receipt ∷ []) is, its, asks_next lines line later receipt request asks)
 
-asks_called : (lines : List LineText) (line : LineText) (old new : List Receipt) → (new ≡ old) ⊎ ((receipt : Receipt) × (asked_of line ≡ Ok (arc_value receipt.prepared)) × (new ≡ old ++ receipt ∷ [])) → Asks lines old
+asks_called : (lines : List LineText) (line : LineText) (old new : List Receipt) → (new ≡ old) ⊎ ((receipt : Receipt) × (request_of line ≡ Ok (arc_value receipt.prepared)) × (new ≡ old ++ receipt ∷ [])) → Asks lines old
     → Asks (lines ++ line ∷ []) new
 asks_called lines line old new (inl same) asks = subst (Asks (lines ++ line ∷ [])) (sym same) (asks_more lines (line ∷ []) old asks)
 asks_called lines line old new (inr one) asks =
-    let (receipt, asked, is) = one in subst (Asks (lines ++ line ∷ [])) (sym is) (asks_next lines line old receipt asked asks)
+    let (receipt, request, is) = one in subst (Asks (lines ++ line ∷ [])) (sym is) (asks_next lines line old receipt request asks)
 
 -- one line more was answered
 serves_more : (table : List Tenant) (lines : List LineText) (line : LineText) (old new : Option Account) → (old ≡ None → lines ≡ []) → Answers table line old new → Serves table lines old → Serves table (lines ++ line ∷ []) new

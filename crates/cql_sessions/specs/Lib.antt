@@ -1,4 +1,4 @@
 pub mod Answering
-pub mod Asked
+pub mod Request
 pub mod Seating
 pub mod Tallies

@@ -9,9 +9,9 @@ use Rattle.cql_lines.specs.Text.{LineText, lines_of}
 use Rattle.cql_sessions.specs.declared.caller.Caller.{Caller}
 use Rattle.cql_sessions.specs.declared.visit.Visit.{Visit}
 use Rattle.cql_sessions.specs.Answering.{Account, Calls}
-use Rattle.cql_sessions.specs.Asked.{logged_in, asked_of}
+use Rattle.cql_sessions.specs.Request.{logged_in, request_of}
 
--- the place of the tenant that the first of these lines logs in, if there is one and it is a login
+-- the index of the tenant that the first of these lines logs in, if there is one and it is a login
 abbrev pub login_among : List Tenant → List LineText → Option ℕ
 login_among table [] = None
 login_among table (login ∷ later) = logged_in table login
@@ -24,7 +24,7 @@ behind_login (login ∷ later) = later
 -- each receipt is of a call that one of these lines asks, one after another; the other lines made no call
 abbrev pub Asks : List LineText → List Receipt → Type 0
 Asks [] receipts = receipts ≡ []
-Asks (line ∷ lines) receipts = Asks lines receipts ⊎ ((receipt : Receipt) × (later : List Receipt) × (receipts ≡ receipt ∷ later) × (asked_of line ≡ Ok (arc_value receipt.prepared)) × Asks lines later)
+Asks (line ∷ lines) receipts = Asks lines receipts ⊎ ((receipt : Receipt) × (later : List Receipt) × (receipts ≡ receipt ∷ later) × (request_of line ≡ Ok (arc_value receipt.prepared)) × Asks lines later)
 
 -- what a caller has behind these lines of his
 abbrev pub Serves : List Tenant → List LineText → Option Account → Type 0
@@ -37,7 +37,7 @@ abbrev pub Answers : List Tenant → LineText → Option Account → Option Acco
 Answers table line None None = logged_in table line ≡ None
 Answers table line None (Some new) = (logged_in table line ≡ Some new.seat.tenant) × (new.receipts ≡ [])
 Answers table line (Some old) None = ⊥
-Answers table line (Some old) (Some new) = Calls (asked_of line) old new
+Answers table line (Some old) (Some new) = Calls (request_of line) old new
 
 -- these lines are the first of an input: of one that begins with these bytes, whatever follows, or of one that is these bytes
 abbrev pub AreFirst : Bool → List ℕ → List LineText → Type 0

@@ -6,7 +6,7 @@ use crate::request::{Request, prepared_of};
 use crate::sessions::SessionEnd;
 use cql_core::{Evaluator, Reply, TenantId, TenantTable};
 use cql_hall::{Gate, Hall, Journal, Kind, Point, Receipt, Seat};
-use cql_wire::{Gathered, Line, LineFault, Scratch, ScriptError, Watched, WriteFault};
+use cql_wire::{Line, LineFault, ReplyBuffer, Scratch, ScriptError, Watched, WriteFault};
 use std::alloc::Global;
 use std::io::Write;
 use std::sync::Wait;
@@ -54,7 +54,7 @@ impl Caller {
     ghost use Rattle.std.specs.Arc.{arc_value};
     ghost use Rattle.cql_lines.specs.Next.{text_of};
     ghost use Rattle.cql_sessions.specs.Answering.{Calls};
-    ghost use Rattle.cql_sessions.specs.Asked.{asked_of};
+    ghost use Rattle.cql_sessions.specs.Request.{request_of};
     ghost use Rattle.cql_sessions.specs.Seating.{of_caller};
 
     /// A caller of the tenant, who has made no call.
@@ -99,28 +99,28 @@ impl Caller {
         }
     }
 
-    // Makes a call, gathers its reply, and keeps its receipt where calls are kept. Without room
+    // Makes a call, buffers its reply, and keeps its receipt where calls are kept. Without room
     // for the receipt no call is made, and the line is told so (70).
     fn call<H: Wait, J: Journal, E: Evaluator, G: Gate, W: Write>(
         &mut self,
         service: &Service<'_, H, J, G>,
         bench: &mut E,
-        asked: Request,
-        gathered: &mut Gathered,
+        request: Request,
+        buffer: &mut ReplyBuffer,
         writer: &mut Watched<W>,
     ) -> Result<(), WriteFault>
         requires bench { E.is_ready bench.old }
         ensures bench { E.is_ready bench.new }
         ensures kept { self.new.is_kept ≡ self.old.is_kept }
-        ensures calls { Calls (Ok (arc_value asked.prepared)) (of_caller self.old) (of_caller self.new) }
+        ensures calls { Calls (Ok (arc_value request.prepared)) (of_caller self.old) (of_caller self.new) }
     {
         if self.is_kept && self.receipts.reserve(1).is_err() {
             service
                 .gate
                 .at(Point::Refused(LineFault::NoMemory.number()));
-            return gathered.put_fault(writer, &LineFault::NoMemory);
+            return buffer.put_fault(writer, &LineFault::NoMemory);
         }
-        let Request { prepared, kind } = asked;
+        let Request { prepared, kind } = request;
         let gate = service.gate;
         let begun = begin(gate, kind);
         let pending = service
@@ -128,14 +128,14 @@ impl Caller {
             .call(service.rt, gate, &mut self.seat, prepared);
         let receipt = pending.finish(service.alloc, bench, gate);
         tell(gate, kind, begun, &receipt.reply);
-        let told = gathered.put_reply(service.alloc, writer, &receipt.reply);
+        let told = buffer.put_reply(service.alloc, writer, &receipt.reply);
         if self.is_kept {
             self.receipts.push_reserved(receipt);
         }
         told
     }
 
-    /// Answers one line. One that gives no command makes no call. All that is gathered is written
+    /// Answers one line. One that gives no command makes no call. All that is buffered is written
     /// before a fetch, so that no more is computed for a caller who has left. Where no fetch may
     /// be answered now, nothing is done with one.
     pub(crate) fn answer<H: Wait, J: Journal, E: Evaluator, G: Gate, W: Write>(
@@ -144,34 +144,34 @@ impl Caller {
         bench: &mut E,
         line: Line<'_>,
         may_fetch: bool,
-        gathered: &mut Gathered,
+        buffer: &mut ReplyBuffer,
         scratch: &mut Scratch,
         writer: &mut Watched<W>,
     ) -> Result<LineOutcome, WriteFault>
         requires bench { E.is_ready bench.old }
         ensures bench { E.is_ready bench.new }
         ensures kept { self.new.is_kept ≡ self.old.is_kept }
-        ensures calls { Calls (asked_of (text_of line.entry)) (of_caller self.old) (of_caller self.new) }
+        ensures calls { Calls (request_of (text_of line.entry)) (of_caller self.old) (of_caller self.new) }
         ensures waits { IfOk result (λ outcome. outcome ≡ LineOutcome.Held → of_caller self.new ≡ of_caller self.old) }
         ensures held { may_fetch ≡ true → IfOk result (λ outcome. outcome ≢ LineOutcome.Held) }
     {
-        let asked = match prepared_of(service.alloc, line, scratch) {
-            Ok(asked) => asked,
+        let request = match prepared_of(service.alloc, line, scratch) {
+            Ok(request) => request,
             Err(fault) => {
                 service.gate.at(Point::Refused(fault.number()));
-                gathered.put_fault(writer, &fault)?;
+                buffer.put_fault(writer, &fault)?;
                 return Ok(LineOutcome::Short);
             }
         };
-        if asked.kind != Kind::Fetch {
-            self.call(service, bench, asked, gathered, writer)?;
+        if request.kind != Kind::Fetch {
+            self.call(service, bench, request, buffer, writer)?;
             return Ok(LineOutcome::Short);
         }
         if !may_fetch {
             return Ok(LineOutcome::Held);
         }
-        gathered.flush(writer)?;
-        self.call(service, bench, asked, gathered, writer)?;
+        buffer.flush(writer)?;
+        self.call(service, bench, request, buffer, writer)?;
         Ok(LineOutcome::Fetch)
     }
 }

@@ -3,12 +3,12 @@ ghost use Rattle.std.specs.Prelude.{◌≡◌, ◌≤◌, [], length, IfOk};
 
 use crate::caller::{LineOutcome, Service};
 use crate::connection::{Connection, Outbox, read_once};
-use crate::desk::Desk;
 use crate::ending::Ending;
+use crate::session_buffers::SessionBuffers;
 use crate::visit::Visit;
 use cql_core::{Evaluator, TenantId};
 use cql_hall::{Gate, Journal};
-use cql_wire::{Gathered, LineFault, Scratch, ScriptError, Watched, write_fault};
+use cql_wire::{LineFault, ReplyBuffer, Scratch, ScriptError, Watched, write_fault};
 use std::alloc::Global;
 use std::io;
 use std::net::TcpStream;
@@ -131,27 +131,27 @@ impl Connected for Guest {
 impl Guest {
     /// Serves its session for a while: writes what is held back, or reads once and answers lines
     /// up to a fetch. A caller who doesn't take what is written is not read from. Nothing of its
-    /// replies stays at the desk.
+    /// replies stays in the buffers.
     pub fn turn<H: Wait, J: Journal, E: Evaluator, G: Gate>(
         &mut self,
         service: &Service<'_, H, J, G>,
         bench: &mut E,
-        desk: &mut Desk,
+        buffers: &mut SessionBuffers,
         may: May,
     ) -> WaitsFor
         requires bench { E.is_ready bench.old }
-        requires nothing { desk.old.gathered ≡ [] }
+        requires nothing { buffers.old.buffer ≡ [] }
         ensures bench { E.is_ready bench.new }
-        ensures nothing { desk.new.gathered ≡ [] }
+        ensures nothing { buffers.new.buffer ≡ [] }
     {
-        let needs = match self.serve(service, bench, desk, may) {
+        let needs = match self.serve(service, bench, buffers, may) {
             Ok(needs) => needs,
             Err(fault) => {
                 self.tell_no_memory(fault);
                 WaitsFor::End(Some(fault))
             }
         };
-        desk.gathered.clear();
+        buffers.buffer.clear();
         needs
     }
 
@@ -183,7 +183,7 @@ impl Guest {
         &mut self,
         service: &Service<'_, H, J, G>,
         bench: &mut E,
-        desk: &mut Desk,
+        buffers: &mut SessionBuffers,
         may: May,
     ) -> Result<WaitsFor, ScriptError>
         requires bench { E.is_ready bench.old }
@@ -200,8 +200,16 @@ impl Guest {
             held: Vec::new(alloc),
         });
         let visit = &mut self.visit;
-        let came = answer_next(service, bench, visit, unread, desk, may.fetch, &mut outbox)?;
-        desk.gathered.flush(&mut outbox)?;
+        let came = answer_next(
+            service,
+            bench,
+            visit,
+            unread,
+            buffers,
+            may.fetch,
+            &mut outbox,
+        )?;
+        buffers.buffer.flush(&mut outbox)?;
         (self.link.unsent, self.link.is_waiting) = outbox.into_inner().into_rest();
         let is_spent = came.is_none();
         self.link.note(came, may.wait);
@@ -231,32 +239,32 @@ fn answer_next<H: Wait, J: Journal, E: Evaluator, G: Gate>(
     bench: &mut E,
     visit: &mut Visit,
     unread: Vec<u8>,
-    desk: &mut Desk,
+    buffers: &mut SessionBuffers,
     may_fetch: bool,
     outbox: &mut Watched<Outbox<'_>>,
 ) -> Result<Option<Vec<u8>>, ScriptError>
     requires bench { E.is_ready bench.old }
     ensures bench { E.is_ready bench.new }
 {
-    let Desk {
+    let SessionBuffers {
         chunk,
         scratch,
-        gathered,
-    } = desk;
+        buffer,
+    } = buffers;
     if visit.is_held() {
-        visit.answer_whole(service, bench, may_fetch, gathered, scratch, outbox)?;
+        visit.answer_whole(service, bench, may_fetch, buffer, scratch, outbox)?;
         return Ok(Some(unread));
     }
     if !unread.is_empty() {
         let bytes = unread.as_slice();
         return answer_front(
-            service, bench, visit, bytes, may_fetch, gathered, scratch, outbox,
+            service, bench, visit, bytes, may_fetch, buffer, scratch, outbox,
         );
     }
     match read_once(outbox.inner().stream, chunk)? {
         None => Ok(None),
         Some(0) => {
-            visit.end(service, bench, may_fetch, gathered, scratch, outbox)?;
+            visit.end(service, bench, may_fetch, buffer, scratch, outbox)?;
             Ok(Some(unread))
         }
         Some(count) => answer_front(
@@ -265,7 +273,7 @@ fn answer_next<H: Wait, J: Journal, E: Evaluator, G: Gate>(
             visit,
             &chunk[..count],
             may_fetch,
-            gathered,
+            buffer,
             scratch,
             outbox,
         ),
@@ -279,7 +287,7 @@ fn answer_front<H: Wait, J: Journal, E: Evaluator, G: Gate>(
     visit: &mut Visit,
     bytes: &[u8],
     may_fetch: bool,
-    gathered: &mut Gathered,
+    buffer: &mut ReplyBuffer,
     scratch: &mut Scratch,
     outbox: &mut Watched<Outbox<'_>>,
 ) -> Result<Option<Vec<u8>>, ScriptError>
@@ -287,7 +295,7 @@ fn answer_front<H: Wait, J: Journal, E: Evaluator, G: Gate>(
     ensures bench { E.is_ready bench.new }
 {
     let used = answer_some(
-        service, bench, visit, bytes, may_fetch, gathered, scratch, outbox,
+        service, bench, visit, bytes, may_fetch, buffer, scratch, outbox,
     )?;
     let rest = Vec::from_slice(service.alloc, &bytes[used..])?;
     Ok(Some(rest))
@@ -301,7 +309,7 @@ fn answer_some<H: Wait, J: Journal, E: Evaluator, G: Gate>(
     visit: &mut Visit,
     bytes: &[u8],
     may_fetch: bool,
-    gathered: &mut Gathered,
+    buffer: &mut ReplyBuffer,
     scratch: &mut Scratch,
     outbox: &mut Watched<Outbox<'_>>,
 ) -> Result<usize, ScriptError>
@@ -319,7 +327,7 @@ fn answer_some<H: Wait, J: Journal, E: Evaluator, G: Gate>(
         {
             break;
         }
-        let step = visit.take_line(service, bench, rest, may_fetch, gathered, scratch, outbox)?;
+        let step = visit.take_line(service, bench, rest, may_fetch, buffer, scratch, outbox)?;
         used += step.count;
         if step.outcome != LineOutcome::Short {
             break;

@@ -1,19 +1,25 @@
 //! Sessions of callers: one over any reader and writer, and one between two pieces of its input, at a
-//! connection that never waits for long.
+//! connection that never waits for long; and the benches that compute their answers, which threads borrow.
 #![tactic(auto)]
 
+mod answers;
+mod benches;
 mod caller;
 mod connection;
-mod desk;
 mod ending;
 mod guest;
 mod login;
 mod request;
+mod session_buffers;
 mod sessions;
+mod shared_pool;
 mod visit;
 
+pub use answers::Answers;
+pub use benches::benches_of;
 pub use caller::Service;
-pub use desk::Desk;
 pub use ending::Ending;
 pub use guest::{Connected, Guest, May, WaitsFor};
+pub use session_buffers::SessionBuffers;
 pub use sessions::{SessionEnd, session};
+pub use shared_pool::{Borrowing, SharedPool, borrowing};

@@ -1,11 +1,11 @@
 // The login of a session.
 ghost use Rattle.std.specs.Prelude.{◌≡◌, [], IfOk, IfNone};
-ghost use Rattle.cql_sessions.specs.Asked.{logged_in};
+ghost use Rattle.cql_sessions.specs.Request.{logged_in};
 ghost use Rattle.cql_asked.specs.Login.{LogsIn};
 ghost use Rattle.cql_lines.specs.Next.{text_of};
 
 use cql_core::{Reply, TenantId, TenantTable};
-use cql_wire::{Gathered, Line, LineFault, ScriptError, Watched, named_tenant, read_login};
+use cql_wire::{Line, LineFault, ReplyBuffer, ScriptError, Watched, named_tenant, read_login};
 use std::alloc::Global;
 use std::io::Write;
 
@@ -34,21 +34,21 @@ pub(crate) fn answer_login<W: Write>(
     alloc: Global,
     table: &TenantTable,
     line: Line<'_>,
-    gathered: &mut Gathered,
+    buffer: &mut ReplyBuffer,
     writer: &mut Watched<W>,
 ) -> Result<Option<TenantId>, ScriptError>
     ensures whose { IfOk result (λ tenant. tenant ≡ logged_in table.now (text_of line.entry)) }
-    ensures told { IfOk result (λ tenant. IfNone tenant (gathered.new ≡ [])) }
+    ensures told { IfOk result (λ tenant. IfNone tenant (buffer.new ≡ [])) }
 {
     match tenant_of(alloc, table, line) {
         Ok(tenant) => {
-            gathered.put_reply(alloc, writer, &Reply::Ok)?;
+            buffer.put_reply(alloc, writer, &Reply::Ok)?;
             Ok(Some(tenant))
         }
         Err(LineFault::NoMemory) => Err(ScriptError::NoMemory),
         Err(fault) => {
-            gathered.put_fault(writer, &fault)?;
-            gathered.flush(writer)?;
+            buffer.put_fault(writer, &fault)?;
+            buffer.flush(writer)?;
             Ok(None)
         }
     }

@@ -1,7 +1,7 @@
 // What a line of a session asks.
 ghost use Rattle.std.specs.Prelude.{◌≡◌, Ok, Err, IfOk, IfErr};
 ghost use Rattle.std.specs.Arc.{arc_value};
-ghost use Rattle.cql_sessions.specs.Asked.{asked_of};
+ghost use Rattle.cql_sessions.specs.Request.{request_of};
 ghost use Rattle.cql_asked.specs.Fault.{Means};
 ghost use Rattle.cql_lines.specs.Next.{text_of};
 
@@ -15,7 +15,7 @@ use std::sync::Arc;
 // its command (10, 11 or 12), `BadKey` (12) where it names a tenant. `NoMemory` (70) may be told
 // of any line.
 fn command_of(alloc: Global, line: Line<'_>, scratch: &mut Scratch) -> Result<Command, LineFault>
-    ensures { Means (asked_of (text_of line.entry)) result }
+    ensures { Means (request_of (text_of line.entry)) result }
 {
     let Line::Whole(bytes) = line else {
         return Err(LineFault::BadLine);
@@ -40,8 +40,8 @@ pub(crate) fn prepared_of(
     line: Line<'_>,
     scratch: &mut Scratch,
 ) -> Result<Request, LineFault>
-    ensures ok { IfOk result (λ asked. asked_of (text_of line.entry) ≡ Ok (arc_value asked.prepared)) }
-    ensures err { IfErr result (λ fault. Means (asked_of (text_of line.entry)) (Err fault)) }
+    ensures ok { IfOk result (λ request. request_of (text_of line.entry) ≡ Ok (arc_value request.prepared)) }
+    ensures err { IfErr result (λ fault. Means (request_of (text_of line.entry)) (Err fault)) }
 {
     let command = command_of(alloc, line, scratch)?;
     let kind = Kind::of(&command);

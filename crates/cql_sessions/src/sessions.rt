@@ -6,11 +6,11 @@ ghost use Rattle.cql_sessions.specs.Seating.{login_among, behind_login, Asks, Se
 ghost use Rattle.cql_sessions.specs.Tallies.{placed};
 
 use crate::caller::Service;
-use crate::desk::Desk;
+use crate::session_buffers::SessionBuffers;
 use crate::visit::Visit;
 use cql_core::{Evaluator, TenantTable};
 use cql_hall::{Gate, Hall, Journal, Receipt, Seat};
-use cql_wire::{Gathered, LineFault, Scratch, ScriptError, Watched, write_fault};
+use cql_wire::{LineFault, ReplyBuffer, Scratch, ScriptError, Watched, write_fault};
 use std::alloc::Global;
 use std::io::{Read, Write};
 use std::sync::Wait;
@@ -34,7 +34,7 @@ const MAX_READS: u64 = 1 << 40;
 /// command, which is a call of the hall by the login's tenant and may not name one (12). A line
 /// that finds no memory is answered 70; where that was so before its call, no call is made.
 ///
-/// Replies are gathered, up to 65,536 bytes. All that are gathered are written before a fetch,
+/// Replies are buffered, up to 65,536 bytes. All that are buffered are written before a fetch,
 /// before a read, which may wait, and at the end. A session ends with the first fault: of the reader, after which
 /// nothing of a line that isn't whole runs; of the writer; or want of memory before the login is
 /// answered, of which the line of 70 is told.
@@ -62,7 +62,7 @@ where
     ensures bare { J.keeps ≡ false → result.receipts.items ≡ [] }
     ensures nobody { result.seat ≡ None → result.receipts.items ≡ [] }
     ensures login { IfSome result.seat (λ s. IfSome (R.remaining reader) (λ input. login_among table.now (lines_of input) ≡ Some s.tenant)) }
-    ensures asked { IfSome result.seat (λ s. IfSome (R.remaining reader) (λ input. Asks (behind_login (lines_of input)) result.receipts.items)) }
+    ensures request { IfSome result.seat (λ s. IfSome (R.remaining reader) (λ input. Asks (behind_login (lines_of input)) result.receipts.items)) }
 {
     let mut reader = Watched::new(reader);
     let mut writer = Watched::new(writer);
@@ -96,46 +96,46 @@ fn attend<H: Wait, J: Journal, E: Evaluator, G: Gate, R: Read, W: Write>(
     ensures served { IsNew visit.old → ServedOf service.now.table.now (R.remaining (inner_of reader.old)) (account_of visit.new.caller) }
 {
     visit.make_room(service.alloc)?;
-    let mut desk = Desk::new(service.alloc)?;
+    let mut buffers = SessionBuffers::new(service.alloc)?;
     for _ in 0..MAX_READS {
-        read_once(service, bench, visit, &mut desk, reader, writer)?;
+        read_once(service, bench, visit, &mut buffers, reader, writer)?;
         if visit.is_over() {
-            desk.gathered.flush(writer)?;
+            buffers.buffer.flush(writer)?;
             return Ok(());
         }
     }
     Err(ScriptError::Read)
 }
 
-// Writes all that is gathered, reads once, and answers what came: at the end of the input the line
+// Writes all that is buffered, reads once, and answers what came: at the end of the input the line
 // that no line feed has ended.
 fn read_once<H: Wait, J: Journal, E: Evaluator, G: Gate, R: Read, W: Write>(
     service: &Service<'_, H, J, G>,
     bench: &mut E,
     visit: &mut Visit,
-    desk: &mut Desk,
+    buffers: &mut SessionBuffers,
     reader: &mut Watched<R>,
     writer: &mut Watched<W>,
 ) -> Result<(), ScriptError>
     requires bench { E.is_ready bench.old }
     requires going { visit.old.is_held ≡ false }
-    requires room { 0 < vec_len desk.old.chunk }
+    requires room { 0 < vec_len buffers.old.chunk }
     ensures bench { E.is_ready bench.new }
     ensures kept { visit.new.is_kept ≡ visit.old.is_kept }
     ensures going { OnOk result (visit.new.is_held ≡ false) }
-    ensures room { vec_len desk.new.chunk ≡ vec_len desk.old.chunk }
+    ensures room { vec_len buffers.new.chunk ≡ vec_len buffers.old.chunk }
     ensures reads { visit.old.is_over ≡ false → Reads service.now.table.now visit.old visit.new
         (R.remaining (inner_of reader.old)) (R.remaining (inner_of reader.new)) (is_ok result) }
 {
-    let Desk {
+    let SessionBuffers {
         chunk,
-        gathered,
+        buffer,
         scratch,
-    } = desk;
-    gathered.flush(writer)?;
+    } = buffers;
+    buffer.flush(writer)?;
     let count = reader.read(chunk)?;
     if count == 0 {
-        visit.end(service, bench, true, gathered, scratch, writer)?;
+        visit.end(service, bench, true, buffer, scratch, writer)?;
         return Ok(());
     }
     take_lines(
@@ -143,7 +143,7 @@ fn read_once<H: Wait, J: Journal, E: Evaluator, G: Gate, R: Read, W: Write>(
         bench,
         visit,
         &chunk[..count],
-        gathered,
+        buffer,
         scratch,
         writer,
     )
@@ -155,7 +155,7 @@ fn take_lines<H: Wait, J: Journal, E: Evaluator, G: Gate, W: Write>(
     bench: &mut E,
     visit: &mut Visit,
     bytes: &[u8],
-    gathered: &mut Gathered,
+    buffer: &mut ReplyBuffer,
     scratch: &mut Scratch,
     writer: &mut Watched<W>,
 ) -> Result<(), ScriptError>
@@ -172,7 +172,7 @@ fn take_lines<H: Wait, J: Journal, E: Evaluator, G: Gate, W: Write>(
 {
     let mut rest = bytes;
     while !rest.is_empty() && !visit.is_over() {
-        let step = visit.take_line(service, bench, rest, true, gathered, scratch, writer)?;
+        let step = visit.take_line(service, bench, rest, true, buffer, scratch, writer)?;
         rest = &rest[step.count..];
     }
     Ok(())

@@ -9,7 +9,7 @@ use crate::sessions::SessionEnd;
 use cql_core::{Evaluator, TenantId};
 use cql_hall::{Gate, Journal, Point};
 use cql_lines::Intake;
-use cql_wire::{Gathered, Scratch, ScriptError, Watched};
+use cql_wire::{ReplyBuffer, Scratch, ScriptError, Watched};
 use std::alloc::{AllocError, Global};
 use std::io::Write;
 use std::sync::Wait;
@@ -132,7 +132,7 @@ impl Visit {
         bench: &mut E,
         bytes: &[u8],
         may_fetch: bool,
-        gathered: &mut Gathered,
+        buffer: &mut ReplyBuffer,
         scratch: &mut Scratch,
         writer: &mut Watched<W>,
     ) -> Result<Progress, ScriptError>
@@ -156,7 +156,7 @@ impl Visit {
                 outcome: LineOutcome::Short,
             });
         }
-        let outcome = self.answer_whole(service, bench, may_fetch, gathered, scratch, writer)?;
+        let outcome = self.answer_whole(service, bench, may_fetch, buffer, scratch, writer)?;
         Ok(Progress {
             count: taken.count,
             outcome,
@@ -170,7 +170,7 @@ impl Visit {
         service: &Service<'_, H, J, G>,
         bench: &mut E,
         may_fetch: bool,
-        gathered: &mut Gathered,
+        buffer: &mut ReplyBuffer,
         scratch: &mut Scratch,
         writer: &mut Watched<W>,
     ) -> Result<LineOutcome, ScriptError>
@@ -185,7 +185,7 @@ impl Visit {
             → Visits service.now.table.now came self.old → Served service.now.table.now true came (account_of self.new.caller)) }
     {
         self.is_ended = true;
-        self.answer_whole(service, bench, may_fetch, gathered, scratch, writer)
+        self.answer_whole(service, bench, may_fetch, buffer, scratch, writer)
     }
 
     /// Answers the line that is whole, if it isn't blank, and goes to the next one. Where no fetch
@@ -195,7 +195,7 @@ impl Visit {
         service: &Service<'_, H, J, G>,
         bench: &mut E,
         may_fetch: bool,
-        gathered: &mut Gathered,
+        buffer: &mut ReplyBuffer,
         scratch: &mut Scratch,
         writer: &mut Watched<W>,
     ) -> Result<LineOutcome, ScriptError>
@@ -213,7 +213,7 @@ impl Visit {
             self.go_on();
             return Ok(LineOutcome::Short);
         }
-        let outcome = self.answer(service, bench, may_fetch, gathered, scratch, writer)?;
+        let outcome = self.answer(service, bench, may_fetch, buffer, scratch, writer)?;
         if outcome == LineOutcome::Held {
             self.is_held = true;
         } else {
@@ -241,7 +241,7 @@ impl Visit {
         service: &Service<'_, H, J, G>,
         bench: &mut E,
         may_fetch: bool,
-        gathered: &mut Gathered,
+        buffer: &mut ReplyBuffer,
         scratch: &mut Scratch,
         writer: &mut Watched<W>,
     ) -> Result<LineOutcome, ScriptError>
@@ -259,13 +259,11 @@ impl Visit {
     {
         let line = self.intake.line();
         if let Some(caller) = &mut self.caller {
-            let outcome = caller.answer(
-                service, bench, line, may_fetch, gathered, scratch, writer,
-            )?;
+            let outcome = caller.answer(service, bench, line, may_fetch, buffer, scratch, writer)?;
             return Ok(outcome);
         }
         let alloc = service.alloc;
-        match answer_login(alloc, service.table, line, gathered, writer)? {
+        match answer_login(alloc, service.table, line, buffer, writer)? {
             Some(tenant) => {
                 service.gate.at(Point::LoggedIn(tenant));
                 self.caller = Some(Caller::new(alloc, service.hall, tenant, self.is_kept));

@@ -1,9 +1,9 @@
--- A stream that comes or goes leaves every store and every spot as it is.
+-- A stream that comes or goes leaves every store and every stub as it is.
 use Rattle.std.proofs.Common.{◌≡◌, ℕ, zero, suc, ◌+◌, ◌<◌, Bool, true, false, eqb, [], ◌∷◌, ◌++◌, length, set, refl, ap, subst, sym, ◌∙◌, arith, length-set, length-append, get_or-set_same, get_or-set_other}
 use Rattle.std.specs.Prelude.{get_or}
 use Rattle.std.proofs.lemmas.List.{set-get_or}
 use Rattle.cql_store.specs.Held.{stub_of}
-use Rattle.cql_store.proofs.Moved.{same_place, far_place}
+use Rattle.cql_store.proofs.Moved.{same_nat, far_nat}
 use Rattle.cql_store.specs.StreamsLaw.{IsOneMore, IsAddLaw, IsRemoveLaw}
 use Rattle.cql_store.specs.Stores.{OwnStores, AllStores, own_at, store_at}
 
@@ -28,7 +28,7 @@ module _ (old new : AllStores) (owner : ℕ) (lt : owner < length new) (owners :
   stores_at : (o s : ℕ) (b : Bool) → eqb o owner ≡ b → store_at new o s ≡ store_at old o s
   stores_at o s false is = ap (λ l. get_or l s []) (others o is)
   stores_at o s true is =
-      let e = same_place o owner is in
+      let e = same_nat o owner is in
       ap (λ p. store_at new p s) e ∙ ap (λ l. get_or l s []) own ∙ bare_behind (own_at old owner) s ∙ sym (ap (λ p. store_at old p s) e)
 
   length_own : length (own_at new owner) ≡ length (own_at old owner) + 1
@@ -37,7 +37,7 @@ module _ (old new : AllStores) (owner : ℕ) (lt : owner < length new) (owners :
   within_at : (o s : ℕ) (b : Bool) → eqb o owner ≡ b → s < length (own_at old o) → s < length (own_at new o)
   within_at o s false is h = subst (λ l. s < length l) (sym (others o is)) h
   within_at o s true is h =
-      let e = same_place o owner is in
+      let e = same_nat o owner is in
       let h : s < length (own_at old owner) = subst (λ p. s < length (own_at old p)) e h in
       subst (λ p. s < length (own_at new p)) (sym e) (omega (arith, length_own))
 
@@ -60,7 +60,7 @@ add_law all owner lt =
     (subst (λ n. owner < n) (sym (length-set all owner (own_at all owner ++ [] ∷ []))) lt)
     (length-set all owner (own_at all owner ++ [] ∷ []))
     (get_or-set_same all owner (own_at all owner ++ [] ∷ []) [] lt)
-    (λ o far. get_or-set_other all owner o (own_at all owner ++ [] ∷ []) [] (far_place o owner far))
+    (λ o far. get_or-set_other all owner o (own_at all owner ++ [] ∷ []) [] (far_nat o owner far))
     (set_again all owner (own_at all owner ++ [] ∷ []) (own_at all owner) ∙ set-get_or all owner [])
 
 pub remove_law : IsRemoveLaw
@@ -69,5 +69,5 @@ remove_law all owner front lt is =
     one_more (set all owner front) all owner lt
     (sym (length-set all owner front))
     (is ∙ ap (λ l. l ++ [] ∷ []) (sym own))
-    (λ o far. sym (get_or-set_other all owner o front [] (far_place o owner far)))
+    (λ o far. sym (get_or-set_other all owner o front [] (far_nat o owner far)))
     (ap (set all owner) own)

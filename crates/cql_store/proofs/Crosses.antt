@@ -8,7 +8,7 @@ use Rattle.cql_chunks.proofs.SeqCrosses.{waste_send, waste_sync}
 use Rattle.cql_chunks.proofs.Crosses.{chunks_send, chunks_sync}
 use Rattle.cql_window.proofs.window.Window.TheSendSync as window
 use Rattle.cql_store.proofs.KeptCrosses as parts
-use Rattle.cql_store.proofs.needs.Needs.TheSendSync as needs
+use Rattle.cql_store.proofs.retention_index.RetentionIndex.TheSendSync as needs
 use Rattle.cql_store.specs.contracts.stub.StubRows as kept
 use Rattle.cql_store.specs.contracts.stub.Stub as stub
 use Rattle.cql_store.specs.contracts.store.Store as store

@@ -6,7 +6,7 @@ use Rattle.std.proofs.lemmas.List.{get_or-set_same, get_or-set_other, get_or_pas
 use Rattle.cql_bag.specs.Levels.{changed_where}
 use Rattle.cql_bag.proofs.Marked.{changed_at, length-changed_where}
 use Rattle.cql_store.specs.declared.stub.Stub.{Stub}
-use Rattle.cql_store.specs.Places.{Slots, slot_of, at_some, held_count, emptied, marked, greatest, limit, first_at, limit_at, IsLive, AreOf, AreKnown, AreWithin}
+use Rattle.cql_store.specs.Sequence.{Slots, slot_of, at_some, held_count, emptied, marked, greatest, limit, first_at, limit_at, IsLive, AreOf, AreKnown, AreWithin}
 use Rattle.cql_store.proofs.Keeps.{slot_map, marked_not}
 use Rattle.cql_store.proofs.Numbers.{get_or_any, limit_live, past_limit, within_limit, map_none, mark_same}
 
@@ -100,7 +100,7 @@ known_lifted slots firsts limits count known within top = record {
 
 -- ---- the walk over all slots
 
--- the stubs of the slots before a place were marked
+-- the stubs of the slots before one were marked
 pub record Walked (count : ℕ) (old now : Slots) (limits : List ℕ) (k : ℕ) : Type 0 where
   pub stubs : map (at_some (marked count)) now ≡ map (at_some (marked count)) old
   pub done : (id : ℕ) (s : Stub) → id < k → IsLive now id s → count ≤ limit s

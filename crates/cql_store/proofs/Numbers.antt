@@ -5,10 +5,10 @@ use Rattle.std.proofs.lemmas.Bool.{cases_eq}
 use Rattle.std.proofs.lemmas.List.{get_or-set_same, get_or-set_other, length-set}
 use Rattle.std.specs.List.{All}
 use Rattle.cql_store.specs.declared.stub.Stub.{Stub}
-use Rattle.cql_store.specs.Places.{Slots, slot_of, at_some, held_count, emptied, marked, greatest, limit, first_at, limit_at, lives, live_count, AreOf, AreLonger, AreKnown, AreWithin}
+use Rattle.cql_store.specs.Sequence.{Slots, slot_of, at_some, held_count, emptied, marked, greatest, limit, first_at, limit_at, lives, live_count, AreOf, AreLonger, AreKnown, AreWithin}
 use Rattle.cql_store.proofs.Keeps.{IsChange, marked_not}
 
--- ---- more places
+-- ---- more slots
 
 pub longer_same : (xs : List ℕ) → AreLonger xs xs
 longer_same xs = record { same = λ id. refl; longer = omega arith }
@@ -45,7 +45,7 @@ known_put old new firsts limits id m n o change a b first last is = record {
   of_limits = of_put limit_at old new limits id n o change b last is.of_limits;
 }
 
--- the number of a place within a list is that at any default
+-- the number of a slot within a list is that at any default
 pub get_or_any : (xs : List ℕ) (id d e : ℕ) → id < length xs → get_or xs id d ≡ get_or xs id e
 get_or_any [] id d e within = absurd (omega (arith, within))
 get_or_any (x ∷ xs) zero d e within = refl
@@ -128,8 +128,8 @@ mark_none count slots limits of within all = map_none (at_some (marked count)) s
     one : (id : ℕ) (s : Stub) → slot_of slots id ≡ Some s → (b : Bool) → s.overrun ≡ b → marked count s ≡ s
     one id s found true over = grind (arith, over)
     one id s found false over =
-        let place : id < length limits = of.covers id s found in
-        let low : count ≤ get_or limits id greatest = all id greatest place in
+        let slot : id < length limits = of.covers id s found in
+        let low : count ≤ get_or limits id greatest = all id greatest slot in
         let is : get_or limits id greatest ≡ limit s = of.each id ∙ ap limit_at found ∙ limit_live s over in
         let below : count ≤ limit s = omega (arith, low, is) in
         marked_not count s (within_limit count s below (within id s (record { held = found; live = over })))

@@ -29,14 +29,14 @@ less_parted columns next rows parts key e rise parted at some = record { sorted 
     first : ℕ
     first = prefix_len (is_before columns key false) parts
 
-    place : ℕ
-    place = prefix_len (is_below e.number) rows
+    index : ℕ
+    index = prefix_len (is_below e.number) rows
 
-    by_test : (other : List (Option Value)) (b : Bool) → is_eq (key_cmp (key_in columns e) other) ≡ b → part_in columns other (remove parts first) ≡ part_in columns other (remove rows place)
+    by_test : (other : List (Option Value)) (b : Bool) → is_eq (key_cmp (key_in columns e) other) ≡ b → part_in columns other (remove parts first) ≡ part_in columns other (remove rows index)
     by_test other true is =
         let own : is_eq (key_cmp (key_in columns e) key) ≡ true = filter_head (λ x. is_eq (key_cmp (key_in columns x) key)) rows (part_in columns key (remove parts first)) e (head_in columns rows parts key e parted at some) in
         let same : key ≡ other = sym (key_exact (key_in columns e) key own) ∙ key_exact (key_in columns e) other is in
-        subst (λ k. part_in columns k (remove parts first) ≡ part_in columns k (remove rows place)) same (sym (oldest_at columns next rows parts key e rise parted at some).left)
+        subst (λ k. part_in columns k (remove parts first) ≡ part_in columns k (remove rows index)) same (sym (oldest_at columns next rows parts key e rise parted at some).left)
     by_test other false is =
         let s : Numbered → Bool = λ x. is_eq (key_cmp (key_in columns x) other) in
-        other_removed s parts first e at is ∙ parted.same other ∙ sym (other_removed s rows place e (oldest_at columns next rows parts key e rise parted at some).there is)
+        other_removed s parts first e at is ∙ parted.same other ∙ sym (other_removed s rows index e (oldest_at columns next rows parts key e rise parted at some).there is)

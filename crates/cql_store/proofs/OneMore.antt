@@ -66,10 +66,10 @@ other_same columns rows e key fails =
 pub more_parted : (columns : List ℕ) (rows parts : List Numbered) (e : Numbered) → AreParted columns rows parts → AreParted columns (rows ++ e ∷ []) (insert parts (prefix_len (is_before columns (key_in columns e) true) parts) e)
 more_parted columns rows parts e parted = record { sorted = more_sorted; same = λ key. by_test key (is_eq (key_cmp (key_in columns e) key)) refl }
   where
-    place : ℕ
-    place = prefix_len (is_before columns (key_in columns e) true) parts
+    index : ℕ
+    index = prefix_len (is_before columns (key_in columns e) true) parts
 
-    more_sorted : (key : List (Option Value)) (also : Bool) → IsDown (is_before columns key also) (insert parts place e)
+    more_sorted : (key : List (Option Value)) (also : Bool) → IsDown (is_before columns key also) (insert parts index e)
     more_sorted key also =
         let own = key_in columns e in
         down_insert (is_before columns key also) (is_before columns own true) e
@@ -77,6 +77,6 @@ more_parted columns rows parts e parted = record { sorted = more_sorted; same = 
         (λ x a b. high_of also (key_in columns x) own key (key_cmp (key_in columns x) own) (key_cmp own key) (key_cmp (key_in columns x) key) refl refl refl a b)
         parts (parted.sorted key also)
 
-    by_test : (key : List (Option Value)) (b : Bool) → is_eq (key_cmp (key_in columns e) key) ≡ b → part_in columns key (insert parts place e) ≡ part_in columns key (rows ++ e ∷ [])
-    by_test key true is = subst (λ k. part_in columns k (insert parts place e) ≡ part_in columns k (rows ++ e ∷ [])) (key_exact (key_in columns e) key is) (more_same columns rows parts e parted)
-    by_test key false is = other_inserted (λ x. is_eq (key_cmp (key_in columns x) key)) parts place e is ∙ parted.same key ∙ sym (other_same columns rows e key is)
+    by_test : (key : List (Option Value)) (b : Bool) → is_eq (key_cmp (key_in columns e) key) ≡ b → part_in columns key (insert parts index e) ≡ part_in columns key (rows ++ e ∷ [])
+    by_test key true is = subst (λ k. part_in columns k (insert parts index e) ≡ part_in columns k (rows ++ e ∷ [])) (key_exact (key_in columns e) key is) (more_same columns rows parts e parted)
+    by_test key false is = other_inserted (λ x. is_eq (key_cmp (key_in columns x) key)) parts index e is ∙ parted.same key ∙ sym (other_same columns rows e key is)

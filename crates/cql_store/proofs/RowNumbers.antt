@@ -73,11 +73,11 @@ filter_head s (x ∷ xs) t e is = by_test (λ rest. filter_head s xs t e rest) (
         ap s (sym same) ∙ at
     by_test rest false at = rest (sym (filter_false s x xs at) ∙ is)
 
--- e is the row at a place, the first that the test passes, and without it those after it are left
-pub record IsFirstAt (s : Numbered → Bool) (rows t : List Numbered) (e : Numbered) (place : ℕ) : Type 0 where
-  pub within : place < length rows
-  pub there : slice_get rows place ≡ Some e
-  pub left : filter s (remove rows place) ≡ t
+-- e is the row at an index, the first that the test passes, and without it those after it are left
+pub record IsFirstAt (s : Numbered → Bool) (rows t : List Numbered) (e : Numbered) (index : ℕ) : Type 0 where
+  pub within : index < length rows
+  pub there : slice_get rows index ≡ Some e
+  pub left : filter s (remove rows index) ≡ t
 
 pub first_at : (next : ℕ) (s : Numbered → Bool) (rows t : List Numbered) (e : Numbered) → AreNumbered next rows → filter s rows ≡ e ∷ t → IsFirstAt s rows t e (prefix_len (is_below e.number) rows)
 first_at next s [] t e rise is = absurd cc

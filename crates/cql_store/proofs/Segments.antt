@@ -106,7 +106,7 @@ not_up Greater h = refl
 none_of : (o : Numbered → Ordering) (x : Numbered) (xs : List Numbered) → IsDown (up o) (x ∷ xs) → o x ≡ Greater → filter (mid o) (x ∷ xs) ≡ []
 none_of o x xs down is = filter_false (mid o) x xs (ap is_eq is) ∙ filter_none (mid o) xs (all_so (λ y. up o y ≡ false) (λ y. mid o y ≡ false) (λ y. not_up (o y)) xs (down.0 (ap (λ r. is_lt r || (true && is_eq r)) is)))
 
--- between the two places stand as many as are of the part
+-- between the two indices stand as many as are of the part
 pub seg_count : (o : Numbered → Ordering) (xs : List Numbered) → IsDown (lo o) xs → IsDown (up o) xs → prefix_len (up o) xs ≡ prefix_len (lo o) xs + length (filter (mid o) xs)
 seg_count o [] low high = refl
 seg_count o (x ∷ xs) low high = by_order (seg_count o xs low.1 high.1) (o x) refl
@@ -118,7 +118,7 @@ seg_count o (x ∷ xs) low high = by_order (seg_count o xs low.1 high.1) (o x) r
         omega (arith, rest, prefix_true (up o) x xs (ap (λ r. is_lt r || (true && is_eq r)) is), prefix_false (lo o) x xs at, prefix_none (lo o) xs (low.0 at), ap length (filter_true (mid o) x xs (ap is_eq is)))
     by_order rest Greater is = omega (arith, prefix_false (up o) x xs (ap (λ r. is_lt r || (true && is_eq r)) is), prefix_false (lo o) x xs (ap (λ r. is_lt r || (false && is_eq r)) is), ap length (none_of o x xs high is))
 
--- the first of the part stands at the first place
+-- the first of the part stands at the first index
 pub seg_first : (o : Numbered → Ordering) (xs : List Numbered) (e : Numbered) → IsDown (up o) xs → slice_get xs (prefix_len (lo o) xs) ≡ Some e → 0 < length (filter (mid o) xs) → filter (mid o) xs ≡ e ∷ filter (mid o) (remove xs (prefix_len (lo o) xs))
 seg_first o [] e high at some = absurd (omega (arith, some))
 seg_first o (x ∷ xs) e high at some = by_order (λ here some. seg_first o xs e high.1 here some) (o x) refl

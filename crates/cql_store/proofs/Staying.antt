@@ -1,4 +1,4 @@
--- What stays where a row comes, by the two places of its part.
+-- What stays where a row comes, by the two indices of its part.
 use Rattle.std.proofs.Common.{◌≡◌, ℕ, zero, suc, ◌+◌, ◌<◌, ◌≤◌, List, [], ◌∷◌, length, map, Option, Some, None, true, false, cond, nat_lt, sym, ap, ◌∙◌, subst, arith}
 use Rattle.std.proofs.lemmas.Bool.Decides.{nat_tests}
 use Rattle.std.specs.Prelude.{slice_get}
@@ -18,7 +18,7 @@ use Rattle.cql_store.proofs.Oldest.{oldest_at, oldest_gone, less_parted}
 counted : (columns : List ℕ) (rows parts : List Numbered) (row : List Value) → AreParted columns rows parts → length (part_in columns (key_of columns row) parts) ≡ count_part columns row (map row_in rows)
 counted columns rows parts row parted = ap length (parted.same (key_of columns row)) ∙ sym (count_is columns row rows)
 
--- between the two places stand the rows of the part
+-- between the two indices stand the rows of the part
 pub between : (columns : List ℕ) (rows parts : List Numbered) (row : List Value) → AreParted columns rows parts → prefix_len (is_before columns (key_of columns row) true) parts ≡ prefix_len (is_before columns (key_of columns row) false) parts + count_part columns row (map row_in rows)
 between columns rows parts row parted =
     let key = key_of columns row in
@@ -42,17 +42,17 @@ none_past [] n none = omega arith
 none_past (x ∷ xs) zero none = absurd cc
 none_past (x ∷ xs) (suc n) none = omega (arith, none_past xs n none)
 
--- what the oldest of the row's part leaves, where it stands at these places
-pub record Leaves (columns : List ℕ) (rows parts : List Numbered) (row : List Value) (first place : ℕ) : Type 0 where
-  pub within : place < length rows
-  pub rest : map row_in (remove rows place) ≡ without_oldest columns row (map row_in rows)
-  pub parted : AreParted columns (remove rows place) (remove parts first)
+-- what the oldest of the row's part leaves, where it stands at these indices
+pub record Leaves (columns : List ℕ) (rows parts : List Numbered) (row : List Value) (first index : ℕ) : Type 0 where
+  pub within : index < length rows
+  pub rest : map row_in (remove rows index) ≡ without_oldest columns row (map row_in rows)
+  pub parted : AreParted columns (remove rows index) (remove parts first)
 
-pub oldest_leaves : (columns : List ℕ) (next : ℕ) (rows parts : List Numbered) (row : List Value) (e : Numbered) (first place : ℕ) → AreNumbered next rows → AreParted columns rows parts → first ≡ prefix_len (is_before columns (key_of columns row) false) parts → place ≡ prefix_len (is_below e.number) rows → Some e ≡ slice_get parts first → 0 < count_part columns row (map row_in rows) → Leaves columns rows parts row first place
-oldest_leaves columns next rows parts row e first place rise parted is_first is_place at some = record {
-  within = subst (λ n. n < length rows) (sym is_place) (oldest_at columns next rows parts key e rise parted here many).within;
-  rest = ap (λ n. map row_in (remove rows n)) is_place ∙ oldest_gone columns next rows parts row e rise parted here many;
-  parted = subst (λ n. AreParted columns (remove rows n) (remove parts first)) (sym is_place) (subst (λ n. AreParted columns (remove rows (prefix_len (is_below e.number) rows)) (remove parts n)) (sym is_first) (less_parted columns next rows parts key e rise parted here many));
+pub oldest_leaves : (columns : List ℕ) (next : ℕ) (rows parts : List Numbered) (row : List Value) (e : Numbered) (first index : ℕ) → AreNumbered next rows → AreParted columns rows parts → first ≡ prefix_len (is_before columns (key_of columns row) false) parts → index ≡ prefix_len (is_below e.number) rows → Some e ≡ slice_get parts first → 0 < count_part columns row (map row_in rows) → Leaves columns rows parts row first index
+oldest_leaves columns next rows parts row e first index rise parted is_first is_index at some = record {
+  within = subst (λ n. n < length rows) (sym is_index) (oldest_at columns next rows parts key e rise parted here many).within;
+  rest = ap (λ n. map row_in (remove rows n)) is_index ∙ oldest_gone columns next rows parts row e rise parted here many;
+  parted = subst (λ n. AreParted columns (remove rows n) (remove parts first)) (sym is_index) (subst (λ n. AreParted columns (remove rows (prefix_len (is_below e.number) rows)) (remove parts n)) (sym is_first) (less_parted columns next rows parts key e rise parted here many));
 }
   where
     key : List (Option Value)

@@ -4,7 +4,7 @@ use Rattle.std.proofs.vec.Vec.TheSendSync as vec
 use Rattle.std.proofs.alloc.Global.TheSendSync as heap
 use Rattle.std.below.std_heap.proofs.GlobalAllocator.TheSendSync as frees
 use Rattle.cql_store.proofs.Crosses.{store_send, store_sync}
-use Rattle.cql_store.specs.contracts.owner.OwnerStreams as owner
+use Rattle.cql_store.specs.contracts.owner_streams.OwnerStreams as owner
 use Rattle.cql_store.specs.contracts.stores.Stores as stores
 
 owner_send : IsSend owner.the_row

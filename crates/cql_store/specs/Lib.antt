@@ -2,6 +2,6 @@ pub mod Parts
 pub mod Calls
 pub mod Held
 pub mod Next
-pub mod Places
+pub mod Sequence
 pub mod StreamsLaw
 pub mod Stores

@@ -35,8 +35,8 @@ fn go_out(
     match parts.get(first) {
         None => unreachable!(),
         Some(oldest) => {
-            let place = rows.below(oldest.number);
-            let rows = Seq::remove(rows, alloc, place)?;
+            let index = rows.below(oldest.number);
+            let rows = Seq::remove(rows, alloc, index)?;
             Ok((rows, Seq::remove(parts, alloc, first)?))
         }
     }

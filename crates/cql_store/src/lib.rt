@@ -10,7 +10,7 @@
 //! so that those after some more rows are made beside those before, in a time that grows with the
 //! logarithm of how many there are.
 //!
-//! Each stream has a store of its own, and a stub on it is named by a spot: the owner, the place of
+//! Each stream has a store of its own; a stub on it has a `StubRef`: the owner, the index of
 //! the stream among the owner's, and the stub's number in the store.
 //!
 //! Contracts see a store as its stubs, each under its number: its window, its cursor, its hold,
@@ -23,19 +23,19 @@ mod kept_parts;
 pub mod law;
 mod made;
 mod moves;
-mod needs;
-mod owner;
+mod owner_streams;
 mod part;
 mod parted;
 pub mod ready;
-mod spot;
+mod retention_index;
 pub mod store;
 mod stores;
 pub mod streams_law;
 mod stub;
+mod stub_ref;
 
 pub use ready::Ready;
-pub use spot::Spot;
 pub use store::Store;
 pub use stores::Stores;
 pub use stub::StubId;
+pub use stub_ref::StubRef;

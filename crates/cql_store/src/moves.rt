@@ -3,10 +3,10 @@ ghost use Rattle.std.specs.Prelude.{◌≡◌, ◌⊎◌, [], ◌≤◌, ◌<◌
 ghost use Rattle.std.specs.List.{prefix_len};
 ghost use Rattle.cql_window.specs.Coming.{with_all};
 ghost use Rattle.cql_window.specs.Laws.{HasNoParts};
-ghost use Rattle.cql_window.specs.Places.{end_in};
+ghost use Rattle.cql_window.specs.Bounds.{end_in};
 ghost use Rattle.cql_window.specs.Window.{AreAscending, count_before, front_len, kept, last_of_parts};
 ghost use Rattle.cql_store.specs.Held.{advanced, HasParts, CanAdvance, IsReady, pinned};
-ghost use Rattle.cql_store.specs.Places.{shown, shifted, greatest, IsSound, IsPlaced};
+ghost use Rattle.cql_store.specs.Sequence.{shown, shifted, greatest, IsSound, IsSoundAfter};
 
 use crate::kept_parts::KeptParts;
 use crate::stub::{Stub, StubRows};
@@ -40,7 +40,7 @@ fn rows_between(rows: &Chunks, from: usize, to: usize, end: u64) -> usize
     low - from
 }
 
-// How many rows from a place on came before the end.
+// How many rows from an index on came before the end.
 fn rows_before(rows: &Chunks, from: usize, end: u64) -> usize
     requires within { from ≤ length rows.now }
     requires ascending { AreAscending (drop from rows.now) }
@@ -50,7 +50,7 @@ fn rows_before(rows: &Chunks, from: usize, end: u64) -> usize
     rows_between(rows, from, rows.len(), end)
 }
 
-// How many of the rows between two places are older than what a range of so many ticks reaches,
+// How many of the rows between two indices are older than what a range of so many ticks reaches,
 // which is seen up to before the end.
 fn rows_past(rows: &Chunks, from: usize, to: usize, ticks: u64, end: u64) -> usize
     requires order { from ≤ to }
@@ -62,13 +62,13 @@ fn rows_past(rows: &Chunks, from: usize, to: usize, ticks: u64, end: u64) -> usi
     rows_between(rows, from, to, end.saturating_sub(ticks + 1))
 }
 
-// The place of the first row that the window doesn't look at yet at the cursor, by the rows' times.
-// Only rows from the place that was counted to are looked at.
+// The index of the first row that the window doesn't look at yet at the cursor, by the rows' times.
+// Only rows from where it was counted to are looked at.
 fn counted_at(stub: &Stub, rows: &Chunks, gone: usize, to: u64) -> usize
     requires sound { IsSound rows.now (shifted gone stub.now) }
     requires later { stub.now.cursor ≤ to }
-    ensures value { let seen = stub.now.seen - gone in result ≡ seen + count_before (end_in stub.now.window to) (drop seen rows.now) }
-    ensures order { stub.now.seen - gone ≤ result }
+    ensures value { let read_to = stub.now.read_to - gone in result ≡ read_to + count_before (end_in stub.now.window to) (drop read_to rows.now) }
+    ensures order { stub.now.read_to - gone ≤ result }
     ensures within { result ≤ length rows.now }
 {
     let end = end_in(&stub.window, to);
@@ -76,60 +76,60 @@ fn counted_at(stub: &Stub, rows: &Chunks, gone: usize, to: u64) -> usize
     counted + rows_before(rows, counted, end)
 }
 
-// How many rows more the window sees at the cursor, where it sees them up to a place, and they are
+// How many rows more the window sees at the cursor, where it sees them up to an index, and they are
 // counted to another.
-fn ahead_of(window: &Window, rows: &Chunks, seen: usize, counted: usize, to: u64) -> usize
-    requires order { seen ≤ counted }
+fn ahead_of(window: &Window, rows: &Chunks, read_to: usize, counted: usize, to: u64) -> usize
+    requires order { read_to ≤ counted }
     requires within { counted ≤ length rows.now }
-    requires counted { counted ≡ seen + count_before (end_in window.now to) (drop seen rows.now) }
-    ensures value { result ≡ front_len window.now to (drop seen rows.now) }
-    ensures within { seen + result ≤ counted }
+    requires counted { counted ≡ read_to + count_before (end_in window.now to) (drop read_to rows.now) }
+    ensures value { result ≡ front_len window.now to (drop read_to rows.now) }
+    ensures within { read_to + result ≤ counted }
 {
-    whole_slides(window, counted - seen)
+    whole_slides(window, counted - read_to)
 }
 
 // How many rows of a stretch a window keeps no more at the cursor.
-fn passed(window: &Window, rows: &Chunks, first: usize, seen: usize, to: u64) -> usize
-    requires order { first ≤ seen }
-    requires within { seen ≤ length rows.now }
+fn passed(window: &Window, rows: &Chunks, first: usize, read_to: usize, to: u64) -> usize
+    requires order { first ≤ read_to }
+    requires within { read_to ≤ length rows.now }
     requires ascending { AreAscending (drop first rows.now) }
-    ensures value { let held = take (seen - first) (drop first rows.now) in HasNoParts window.now → kept window.now to held ≡ drop result held }
-    ensures parts { HasParts window.now → result ≡ seen - first }
-    ensures bound { result ≤ seen - first }
+    ensures value { let held = take (read_to - first) (drop first rows.now) in HasNoParts window.now → kept window.now to held ≡ drop result held }
+    ensures parts { HasParts window.now → result ≡ read_to - first }
+    ensures bound { result ≤ read_to - first }
 {
     match window {
         Window::Range { length, .. } => {
             let end = end_in(window, to);
-            rows_past(rows, first, seen, length.get(), end)
+            rows_past(rows, first, read_to, length.get(), end)
         }
-        Window::Rows { count, .. } => (seen - first).saturating_sub(count.get() as usize),
+        Window::Rows { count, .. } => (read_to - first).saturating_sub(count.get() as usize),
         Window::All => 0,
-        Window::Parts { .. } => seen - first,
+        Window::Parts { .. } => read_to - first,
     }
 }
 
-/// The stub's places at a later cursor, with the rows that it is to keep itself.
+/// The stub's sequence numbers at a later cursor, with the rows that it is to keep itself.
 pub(crate) fn go_to(stub: &mut Stub, rows: &Chunks, gone: usize, to: u64, kept: StubRows)
     requires sound { IsSound rows.now (shifted gone stub.old) }
     requires ready { IsReady to kept (shown rows.now (shifted gone stub.old)) }
     requires fits { gone + length rows.now ≤ greatest }
     ensures content { shown rows.now (shifted gone stub.new) ≡ advanced to (shown rows.now (shifted gone stub.old)) }
-    ensures placed { IsPlaced rows.now gone stub.new }
+    ensures sound { IsSoundAfter rows.now gone stub.new }
     ensures live { stub.new.overrun ≡ false }
 {
     let counted = counted_at(stub, rows, gone, to);
-    let seen = stub.seen.saturating_sub(gone);
-    let seen = seen + ahead_of(&stub.window, rows, seen, counted, to);
+    let read_to = stub.read_to.saturating_sub(gone);
+    let read_to = read_to + ahead_of(&stub.window, rows, read_to, counted, to);
     let first = stub.first.saturating_sub(gone);
-    let first = first + passed(&stub.window, rows, first, seen, to);
+    let first = first + passed(&stub.window, rows, first, read_to, to);
     stub.kept = kept;
     stub.cursor = to;
     stub.counted = gone + counted;
-    stub.seen = gone + seen;
+    stub.read_to = gone + read_to;
     stub.first = gone + first;
 }
 
-// The kept rows after so many of the store's, from a place on. They are made beside the kept ones,
+// The kept rows after so many of the store's, from an index on. They are made beside the kept ones,
 // with which they share all but a few nodes for each row that comes.
 fn after(
     alloc: Global,
@@ -230,14 +230,14 @@ pub(crate) fn kept_at(
     match &stub.window {
         Window::Parts { columns, count } => {
             let counted = counted_at(stub, rows, gone, to);
-            let seen = stub.seen.saturating_sub(gone);
-            let ahead = ahead_of(&stub.window, rows, seen, counted, to);
+            let read_to = stub.read_to.saturating_sub(gone);
+            let ahead = ahead_of(&stub.window, rows, read_to, counted, to);
             if ahead == 0 {
                 return stub.kept.share();
             }
             stub.window.keeps_bounds();
             let columns = columns.as_slice();
-            let kept = behind(alloc, &stub.kept, columns, *count, rows, seen, ahead)?;
+            let kept = behind(alloc, &stub.kept, columns, *count, rows, read_to, ahead)?;
             Ok(StubRows::of(kept))
         }
         _ => Ok(StubRows::new()),
@@ -251,15 +251,15 @@ fn settled_of(
     kept: &StubRows,
     rows: &Chunks,
     first: usize,
-    seen: usize,
+    read_to: usize,
 ) -> Result<Chunks, AllocError>
-    requires order { first ≤ seen }
-    requires within { seen ≤ length rows.now }
-    requires either { (kept.now ≡ []) ⊎ (first ≡ seen) }
-    ensures { IfOk result (λ r. r ≡ kept.now ++ take (seen - first) (drop first rows.now)) }
+    requires order { first ≤ read_to }
+    requires within { read_to ≤ length rows.now }
+    requires either { (kept.now ≡ []) ⊎ (first ≡ read_to) }
+    ensures { IfOk result (λ r. r ≡ kept.now ++ take (read_to - first) (drop first rows.now)) }
 {
     if kept.len() == 0 {
-        rows.part(alloc, first, seen)
+        rows.part(alloc, first, read_to)
     } else {
         kept.rows(alloc)
     }
@@ -279,9 +279,9 @@ pub(crate) fn pin_of(
 {
     let window = stub.window.try_clone(alloc)?;
     let first = stub.first.saturating_sub(gone);
-    let seen = stub.seen.saturating_sub(gone);
-    let content = settled_of(alloc, &stub.kept, rows, first, seen)?;
-    let ahead = rows_before(rows, seen, until);
-    let unseen = rows.part(alloc, seen, seen + ahead)?;
+    let read_to = stub.read_to.saturating_sub(gone);
+    let content = settled_of(alloc, &stub.kept, rows, first, read_to)?;
+    let ahead = rows_before(rows, read_to, until);
+    let unseen = rows.part(alloc, read_to, read_to + ahead)?;
     Ok(WindowPin::new(window, content, unseen))
 }

@@ -44,8 +44,8 @@ pub(crate) fn put(
     requires { arc_value leaf.now ≡ [] }
     ensures { IfOk result (λ after. (rows : List Entry) → AreParted columns.now rows (arc_value parts) → AreParted columns.now (rows ++ entry ∷ []) (arc_value after)) }
 {
-    let place = before(columns, &parts, entry.row.row(), true);
-    Seq::insert(parts, alloc, leaf, place, entry)
+    let index = before(columns, &parts, entry.row.row(), true);
+    Seq::insert(parts, alloc, leaf, index, entry)
 }
 
 // The rows by the parts of these columns.
@@ -59,8 +59,8 @@ fn parts_of(
     ensures { IfOk result (λ parts. AreParted columns.now (arc_value rows.now) (arc_value parts)) }
 {
     let mut parts = Arc::try_clone(leaf)?;
-    for place in 0..rows.len() {
-        let Some(entry) = rows.get(place) else {
+    for index in 0..rows.len() {
+        let Some(entry) = rows.get(index) else {
             unreachable!();
         };
         parts = put(alloc, columns, parts, leaf, entry.share()?)?;

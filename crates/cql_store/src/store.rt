@@ -1,11 +1,11 @@
 // The store of a stream.
 ghost use Rattle.std.specs.Prelude.{◌≡◌, ◌↔◌, IsSomeAnd, IsTrue, false, [], map, IsSome, OnOk, OnErr, IfOk, IfSome, None, Some};
 ghost use Rattle.cql_store.specs.Held.{Updates, stub_of, opened, fed_at, CanAppend, CanAdvance, IsReady, HasParts, pinned, advanced, IsRowsHeld};
-ghost use Rattle.cql_store.specs.Places.{all_shown, shown, shifted, slot_of, IsKnown};
+ghost use Rattle.cql_store.specs.Sequence.{all_shown, shown, shifted, slot_of, IsKnown};
 
 use crate::moves::{go_to, kept_at, pin_of};
-use crate::needs::{Needs, mark_all, trim};
 use crate::ready::Ready;
+use crate::retention_index::{RetentionIndex, mark_all, trim};
 use crate::stub::{Stub, StubId, StubRows, limit_of};
 use cql_chunks::{Chunks, Waste};
 use cql_value::Timed;
@@ -21,7 +21,7 @@ pub struct Store {
     // So many rows came before them.
     gone: usize,
     stubs: Slab<Stub>,
-    needs: Needs,
+    retention: RetentionIndex,
     // What stubs kept that are gone.
     waste: Waste,
 }
@@ -33,7 +33,7 @@ impl Drop for Store {
             rows: _,
             gone: _,
             stubs: _,
-            needs: _,
+            retention: _,
             waste: _,
         } = self;
     }
@@ -41,13 +41,13 @@ impl Drop for Store {
 
 impl Model for Store {
     ghost use Rattle.cql_store.specs.Held.{Stubs};
-    ghost use Rattle.cql_store.specs.Places.{all_shown, IsStore};
+    ghost use Rattle.cql_store.specs.Sequence.{all_shown, IsStore};
 
     ghost Value = { Stubs };
 
     ghost view = { λ s. all_shown s.rows s.gone s.stubs.slots };
 
-    ghost invariant = { λ s. IsStore s.rows s.gone s.stubs.slots s.needs.firsts s.needs.limits };
+    ghost invariant = { λ s. IsStore s.rows s.gone s.stubs.slots s.retention.firsts s.retention.limits };
 }
 
 impl Store {
@@ -60,7 +60,7 @@ impl Store {
             rows: Chunks::new(alloc),
             gone: 0,
             stubs: Slab::new(alloc),
-            needs: Needs::new(alloc),
+            retention: RetentionIndex::new(alloc),
             waste: Waste::new(alloc),
         }
     }
@@ -75,19 +75,19 @@ impl Store {
     {
         self.stubs.reserve(1)?;
         let slot = self.stubs.vacant_key();
-        self.needs.reach(self.alloc, slot)?;
-        let place = self.gone + self.rows.len();
+        self.retention.reach(self.alloc, slot)?;
+        let seq = self.gone + self.rows.len();
         let stub = Stub {
             window,
             cursor: base,
             hold,
-            first: place,
-            seen: place,
-            counted: place,
+            first: seq,
+            read_to: seq,
+            counted: seq,
             overrun: false,
             kept: StubRows::new(),
         };
-        self.needs.put(slot, place as u64, limit_of(&stub));
+        self.retention.put(slot, seq as u64, limit_of(&stub));
         self.stubs.insert_reserved(stub);
         Ok(StubId { slot })
     }
@@ -108,11 +108,11 @@ impl Store {
         self.rows.push(self.alloc, row)?;
         mark_all(
             &mut self.stubs,
-            &mut self.needs,
+            &mut self.retention,
             &mut self.waste,
             count as u64 + 1,
         );
-        self.gone = trim(&mut self.rows, self.gone, &self.needs);
+        self.gone = trim(&mut self.rows, self.gone, &self.retention);
         Ok(())
     }
 
@@ -164,12 +164,12 @@ impl Store {
     {
         move_one(
             &mut self.stubs,
-            &mut self.needs,
+            &mut self.retention,
             &self.rows,
             self.gone,
             ready,
         );
-        self.gone = trim(&mut self.rows, self.gone, &self.needs);
+        self.gone = trim(&mut self.rows, self.gone, &self.retention);
     }
 
     /// Lets go of a few of the rows that no stub needs any more, and that no call let go of yet.
@@ -203,8 +203,8 @@ impl Store {
         ensures { Updates self.old self.new id None }
     {
         let_go(self.stubs.try_remove(id.slot), &mut self.waste);
-        self.needs.put(id.slot, u64::MAX, u64::MAX);
-        self.gone = trim(&mut self.rows, self.gone, &self.needs);
+        self.retention.put(id.slot, u64::MAX, u64::MAX);
+        self.gone = trim(&mut self.rows, self.gone, &self.retention);
     }
 }
 
@@ -217,17 +217,23 @@ fn let_go(stub: Option<Stub>, waste: &mut Waste) {
 
 // One stub goes to a later cursor. Of the rows that it kept it lets go of those alone that are not
 // among those that it is to keep.
-fn move_one(stubs: &mut Slab<Stub>, needs: &mut Needs, rows: &Chunks, gone: usize, ready: Ready)
-    requires known { IsKnown rows.now gone stubs.old.slots needs.old.firsts needs.old.limits }
+fn move_one(
+    stubs: &mut Slab<Stub>,
+    retention: &mut RetentionIndex,
+    rows: &Chunks,
+    gone: usize,
+    ready: Ready,
+)
+    requires known { IsKnown rows.now gone stubs.old.slots retention.old.firsts retention.old.limits }
     requires can { IsSomeAnd (slot_of stubs.old.slots ready.id) (λ s. IsReady ready.to ready.kept (shown rows.now (shifted gone s))) }
-    ensures known { IsKnown rows.now gone stubs.new.slots needs.new.firsts needs.new.limits }
+    ensures known { IsKnown rows.now gone stubs.new.slots retention.new.firsts retention.new.limits }
     ensures moved { IfSome (slot_of stubs.old.slots ready.id) (λ s. Updates (all_shown rows.now gone stubs.old.slots) (all_shown rows.now gone stubs.new.slots) ready.id (Some (advanced ready.to (shown rows.now (shifted gone s))))) }
 {
     let Ready { id, to, kept } = ready;
     match stubs.get_mut(id.slot) {
         Some(stub) => {
             go_to(stub, rows, gone, to, kept);
-            needs.put(id.slot, stub.first as u64, limit_of(stub));
+            retention.put(id.slot, stub.first as u64, limit_of(stub));
         }
         None => unreachable!(),
     }

@@ -3,9 +3,9 @@ ghost use Rattle.std.specs.Prelude.{◌≡◌, ◌<◌, ◌++◌, ◌∷◌, [],
 ghost use Rattle.cql_store.specs.Held.{opened, advanced, pinned, CanAppend, CanAdvance, IsReady, HasParts, IsRowsHeld};
 ghost use Rattle.cql_store.specs.Stores.{OwnStores, own_at, store_at, held_at, IsStream, Moves, Appends};
 
-use crate::owner::OwnerStreams;
+use crate::owner_streams::OwnerStreams;
 use crate::ready::Ready;
-use crate::spot::Spot;
+use crate::stub_ref::StubRef;
 use cql_tenants::TenantId;
 use cql_value::Timed;
 use cql_window::{Window, WindowPin};
@@ -83,7 +83,7 @@ impl Stores {
         ensures ok { OnOk result (self.new ≡ set self.old owner (own_at self.old owner ++ [] ∷ [])) }
         ensures err { OnErr result (self.new ≡ self.old) }
     {
-        self.owners[owner.place()].push(alloc)
+        self.owners[owner.index()].push(alloc)
     }
 
     /// Takes the owner's last stream away, which has no stub. Takes no memory.
@@ -92,7 +92,7 @@ impl Stores {
         requires last { (front : OwnStores) × (own_at self.old owner ≡ front ++ [] ∷ []) }
         ensures { (front : OwnStores) → own_at self.old owner ≡ front ++ [] ∷ [] → self.new ≡ set self.old owner front }
     {
-        self.owners[owner.place()].pop();
+        self.owners[owner.index()].pop();
     }
 
     /// One more row for every stub on a stream that isn't overrun. A stub for which it is one too
@@ -103,7 +103,7 @@ impl Stores {
         ensures ok { OnOk result (Appends self.old self.new owner stream row) }
         ensures err { OnErr result (self.new ≡ self.old) }
     {
-        self.owners[owner.place()].append(stream, row)
+        self.owners[owner.index()].append(stream, row)
     }
 
     /// A stub of the window on a stream, at the cursor `base`, which may hold so many rows. It has
@@ -115,7 +115,7 @@ impl Stores {
         window: Window,
         base: u64,
         hold: u64,
-    ) -> Result<Spot, AllocError>
+    ) -> Result<StubRef, AllocError>
         requires { IsStream self.old owner stream }
         ensures owner { IfOk result (λ p. p.owner ≡ owner) }
         ensures stream { IfOk result (λ p. p.stream ≡ stream) }
@@ -123,8 +123,8 @@ impl Stores {
         ensures ok { IfOk result (λ p. Moves self.old self.new p (Some (opened window base hold))) }
         ensures err { OnErr result (self.new ≡ self.old) }
     {
-        let stub = self.owners[owner.place()].attach(stream, window, base, hold)?;
-        Ok(Spot {
+        let stub = self.owners[owner.index()].attach(stream, window, base, hold)?;
+        Ok(StubRef {
             owner,
             stream,
             stub,
@@ -132,59 +132,59 @@ impl Stores {
     }
 
     /// Whether the stub had to let its rows go. Takes no memory.
-    pub fn is_overrun(&self, spot: Spot) -> bool
-        requires there { IsStream self.now spot.owner spot.stream }
-        requires held { IsSome (held_at self.now spot) }
-        ensures { IfSome (held_at self.now spot) (λ h. result ≡ h.overrun) }
+    pub fn is_overrun(&self, stub_ref: StubRef) -> bool
+        requires there { IsStream self.now stub_ref.owner stub_ref.stream }
+        requires held { IsSome (held_at self.now stub_ref) }
+        ensures { IfSome (held_at self.now stub_ref) (λ h. result ≡ h.overrun) }
     {
-        self.owners[spot.owner.place()]
-            .store(spot.stream)
-            .is_overrun(spot.stub)
+        self.owners[stub_ref.owner.index()]
+            .store(stub_ref.stream)
+            .is_overrun(stub_ref.stub)
     }
 
     /// The stub's window and content, and its unseen rows before an instant. The rows are shared.
-    pub fn pin(&self, spot: Spot, until: u64) -> Result<WindowPin, AllocError>
-        requires there { IsStream self.now spot.owner spot.stream }
-        requires held { IsSomeAnd (held_at self.now spot) (λ h. h.overrun ≡ false) }
-        ensures { IfOk result (λ w. IfSome (held_at self.now spot) (λ h. w ≡ pinned until h)) }
+    pub fn pin(&self, stub_ref: StubRef, until: u64) -> Result<WindowPin, AllocError>
+        requires there { IsStream self.now stub_ref.owner stub_ref.stream }
+        requires held { IsSomeAnd (held_at self.now stub_ref) (λ h. h.overrun ≡ false) }
+        ensures { IfOk result (λ w. IfSome (held_at self.now stub_ref) (λ h. w ≡ pinned until h)) }
     {
-        self.owners[spot.owner.place()]
-            .store(spot.stream)
-            .pin(spot.stub, until)
+        self.owners[stub_ref.owner.index()]
+            .store(stub_ref.stream)
+            .pin(stub_ref.stub, until)
     }
 
     /// All that takes memory for an advance of the stub to a later cursor: none unless its window
     /// is one of parts.
-    pub fn ready(&self, spot: Spot, to: u64) -> Result<Ready, AllocError>
-        requires there { IsStream self.now spot.owner spot.stream }
-        requires held { IsSomeAnd (held_at self.now spot) (CanAdvance to) }
-        ensures id { IfOk result (λ r. r.id ≡ spot.stub) }
+    pub fn ready(&self, stub_ref: StubRef, to: u64) -> Result<Ready, AllocError>
+        requires there { IsStream self.now stub_ref.owner stub_ref.stream }
+        requires held { IsSomeAnd (held_at self.now stub_ref) (CanAdvance to) }
+        ensures id { IfOk result (λ r. r.id ≡ stub_ref.stub) }
         ensures to { IfOk result (λ r. r.to ≡ to) }
-        ensures kept { IfOk result (λ r. IfSome (held_at self.now spot) (IsReady to r.kept)) }
-        ensures err { OnErr result (IfSome (held_at self.now spot) (λ h. HasParts h.window)) }
+        ensures kept { IfOk result (λ r. IfSome (held_at self.now stub_ref) (IsReady to r.kept)) }
+        ensures err { OnErr result (IfSome (held_at self.now stub_ref) (λ h. HasParts h.window)) }
     {
-        self.owners[spot.owner.place()]
-            .store(spot.stream)
-            .ready(spot.stub, to)
+        self.owners[stub_ref.owner.index()]
+            .store(stub_ref.stream)
+            .ready(stub_ref.stub, to)
     }
 
     /// The stub goes to a later cursor. Takes no memory.
-    pub fn advance(&mut self, spot: Spot, ready: Ready)
-        requires there { IsStream self.old spot.owner spot.stream }
-        requires stub { ready.id ≡ spot.stub }
-        requires ready { IsSomeAnd (held_at self.old spot) (IsReady ready.to ready.kept) }
-        ensures { IfSome (held_at self.old spot) (λ h. Moves self.old self.new spot (Some (advanced ready.to h))) }
+    pub fn advance(&mut self, stub_ref: StubRef, ready: Ready)
+        requires there { IsStream self.old stub_ref.owner stub_ref.stream }
+        requires stub { ready.id ≡ stub_ref.stub }
+        requires ready { IsSomeAnd (held_at self.old stub_ref) (IsReady ready.to ready.kept) }
+        ensures { IfSome (held_at self.old stub_ref) (λ h. Moves self.old self.new stub_ref (Some (advanced ready.to h))) }
     {
-        self.owners[spot.owner.place()].advance(spot.stream, ready);
+        self.owners[stub_ref.owner.index()].advance(stub_ref.stream, ready);
     }
 
     /// Takes the stub away, and lets go of the rows that it alone needed. Takes no memory.
-    pub fn detach(&mut self, spot: Spot)
-        requires there { IsStream self.old spot.owner spot.stream }
-        requires held { IsSome (held_at self.old spot) }
-        ensures { Moves self.old self.new spot None }
+    pub fn detach(&mut self, stub_ref: StubRef)
+        requires there { IsStream self.old stub_ref.owner stub_ref.stream }
+        requires held { IsSome (held_at self.old stub_ref) }
+        ensures { Moves self.old self.new stub_ref None }
     {
-        self.owners[spot.owner.place()].detach(spot.stream, spot.stub);
+        self.owners[stub_ref.owner.index()].detach(stub_ref.stream, stub_ref.stub);
     }
 
     /// How many rows the store of a stream holds: as many as the stub that needs the most.
@@ -192,7 +192,7 @@ impl Stores {
         requires { IsStream self.now owner stream }
         ensures { IsRowsHeld (store_at self.now owner stream) result }
     {
-        self.owners[owner.place()].store(stream).rows_held()
+        self.owners[owner.index()].store(stream).rows_held()
     }
 
     /// The store of one stream lets go of a few of the rows that nothing needs any more; the next call

@@ -1,6 +1,6 @@
 // A window on the store's rows.
 ghost use Rattle.std.specs.Prelude.{◌≡◌, ◌++◌, [], length, IfOk, OnOk};
-ghost use Rattle.cql_store.specs.Places.{emptied, limit};
+ghost use Rattle.cql_store.specs.Sequence.{emptied, limit};
 
 use crate::kept_parts::KeptParts;
 use cql_chunks::{Chunks, Waste};
@@ -58,7 +58,7 @@ impl StubRows {
         StubRows { rows: Some(rows) }
     }
 
-    /// The same, with places for a window that parts by these columns.
+    /// The same, with room for a window that parts by these columns.
     pub(crate) fn parts(&self, alloc: Global, columns: &[usize]) -> Result<KeptParts, AllocError>
         ensures { IfOk result (λ k. k ≡ self.now) }
     {
@@ -126,7 +126,8 @@ impl StubRows {
     }
 }
 
-/// A window on the store's rows. Its places count all rows that came to the store.
+/// A window on the store's rows. Its numbers are sequence numbers: they count all rows that came to
+/// the store.
 pub(crate) struct Stub {
     pub(crate) window: Window,
     pub(crate) cursor: u64,
@@ -134,7 +135,7 @@ pub(crate) struct Stub {
     /// Where its content begins.
     pub(crate) first: usize,
     /// Where its content ends and its unseen rows begin.
-    pub(crate) seen: usize,
+    pub(crate) read_to: usize,
     /// Before it, the unseen rows are known to have come before the end that the window looks up
     /// to: they wait for a whole slide of rows.
     pub(crate) counted: usize,
@@ -149,7 +150,7 @@ impl Drop for Stub {
             cursor: _,
             hold: _,
             first: _,
-            seen: _,
+            read_to: _,
             counted: _,
             overrun: _,
             kept: _,

@@ -101,7 +101,7 @@ boundary z b n e u p w h =
     subst (λ y. (n ≤ length y) × (n < length y → 128 ≤ slice_index y n → 192 ≤ slice_index y n)) e
     (w, λ l k. subst (λ j. 192 ≤ slice_index b j) i (lead_after_ascii b (n - 1) u h (subst (λ j. j < length b) (sym i) l) (subst (λ j. 128 ≤ slice_index b j) (sym i) k)))
 
--- the same for the place behind an ASCII byte
+-- the same for the offset behind an ASCII byte
 pub boundary_at : (z b : Bytes) (n : ℕ) → b ≡ z → IsUtf8 b → n < length b → slice_index b n < 128 → (n ≤ length z) × (n < length z → 128 ≤ slice_index z n → 192 ≤ slice_index z n)
 boundary_at z b n e u w h = subst (λ y. (n ≤ length y) × (n < length y → 128 ≤ slice_index y n → 192 ≤ slice_index y n)) e (omega arith, λ l k. absurd (omega arith))
 

@@ -10,7 +10,7 @@ use Rattle.cql_syntax.specs.declared.token.Lexeme.{Lexeme}
 abbrev pub Tokens : Type 0
 Tokens = List Token
 
--- the tokens without their places
+-- the tokens without their offsets
 abbrev pub tokens_of : List Lexeme → Tokens
 tokens_of = map (λ l. l.token)
 

@@ -7,7 +7,7 @@ ghost use Rattle.cql_syntax.specs.Cursor as spec;
 ghost use Rattle.cql_syntax.specs.Cursor.{Reads};
 
 use crate::syntax::{Comparison, Function, Operation, SetOperator, StreamOperator};
-use crate::token::{Fixed, Lexeme, Token, is_same};
+use crate::token::{Fixed, Lexeme, Token, is_equal};
 use std::alloc::AllocError;
 use std::marker::Model;
 
@@ -72,7 +72,7 @@ impl<'a> Cursor<'a> {
                     ..
                 },
                 ..
-            ] => is_same(*other, fixed),
+            ] => is_equal(*other, fixed),
             _ => false,
         }
     }

@@ -53,7 +53,7 @@ fn is_blank(b: u8) -> bool
     b == b' ' || b == b'\t' || b == b'\n' || b == b'\r'
 }
 
-// The byte at the place, or 0 beyond the end.
+// The byte at the offset, or 0 beyond the end.
 fn byte(z: &[u8], at: usize) -> u8
     ensures value { result ≡ slice_index z.now at }
     ensures within { result ≢ 0 → at < length z.now }
@@ -89,7 +89,7 @@ fn digits_len(z: &[u8]) -> usize
 }
 
 // Whether they are one word, in any case of their letters.
-fn is_same_word(a: &str, b: &str) -> bool
+fn is_equal_word(a: &str, b: &str) -> bool
     ensures { result ≡ str_eq_ignore_ascii_case a.now b.now }
 {
     a.eq_ignore_ascii_case(b)
@@ -99,7 +99,7 @@ fn lookup(mut table: &[(&str, Fixed)], word: &str) -> Option<Fixed>
     ensures { result ≡ spec.lookup (map (λ r. (r.0.now, r.1)) table.entry.now) word.now }
 {
     while let [entry, rest @ ..] = table {
-        if is_same_word(word, entry.0) {
+        if is_equal_word(word, entry.0) {
             return Some(entry.1);
         }
         table = rest;

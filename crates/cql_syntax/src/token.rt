@@ -73,7 +73,7 @@ pub struct Lexeme {
 
 /// Whether they are the same word or sign.
 #[tactic(auto, unfolding(crate::specs::Tokens::same))]
-pub(crate) fn is_same(a: Fixed, b: Fixed) -> bool
+pub(crate) fn is_equal(a: Fixed, b: Fixed) -> bool
     ensures { result ≡ same a b }
 {
     a == b

@@ -2,29 +2,38 @@
 ghost use Rattle.std.specs.Prelude.{◌≡◌, ℕ, ◌<◌, ◌≤◌, ◌^◌, true, List, IfOk, IfSome, OnOk, OnErr, None, Some, option_copied, option_map, length, map, slice_get};
 ghost use Rattle.std.specs.Result.{result_err};
 ghost use Rattle.cql_value.specs.Clock.{time_fault};
-ghost use Rattle.cql_value.specs.Named.{place_of};
-ghost use Rattle.cql_tenants.specs.Home.{nothing_made, is_place, home_at, change_home, tenant_named, stream_at, grant_of};
-ghost use Rattle.cql_window.specs.RowPlaces.{at_places, AreWithin};
+ghost use Rattle.cql_value.specs.Named.{index_of};
+ghost use Rattle.cql_tenants.specs.Namespace.{nothing_made, has_tenant, namespace_at, change_namespace, tenant_named, stream_at, grant_of, has_grant};
 ghost use Rattle.cql_window.specs.Chosen.{is_shown};
 ghost use Rattle.cql_tenants.specs.Checks.{grantee_refused, taken_refused};
 ghost use Rattle.cql_tenants.specs.Directory.{Make, Share, Revoke, Put, Beat, with_time, refused, streams_after};
-ghost use Rattle.cql_tenants.specs.Readable.{readable_to, own_stream, read_stream, owner_meant, seen_of, own_found, granted_found, found, granted_places, places_seen};
+ghost use Rattle.cql_tenants.specs.Readable.{granted_projection, projection_seen};
+ghost use Rattle.cql_tenants.specs.Lookup.{readable_to, read_stream, owner_meant, seen_of, own_found, granted_found, found, IsOwnersStream};
+ghost use Rattle.cql_tenants.specs.Listed.{own_stream};
 
 use crate::grant::Grant;
-use crate::home::Home;
-use crate::homes::{home_at, opened_at, tenant_named};
+use crate::namespace::Namespace;
+use crate::namespaces::{namespace_at, opened_at, tenant_named};
 use crate::readable::{
-    FoundStream, OwnStream, ReadStream, ReadableStream, granted_listed, granted_shown, own_listed,
-    own_shown,
+    FoundStream, GrantedStream, OwnStream, ReadableStream, granted_listed, granted_shown,
+    own_listed, own_shown,
 };
 use crate::tenants::{Quotas, TenantId, TenantTable};
 use cql_value::{Items, Row, Schema, StreamRefusal, Text};
-use cql_window::{all_places, is_shown};
+use cql_window::{is_shown, whole_projection};
 use std::alloc::{AllocError, Global};
 use std::marker::Model;
 
-// What may be granted, and to whom: the stream's place among the tenant's own, its columns, and the
-// place of the tenant that gets it.
+/// A grant that was taken back: the index of the tenant that read by it, and of the stream among
+/// its owner's.
+#[derive(Clone, Copy)]
+pub struct TakenBack {
+    pub reader: usize,
+    pub stream: usize,
+}
+
+// What may be granted, and to whom: the stream's index among the tenant's own, its columns, and the
+// index of the tenant that gets it.
 #[derive(Clone, Copy)]
 struct Granting<'a> {
     stream: usize,
@@ -32,23 +41,23 @@ struct Granting<'a> {
     to: usize,
 }
 
-/// What streams and grants there are, by the places of the tenants. Contracts see the list of the
-/// homes.
+/// What streams and grants there are, by the indices of the tenants. Contracts see the list of the
+/// namespaces.
 #[derive(Drop)]
 pub struct Directory {
-    homes: Vec<Home>,
+    namespaces: Vec<Namespace>,
 }
 
 impl Model for Directory {
     ghost use Rattle.std.specs.Prelude.{List};
-    ghost use Rattle.cql_tenants.specs.Home.{Home};
-    ghost use Rattle.cql_tenants.specs.Law.{AreHomes};
+    ghost use Rattle.cql_tenants.specs.Namespace.{Namespace};
+    ghost use Rattle.cql_tenants.specs.Law.{AreNamespaces};
 
-    ghost Value = { List Home };
+    ghost Value = { List Namespace };
 
-    ghost view = { λ d. d.homes.items };
+    ghost view = { λ d. d.namespaces.items };
 
-    ghost invariant = { λ d. AreHomes d.homes.items };
+    ghost invariant = { λ d. AreNamespaces d.namespaces.items };
 }
 
 impl Directory {
@@ -57,26 +66,26 @@ impl Directory {
         ensures { IfOk result (λ d. d ≡ nothing_made table.now) }
     {
         let tenants = table.tenants();
-        let mut homes = Vec::new(alloc);
+        let mut namespaces = Vec::new(alloc);
         for tenant in tenants {
-            homes.push(Home::new(alloc, tenant)?)?;
+            namespaces.push(Namespace::new(alloc, tenant)?)?;
         }
-        Ok(Directory { homes })
+        Ok(Directory { namespaces })
     }
 
     /// Whether the tenant is in the table. Takes no memory.
     pub fn has(&self, tenant: TenantId) -> bool
-        ensures { result ≡ is_place self.now tenant }
+        ensures { result ≡ has_tenant self.now tenant }
     {
-        tenant.place() < self.homes.len()
+        tenant.index() < self.namespaces.len()
     }
 
     /// What the tenant may have. Takes no memory.
     pub fn quotas(&self, tenant: TenantId) -> Quotas
-        requires { is_place self.now tenant ≡ true }
-        ensures { result ≡ (home_at self.now tenant).quotas }
+        requires { has_tenant self.now tenant ≡ true }
+        ensures { result ≡ (namespace_at self.now tenant).quotas }
     {
-        home_at(&self.homes, tenant.place()).quotas
+        namespace_at(&self.namespaces, tenant.index()).quotas
     }
 
     /// The schema of a stream that the tenant may make, of a schema, or of none where the columns
@@ -93,7 +102,7 @@ impl Directory {
         if !self.has(tenant) {
             return Err(StreamRefusal::UnknownTenant);
         }
-        home_at(&self.homes, tenant.place()).may_make(name, schema)
+        namespace_at(&self.namespaces, tenant.index()).may_make(name, schema)
     }
 
     /// Makes a stream of the tenant's own, which `may_make` took.
@@ -108,21 +117,21 @@ impl Directory {
         ensures state { OnOk result (self.new ≡ streams_after self.old tenant (Make name.now (Some schema.now))) }
         ensures err { OnErr result (self.new ≡ self.old) }
     {
-        self.homes[tenant.place()].make(alloc, name, schema)
+        self.namespaces[tenant.index()].make(alloc, name, schema)
     }
 
-    /// The place of a stream among its owner's, if there is one. Takes no memory.
-    pub fn place(&self, owner: TenantId, stream: &str) -> Option<usize>
-        ensures value { result ≡ place_of (home_at self.now owner).streams stream.now }
-        ensures within { IfSome result (λ i. i < length (home_at self.now owner).streams) }
+    /// The index of a stream among its owner's, if there is one. Takes no memory.
+    pub fn stream_index(&self, owner: TenantId, stream: &str) -> Option<usize>
+        ensures value { result ≡ index_of (namespace_at self.now owner).streams stream.now }
+        ensures within { IfSome result (λ i. i < length (namespace_at self.now owner).streams) }
     {
-        match self.homes.get(owner.place()) {
+        match self.namespaces.get(owner.index()) {
             None => None,
-            Some(home) => home.streams.place(stream),
+            Some(namespace) => namespace.streams.index_of(stream),
         }
     }
 
-    /// The place of the tenant's own stream that a row with its time, in ticks, may come to; it
+    /// The index of the tenant's own stream that a row with its time, in ticks, may come to; it
     /// takes the time. 31, 30, 40, 42, 41, in this order. Takes no memory.
     pub fn admit(
         &self,
@@ -132,39 +141,39 @@ impl Directory {
         row: &Row,
     ) -> Result<usize, StreamRefusal>
         ensures refused { result_err result ≡ refused self.now tenant (Put stream.now at row.now) }
-        ensures tenant { IfOk result (λ i. is_place self.now tenant ≡ true) }
-        ensures place { IfOk result (λ i. place_of (home_at self.now tenant).streams stream.now ≡ Some i) }
-        ensures within { IfOk result (λ i. i < length (home_at self.now tenant).streams) }
-        ensures takes { IfOk result (λ i. IfSome (slice_get (home_at self.now tenant).streams i) (λ s. time_fault s.item.clock at ≡ None)) }
+        ensures tenant { IfOk result (λ i. has_tenant self.now tenant ≡ true) }
+        ensures index { IfOk result (λ i. index_of (namespace_at self.now tenant).streams stream.now ≡ Some i) }
+        ensures within { IfOk result (λ i. i < length (namespace_at self.now tenant).streams) }
+        ensures takes { IfOk result (λ i. IfSome (slice_get (namespace_at self.now tenant).streams i) (λ s. time_fault s.item.clock at ≡ None)) }
     {
         if !self.has(tenant) {
             return Err(StreamRefusal::UnknownTenant);
         }
-        home_at(&self.homes, tenant.place())
+        namespace_at(&self.namespaces, tenant.index())
             .streams
             .admit(stream, at, row)
     }
 
-    /// A row came on the stream at a place of the tenant's, at a time, in ticks, that the stream
+    /// A row came on the stream at an index of the tenant's, at a time, in ticks, that the stream
     /// takes. Takes no memory.
-    pub fn came(&mut self, tenant: TenantId, place: usize, at: u64)
-        requires tenant { is_place self.old tenant ≡ true }
-        requires within { place < length (home_at self.old tenant).streams }
-        requires takes { IfSome (slice_get (home_at self.old tenant).streams place) (λ s. time_fault s.item.clock at ≡ None) }
-        ensures { (name : List ℕ) → place_of (home_at self.old tenant).streams name ≡ Some place → self.new ≡ change_home (with_time name at) self.old tenant }
+    pub fn came(&mut self, tenant: TenantId, index: usize, at: u64)
+        requires tenant { has_tenant self.old tenant ≡ true }
+        requires within { index < length (namespace_at self.old tenant).streams }
+        requires takes { IfSome (slice_get (namespace_at self.old tenant).streams index) (λ s. time_fault s.item.clock at ≡ None) }
+        ensures { (name : List ℕ) → index_of (namespace_at self.old tenant).streams name ≡ Some index → self.new ≡ change_namespace (with_time name at) self.old tenant }
     {
-        self.homes[tenant.place()].streams.came(place, at);
+        self.namespaces[tenant.index()].streams.came(index, at);
     }
 
-    /// The least time, in ticks, that the stream at a place still takes, at most 2^62; 0 where there
+    /// The least time, in ticks, that the stream at an index still takes, at most 2^62; 0 where there
     /// is none. Takes no memory.
-    pub fn opened(&self, owner: TenantId, place: usize) -> u64
-        ensures value { IfSome (slice_get (home_at self.now owner).streams place) (λ s. result ≡ s.item.clock) }
+    pub fn opened(&self, owner: TenantId, index: usize) -> u64
+        ensures value { IfSome (slice_get (namespace_at self.now owner).streams index) (λ s. result ≡ s.item.clock) }
         ensures bounded { result ≤ 2 ^ 62 }
     {
-        match self.homes.get(owner.place()) {
+        match self.namespaces.get(owner.index()) {
             None => 0,
-            Some(home) => home.opened(place),
+            Some(namespace) => namespace.opened(index),
         }
     }
 
@@ -180,7 +189,7 @@ impl Directory {
         let Some(owner) = self.owner_meant(tenant, owner) else {
             return 0;
         };
-        opened_at(&self.homes, owner, stream)
+        opened_at(&self.namespaces, owner, stream)
     }
 
     /// A heartbeat, of a time in ticks, of a stream of the tenant's own: 31, 30, 42, 41, in this
@@ -192,10 +201,10 @@ impl Directory {
         if !self.has(tenant) {
             return Err(StreamRefusal::UnknownTenant);
         }
-        self.homes[tenant.place()].streams.beat(stream, at)
+        self.namespaces[tenant.index()].streams.beat(stream, at)
     }
 
-    // The tenant at whose place a stream of the tenant's own, of this schema, may be granted.
+    // The tenant at whose index a stream of the tenant's own, of this schema, may be granted.
     fn grantee(
         &self,
         tenant: TenantId,
@@ -205,25 +214,25 @@ impl Directory {
         to: &str,
     ) -> Result<usize, StreamRefusal>
         requires { tenant < length self.now }
-        ensures refused { result_err result ≡ grantee_refused self.now tenant stream.now schema.now (option_copied columns.entry) (tenant_named self.now tenant to.now) }
-        ensures shown { IfOk result (λ place. is_shown schema.now (option_copied columns.entry) ≡ true) }
-        ensures place { IfOk result (λ place. tenant_named self.now tenant to.now ≡ Some place) }
-        ensures within { IfOk result (λ place. place < length self.now) }
+        ensures refused { result_err result ≡ grantee_refused tenant schema.now (option_copied columns.entry) (has_grant self.now tenant stream.now) (tenant_named self.now tenant to.now) }
+        ensures shown { IfOk result (λ index. is_shown schema.now (option_copied columns.entry) ≡ true) }
+        ensures index { IfOk result (λ index. tenant_named self.now tenant to.now ≡ Some index) }
+        ensures within { IfOk result (λ index. index < length self.now) }
     {
-        let Some(place) = tenant_named(&self.homes, tenant.place(), to) else {
+        let Some(index) = tenant_named(&self.namespaces, tenant.index(), to) else {
             return Err(StreamRefusal::UnknownTenant);
         };
-        if place == tenant.place() {
+        if index == tenant.index() {
             return Err(StreamRefusal::SelfGrant);
         }
         if !is_shown(schema, columns) {
             return Err(StreamRefusal::BadGrantColumns);
         }
-        let grantee = home_at(&self.homes, place);
-        if grantee.grant_of(tenant.place(), stream).is_some() {
+        let grantee = namespace_at(&self.namespaces, index);
+        if grantee.grant_of(tenant.index(), stream).is_some() {
             return Err(StreamRefusal::AlreadyGranted);
         }
-        Ok(place)
+        Ok(index)
     }
 
     // What a grant is of.
@@ -237,14 +246,17 @@ impl Directory {
         ensures refused { result_err result ≡ refused self.now tenant (Share stream.now to.now (option_copied columns.entry)) }
         ensures shown { IfOk result (λ p. is_shown p.schema.now (option_copied columns.entry) ≡ true) }
         ensures schema { IfOk result (λ p. option_map (λ s. s.schema) (stream_at self.now tenant stream.now) ≡ Some p.schema.now) }
-        ensures own { IfOk result (λ p. place_of (home_at self.now tenant).streams stream.now ≡ Some p.stream) }
-        ensures place { IfOk result (λ p. tenant_named self.now tenant to.now ≡ Some p.to) }
+        ensures own { IfOk result (λ p. index_of (namespace_at self.now tenant).streams stream.now ≡ Some p.stream) }
+        ensures index { IfOk result (λ p. tenant_named self.now tenant to.now ≡ Some p.to) }
         ensures within { IfOk result (λ p. p.to < length self.now) }
     {
         if !self.has(tenant) {
             return Err(StreamRefusal::UnknownTenant);
         }
-        let Some((own, made)) = home_at(&self.homes, tenant.place()).streams.find(stream) else {
+        let Some((own, made)) = namespace_at(&self.namespaces, tenant.index())
+            .streams
+            .find(stream)
+        else {
             return Err(StreamRefusal::UnknownStream);
         };
         let to = self.grantee(tenant, stream, &made.schema, columns, to)?;
@@ -274,7 +286,7 @@ impl Directory {
             Ok(granting) => granting,
             Err(refusal) => return Ok(Err(refusal)),
         };
-        let place = granting.to;
+        let index = granting.to;
         let grant = Grant::new(
             alloc,
             tenant,
@@ -283,64 +295,69 @@ impl Directory {
             granting.schema,
             columns,
         )?;
-        self.homes[place].granted.push(alloc, grant)?;
+        self.namespaces[index].granted.push(alloc, grant)?;
         Ok(Ok(()))
     }
 
     // The tenant from which the grant of a stream of the tenant's own may be taken back.
     fn taken(&self, tenant: TenantId, stream: &str, to: &str) -> Result<usize, StreamRefusal>
         requires { tenant < length self.now }
-        ensures refused { result_err result ≡ taken_refused self.now tenant stream.now (tenant_named self.now tenant to.now) }
-        ensures place { IfOk result (λ place. tenant_named self.now tenant to.now ≡ Some place) }
-        ensures within { IfOk result (λ place. place < length self.now) }
+        ensures refused { result_err result ≡ taken_refused tenant (has_grant self.now tenant stream.now) (tenant_named self.now tenant to.now) }
+        ensures index { IfOk result (λ index. tenant_named self.now tenant to.now ≡ Some index) }
+        ensures within { IfOk result (λ index. index < length self.now) }
     {
-        let Some(place) = tenant_named(&self.homes, tenant.place(), to) else {
+        let Some(index) = tenant_named(&self.namespaces, tenant.index(), to) else {
             return Err(StreamRefusal::UnknownTenant);
         };
-        if place == tenant.place() {
+        if index == tenant.index() {
             return Err(StreamRefusal::NotGranted);
         }
-        let reader = home_at(&self.homes, place);
-        if reader.grant_of(tenant.place(), stream).is_none() {
+        let reader = namespace_at(&self.namespaces, index);
+        if reader.grant_of(tenant.index(), stream).is_none() {
             return Err(StreamRefusal::NotGranted);
         }
-        Ok(place)
+        Ok(index)
     }
 
-    // The place of the tenant from which a grant is taken back.
-    fn revoking(&self, tenant: TenantId, stream: &str, to: &str) -> Result<usize, StreamRefusal>
+    // The grant that is taken back.
+    fn revoking(&self, tenant: TenantId, stream: &str, to: &str) -> Result<TakenBack, StreamRefusal>
         ensures refused { result_err result ≡ refused self.now tenant (Revoke stream.now to.now) }
-        ensures place { IfOk result (λ place. tenant_named self.now tenant to.now ≡ Some place) }
-        ensures within { IfOk result (λ place. place < length self.now) }
+        ensures reader { IfOk result (λ t. tenant_named self.now tenant to.now ≡ Some t.reader) }
+        ensures stream { IfOk result (λ t. index_of (namespace_at self.now tenant).streams stream.now ≡ Some t.stream) }
+        ensures within { IfOk result (λ t. t.reader < length self.now) }
     {
         if !self.has(tenant) {
             return Err(StreamRefusal::UnknownTenant);
         }
-        if home_at(&self.homes, tenant.place())
+        let Some((own, _made)) = namespace_at(&self.namespaces, tenant.index())
             .streams
-            .get(stream)
-            .is_none()
-        {
+            .find(stream)
+        else {
             return Err(StreamRefusal::UnknownStream);
-        }
-        self.taken(tenant, stream, to)
+        };
+        let reader = self.taken(tenant, stream, to)?;
+        Ok(TakenBack {
+            reader,
+            stream: own,
+        })
     }
 
-    /// Takes back the grant of a stream of the tenant's own from the tenant of a name, whose place
-    /// it tells: 31 for the caller, 30, 31, 35, in this order. Takes no memory.
+    /// Takes back the grant of a stream of the tenant's own from the tenant of a name, and tells
+    /// where both are: 31 for the caller, 30, 31, 35, in this order. Takes no memory.
     pub fn revoke(
         &mut self,
         tenant: TenantId,
         stream: &str,
         to: &str,
-    ) -> Result<usize, StreamRefusal>
+    ) -> Result<TakenBack, StreamRefusal>
         ensures refused { result_err result ≡ refused self.old tenant (Revoke stream.now to.now) }
         ensures state { self.new ≡ streams_after self.old tenant (Revoke stream.now to.now) }
-        ensures place { IfOk result (λ place. tenant_named self.old tenant to.now ≡ Some place) }
+        ensures reader { IfOk result (λ t. tenant_named self.old tenant to.now ≡ Some t.reader) }
+        ensures stream { IfOk result (λ t. index_of (namespace_at self.old tenant).streams stream.now ≡ Some t.stream) }
     {
-        let place = self.revoking(tenant, stream, to)?;
-        self.homes[place].take_back(tenant.place(), stream);
-        Ok(place)
+        let taken = self.revoking(tenant, stream, to)?;
+        self.namespaces[taken.reader].take_back(tenant.index(), stream);
+        Ok(taken)
     }
 
     /// The streams that the tenant reads: its own in order of making, then the others in order of
@@ -355,9 +372,9 @@ impl Directory {
         if !self.has(tenant) {
             return Ok(Err(StreamRefusal::UnknownTenant));
         }
-        let home = home_at(&self.homes, tenant.place());
-        let mut all = own_shown(alloc, &home.streams)?;
-        all.append(granted_shown(alloc, &self.homes, home.granted.as_slice())?)?;
+        let namespace = namespace_at(&self.namespaces, tenant.index());
+        let mut all = own_shown(alloc, &namespace.streams)?;
+        all.append(granted_shown(alloc, &self.namespaces, namespace.granted.as_slice())?)?;
         Ok(Ok(all))
     }
 
@@ -367,10 +384,13 @@ impl Directory {
         alloc: Global,
         tenant: TenantId,
     ) -> Result<Items<OwnStream>, AllocError>
-        requires { is_place self.now tenant ≡ true }
-        ensures { IfOk result (λ l. l ≡ map own_stream (home_at self.now tenant).streams) }
+        requires { has_tenant self.now tenant ≡ true }
+        ensures { IfOk result (λ l. l ≡ map own_stream (namespace_at self.now tenant).streams) }
     {
-        own_listed(alloc, &home_at(&self.homes, tenant.place()).streams)
+        own_listed(
+            alloc,
+            &namespace_at(&self.namespaces, tenant.index()).streams,
+        )
     }
 
     /// The streams that were granted to the tenant, in order of the grants.
@@ -378,41 +398,39 @@ impl Directory {
         &self,
         alloc: Global,
         tenant: TenantId,
-    ) -> Result<Items<ReadStream>, AllocError>
-        requires { is_place self.now tenant ≡ true }
-        ensures { IfOk result (λ l. l ≡ map (read_stream self.now) (home_at self.now tenant).granted) }
+    ) -> Result<Items<GrantedStream>, AllocError>
+        requires { has_tenant self.now tenant ≡ true }
+        ensures { IfOk result (λ l. l ≡ map (read_stream self.now) (namespace_at self.now tenant).granted) }
     {
-        let home = home_at(&self.homes, tenant.place());
-        granted_listed(alloc, &self.homes, home.granted.as_slice())
+        let namespace = namespace_at(&self.namespaces, tenant.index());
+        granted_listed(alloc, &self.namespaces, namespace.granted.as_slice())
     }
 
-    // The place of the tenant that is meant by what stands before the dot.
+    // The index of the tenant that is meant by what stands before the dot.
     fn owner_meant(&self, tenant: TenantId, owner: Option<&str>) -> Option<usize>
         requires { tenant < length self.now }
         ensures { result ≡ owner_meant self.now tenant (option_copied owner.entry) }
     {
         match owner {
-            None => Some(tenant.place()),
-            Some(name) => tenant_named(&self.homes, tenant.place(), name),
+            None => Some(tenant.index()),
+            Some(name) => tenant_named(&self.namespaces, tenant.index(), name),
         }
     }
 
     fn own_found(&self, tenant: TenantId, stream: &str) -> Option<FoundStream<'_>>
         requires { tenant < length self.now }
         ensures seen { option_map seen_of result ≡ own_found self.now tenant stream.now }
-        ensures place { IfSome result (λ f. place_of (home_at self.now f.owner).streams stream.now ≡ Some f.place) }
-        ensures schema { IfSome result (λ f. option_map (λ s. at_places s.schema f.places.now) (stream_at self.now f.owner stream.now) ≡ Some f.schema.now) }
-        ensures within { IfSome result (λ f. IfSome (stream_at self.now f.owner stream.now) (λ s. AreWithin f.places.now (length s.schema))) }
-        ensures places { IfSome result (λ f. f.places.now ≡ places_seen self.now tenant f.owner stream.now) }
+        ensures stream { IfSome result (IsOwnersStream self.now stream.now) }
+        ensures projection { IfSome result (λ f. f.projection.now ≡ projection_seen self.now tenant f.owner stream.now) }
     {
-        let streams = &home_at(&self.homes, tenant.place()).streams;
-        let place = streams.place(stream)?;
-        let (_name, own) = streams.entry(place);
+        let streams = &namespace_at(&self.namespaces, tenant.index()).streams;
+        let index = streams.index_of(stream)?;
+        let (_name, own) = streams.entry(index);
         Some(FoundStream {
             owner: tenant,
-            place,
+            index,
             schema: &own.schema,
-            places: all_places(&own.schema),
+            projection: whole_projection(&own.schema),
             named: false,
             opened: own.clock.opened(),
         })
@@ -421,23 +439,21 @@ impl Directory {
     fn granted_found(&self, tenant: TenantId, owner: usize, stream: &str) -> Option<FoundStream<'_>>
         requires { tenant < length self.now }
         ensures seen { option_map seen_of result ≡ granted_found self.now tenant owner stream.now }
-        ensures place { IfSome result (λ f. place_of (home_at self.now f.owner).streams stream.now ≡ Some f.place) }
-        ensures schema { IfSome result (λ f. option_map (λ s. at_places s.schema f.places.now) (stream_at self.now f.owner stream.now) ≡ Some f.schema.now) }
-        ensures within { IfSome result (λ f. IfSome (stream_at self.now f.owner stream.now) (λ s. AreWithin f.places.now (length s.schema))) }
-        ensures places { IfSome result (λ f. f.places.now ≡ granted_places (grant_of (home_at self.now tenant) owner stream.now)) }
+        ensures stream { IfSome result (IsOwnersStream self.now stream.now) }
+        ensures projection { IfSome result (λ f. f.projection.now ≡ granted_projection (grant_of (namespace_at self.now tenant) owner stream.now)) }
         ensures owner { IfSome result (λ f. f.owner ≡ owner) }
     {
-        let home = home_at(&self.homes, tenant.place());
-        let grant = home.grant_of(owner, stream)?;
+        let namespace = namespace_at(&self.namespaces, tenant.index());
+        let grant = namespace.grant_of(owner, stream)?;
         let owner = grant.owner();
-        let place = self.place(owner, stream)?;
+        let index = self.stream_index(owner, stream)?;
         Some(FoundStream {
             owner,
-            place,
+            index,
             schema: grant.schema(),
-            places: grant.places(),
+            projection: grant.projection(),
             named: grant.is_named(),
-            opened: self.opened(owner, place),
+            opened: self.opened(owner, index),
         })
     }
 
@@ -451,16 +467,14 @@ impl Directory {
         stream: &str,
     ) -> Option<FoundStream<'_>>
         ensures seen { option_map seen_of result ≡ found self.now tenant (option_copied owner.entry) stream.now }
-        ensures place { IfSome result (λ f. place_of (home_at self.now f.owner).streams stream.now ≡ Some f.place) }
-        ensures schema { IfSome result (λ f. option_map (λ s. at_places s.schema f.places.now) (stream_at self.now f.owner stream.now) ≡ Some f.schema.now) }
-        ensures within { IfSome result (λ f. IfSome (stream_at self.now f.owner stream.now) (λ s. AreWithin f.places.now (length s.schema))) }
-        ensures places { IfSome result (λ f. f.places.now ≡ places_seen self.now tenant f.owner stream.now) }
+        ensures stream { IfSome result (IsOwnersStream self.now stream.now) }
+        ensures projection { IfSome result (λ f. f.projection.now ≡ projection_seen self.now tenant f.owner stream.now) }
     {
         if !self.has(tenant) {
             return None;
         }
         let owner = self.owner_meant(tenant, owner)?;
-        if owner == tenant.place() {
+        if owner == tenant.index() {
             self.own_found(tenant, stream)
         } else {
             self.granted_found(tenant, owner, stream)

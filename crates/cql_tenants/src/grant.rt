@@ -1,7 +1,7 @@
 // A grant, and what lists share of it.
 ghost use Rattle.std.specs.Prelude.{◌≡◌, true, Some, IfOk, option_copied, slice_get};
 ghost use Rattle.cql_window.specs.Chosen.{is_shown};
-ghost use Rattle.cql_tenants.specs.Home.{is_of};
+ghost use Rattle.cql_tenants.specs.Namespace.{is_of};
 ghost use Rattle.cql_tenants.specs.Directory.{grant_over};
 ghost use Rattle.cql_tenants.specs.Held.{shown_of};
 
@@ -9,7 +9,7 @@ use crate::held::Held;
 use crate::shared::Shared;
 use crate::tenants::TenantId;
 use cql_value::{Items, Schema, Text};
-use cql_window::{schema_at, shown_places};
+use cql_window::{schema_at, shown_projection};
 use std::alloc::{AllocError, Global};
 use std::marker::Model;
 
@@ -18,7 +18,7 @@ pub struct ShownStream {
     pub stream: Text,
     pub schema: Schema,
     /// Where these columns stand among the stream's own.
-    pub places: Items<usize>,
+    pub projection: Items<usize>,
     /// Whether the grant names them.
     pub named: bool,
 }
@@ -28,18 +28,18 @@ impl Drop for ShownStream {
         let ShownStream {
             stream: _,
             schema: _,
-            places: _,
+            projection: _,
             named: _,
         } = self;
     }
 }
 
-/// A stream that another tenant granted: its owner, its place among the owner's, and what the
+/// A stream that another tenant granted: its owner, its index among the owner's, and what the
 /// reader sees of it, which lists share. It is small, since those that look for a grant walk along
 /// all.
 pub struct Grant {
     owner: TenantId,
-    place: usize,
+    index: usize,
     shown: Held,
 }
 
@@ -47,7 +47,7 @@ impl Drop for Grant {
     fn drop(self) {
         let Grant {
             owner: _,
-            place: _,
+            index: _,
             shown: _,
         } = self;
     }
@@ -58,7 +58,7 @@ impl Model for Grant {
 
     ghost Value = { kept };
 
-    ghost view = { λ g. record { owner = g.owner; place = g.place; stream = g.shown.stream; schema = g.shown.schema; places = g.shown.places; named = g.shown.named } };
+    ghost view = { λ g. record { owner = g.owner; index = g.index; stream = g.shown.stream; schema = g.shown.schema; projection = g.shown.projection; named = g.shown.named } };
 }
 
 impl Grant {
@@ -67,34 +67,34 @@ impl Grant {
     pub fn new(
         alloc: Global,
         owner: TenantId,
-        place: usize,
+        index: usize,
         stream: &str,
         schema: &Schema,
         columns: Option<&Items<Text>>,
     ) -> Result<Grant, AllocError>
         requires { is_shown schema.now (option_copied columns) ≡ true }
-        ensures { IfOk result (λ g. g ≡ grant_over owner place stream.now schema.now (option_copied columns.entry)) }
+        ensures { IfOk result (λ g. g ≡ grant_over owner index stream.now schema.now (option_copied columns.entry)) }
     {
         // asking for the columns tells the proof that they are those of a schema
         let _all = schema.columns();
-        let places = shown_places(alloc, schema, columns)?;
-        let seen = schema_at(alloc, schema, places.as_slice())?;
+        let projection = shown_projection(alloc, schema, columns)?;
+        let seen = schema_at(alloc, schema, projection.as_slice())?;
         let stream = Text::new(alloc, stream)?;
         let shown = ShownStream {
             stream,
             schema: seen,
-            places,
+            projection,
             named: columns.is_some(),
         };
         let shown = Held::alone(alloc, shown)?;
         Ok(Grant {
             owner,
-            place,
+            index,
             shown,
         })
     }
 
-    /// The same grant, with what is seen of it at a place among others.
+    /// The same grant, with what is seen of it at an index among others.
     pub fn among(
         &self,
         pack: &Shared<Items<Shared<ShownStream>>>,
@@ -106,7 +106,7 @@ impl Grant {
         let shown = Held::among(pack, at)?;
         Ok(Grant {
             owner: self.owner,
-            place: self.place,
+            index: self.index,
             shown,
         })
     }
@@ -118,11 +118,11 @@ impl Grant {
         self.owner
     }
 
-    /// The stream's place among its owner's.
-    pub fn place(&self) -> usize
-        ensures { result ≡ self.now.place }
+    /// The stream's index among its owner's.
+    pub fn index(&self) -> usize
+        ensures { result ≡ self.now.index }
     {
-        self.place
+        self.index
     }
 
     /// The stream's name.
@@ -140,10 +140,10 @@ impl Grant {
     }
 
     /// Where these columns stand among the stream's own.
-    pub fn places(&self) -> &[usize]
-        ensures { result.now ≡ self.now.places }
+    pub fn projection(&self) -> &[usize]
+        ensures { result.now ≡ self.now.projection }
     {
-        self.shown.get().places.as_slice()
+        self.shown.get().projection.as_slice()
     }
 
     /// Whether the grant names them.
@@ -172,6 +172,6 @@ impl Grant {
     pub fn is_of(&self, owner: usize, stream: &str) -> bool
         ensures { result ≡ is_of owner stream.now self.now }
     {
-        owner == self.owner.place() && stream == self.stream()
+        owner == self.owner.index() && stream == self.stream()
     }
 }

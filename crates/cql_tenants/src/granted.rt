@@ -1,7 +1,7 @@
 // The grants of one reader.
 ghost use Rattle.std.specs.Prelude.{◌≡◌, [], ◌∷◌, ◌++◌, ◌≤◌, ◌-◌, not, IfOk, OnOk, OnErr, length, map, take, drop};
 ghost use Rattle.std.specs.List.{filter};
-ghost use Rattle.cql_tenants.specs.Home.{is_of};
+ghost use Rattle.cql_tenants.specs.Namespace.{is_of};
 ghost use Rattle.cql_tenants.specs.Held.{shown_of};
 
 use crate::grant::{Grant, ShownStream};
@@ -49,7 +49,7 @@ fn gathered(alloc: Global, grants: &[Grant]) -> Result<Items<Shared<ShownStream>
     Ok(pack)
 }
 
-// Has the grants from a place on, up to another, hold what the reader sees of them together.
+// Has the grants from an index on, up to another, hold what the reader sees of them together.
 fn put_together(
     all: &mut Items<Grant>,
     from: usize,
@@ -61,9 +61,9 @@ fn put_together(
     requires pack { pack.now ≡ map shown_of (take (end - from) (drop from all.old)) }
     ensures { all.new ≡ all.old }
 {
-    for place in from..end {
-        let grant = all.as_slice()[place].among(pack, place - from)?;
-        all.set(place, grant);
+    for index in from..end {
+        let grant = all.as_slice()[index].among(pack, index - from)?;
+        all.set(index, grant);
     }
     Ok(())
 }

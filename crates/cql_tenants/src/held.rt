@@ -9,8 +9,8 @@ use std::alloc::{AllocError, Global};
 use std::marker::Model;
 use std::sync::Arc;
 
-/// What a reader sees of a stream, at its place among others that stand together. One more holder is
-/// counted for all of these at one place in memory: a list of many grants counts holders, and places
+/// What a reader sees of a stream, at its index among others that stand together. One more holder is
+/// counted for all of these at one address: a list of many grants counts holders, and addresses
 /// all over the memory would take ten times as long.
 pub struct Held {
     pack: Shared<Items<Shared<ShownStream>>>,
@@ -46,7 +46,7 @@ impl Held {
         Ok(Held { pack, at: 0 })
     }
 
-    /// That at a place of those.
+    /// That at an index of those.
     pub fn among(pack: &Shared<Items<Shared<ShownStream>>>, at: usize) -> Result<Held, AllocError>
         requires { at < length pack.now }
         ensures { IfOk result (λ h. h ≡ shown_in pack.now at) }

@@ -2,18 +2,18 @@
 ghost use Rattle.std.specs.Prelude.{◌≡◌, IfOk, map, option_map};
 ghost use Rattle.std.specs.List.{AllByRecursion};
 ghost use Rattle.cql_value.specs.declared.schema.Column.{Column as column};
-ghost use Rattle.cql_tenants.specs.Home.{opened_at};
-ghost use Rattle.cql_tenants.specs.Law.{IsPlaced};
-ghost use Rattle.cql_tenants.specs.Readable.{own_readable, granted_readable, own_stream, read_stream};
+ghost use Rattle.cql_tenants.specs.Lookup.{opened_at, own_readable, granted_readable, read_stream};
+ghost use Rattle.cql_tenants.specs.Law.{IsIndexed};
+ghost use Rattle.cql_tenants.specs.Listed.{own_stream};
 
 use crate::grant::Grant;
 use crate::held::Held;
-use crate::home::Home;
-use crate::homes::{home_at, opened_at, owner_name};
+use crate::namespace::Namespace;
+use crate::namespaces::{namespace_at, opened_at, owner_name};
 use crate::shared::Shared;
 use crate::tenants::TenantId;
-use cql_value::{Column, Items, Name, Schema, Shelf, Stream, Text};
-use cql_window::all_places;
+use cql_value::{Column, Items, Name, NameMap, Schema, Stream, Text};
+use cql_window::whole_projection;
 use std::alloc::{AllocError, Global};
 use std::marker::Model;
 
@@ -25,7 +25,7 @@ pub struct ReadableStream {
     /// The columns that the tenant sees.
     pub schema: Schema,
     /// Where they stand among the stream's own.
-    pub places: Items<usize>,
+    pub projection: Items<usize>,
     /// The least time, in ticks, that the stream still takes.
     pub opened: u64,
 }
@@ -36,7 +36,7 @@ impl Drop for ReadableStream {
             owner: _,
             name: _,
             schema: _,
-            places: _,
+            projection: _,
             opened: _,
         } = self;
     }
@@ -46,12 +46,12 @@ impl Drop for ReadableStream {
 #[derive(Clone, Copy)]
 pub struct FoundStream<'a> {
     pub owner: TenantId,
-    /// The stream's place among its owner's.
-    pub place: usize,
+    /// The stream's index among its owner's.
+    pub index: usize,
     /// The columns that the tenant sees.
     pub schema: &'a Schema,
     /// Where they stand among the stream's own.
-    pub places: &'a [usize],
+    pub projection: &'a [usize],
     /// Whether a grant names them.
     pub named: bool,
     /// The least time, in ticks, that the stream still takes.
@@ -73,15 +73,15 @@ impl Drop for OwnStream {
 
 /// A stream that another tenant granted, as a list shows it. It shares its texts with the grant, so
 /// that none is copied where a list is made.
-pub struct ReadStream {
+pub struct GrantedStream {
     owner: Shared<Name>,
     shown: Held,
     opened: u64,
 }
 
-impl Drop for ReadStream {
+impl Drop for GrantedStream {
     fn drop(self) {
-        let ReadStream {
+        let GrantedStream {
             owner: _,
             shown: _,
             opened: _,
@@ -89,15 +89,15 @@ impl Drop for ReadStream {
     }
 }
 
-impl Model for ReadStream {
-    ghost use Rattle.cql_tenants.specs.Granted.{ReadStream as read, named_columns};
+impl Model for GrantedStream {
+    ghost use Rattle.cql_tenants.specs.Listed.{GrantedStream as read, named_columns};
 
     ghost Value = { read };
 
     ghost view = { λ s. record { owner = s.owner; stream = s.shown.stream; columns = named_columns s.shown.named s.shown.schema; opened = s.opened } };
 }
 
-impl ReadStream {
+impl GrantedStream {
     /// The name of the stream's owner.
     pub fn owner(&self) -> &str
         ensures { result.now ≡ self.now.owner }
@@ -138,19 +138,19 @@ fn copied(
     owner: Option<Text>,
     name: &str,
     schema: &Schema,
-    places: &[usize],
+    projection: &[usize],
     opened: u64,
 ) -> Result<ReadableStream, AllocError>
-    ensures { IfOk result (λ r. r ≡ record { owner = owner; name = name.now; schema = schema.now; places = places.now; opened = opened }) }
+    ensures { IfOk result (λ r. r ≡ record { owner = owner; name = name.now; schema = schema.now; projection = projection.now; opened = opened }) }
 {
     let name = Text::new(alloc, name)?;
     let schema = schema.try_clone(alloc)?;
-    let places = Items::from_slice(alloc, places)?;
+    let projection = Items::from_slice(alloc, projection)?;
     Ok(ReadableStream {
         owner,
         name,
         schema,
-        places,
+        projection,
         opened,
     })
 }
@@ -161,26 +161,26 @@ fn own_readable(alloc: Global, name: &str, stream: &Stream) -> Result<ReadableSt
 {
     let schema = &stream.schema;
     let opened = stream.clock.opened();
-    copied(alloc, None, name, schema, all_places(schema), opened)
+    copied(alloc, None, name, schema, whole_projection(schema), opened)
 }
 
 // A stream of another's.
 fn granted_readable(
     alloc: Global,
-    homes: &[Home],
+    namespaces: &[Namespace],
     grant: &Grant,
 ) -> Result<ReadableStream, AllocError>
-    ensures { IfOk result (λ r. r ≡ granted_readable homes.now grant.now) }
+    ensures { IfOk result (λ r. r ≡ granted_readable namespaces.now grant.now) }
 {
-    let place = grant.owner().place();
-    let owner = Text::new(alloc, owner_name(homes, place))?;
-    let opened = opened_at(homes, place, grant.stream());
+    let index = grant.owner().index();
+    let owner = Text::new(alloc, owner_name(namespaces, index))?;
+    let opened = opened_at(namespaces, index, grant.stream());
     copied(
         alloc,
         Some(owner),
         grant.stream(),
         grant.schema(),
-        grant.places(),
+        grant.projection(),
         opened,
     )
 }
@@ -188,7 +188,7 @@ fn granted_readable(
 /// A tenant's own streams, in order of making.
 pub fn own_shown(
     alloc: Global,
-    streams: &Shelf<Stream>,
+    streams: &NameMap<Stream>,
 ) -> Result<Items<ReadableStream>, AllocError>
     ensures { IfOk result (λ all. all ≡ map own_readable streams.now) }
 {
@@ -203,14 +203,14 @@ pub fn own_shown(
 /// The streams of these grants, in order.
 pub fn granted_shown(
     alloc: Global,
-    homes: &[Home],
+    namespaces: &[Namespace],
     grants: &[Grant],
 ) -> Result<Items<ReadableStream>, AllocError>
-    ensures { IfOk result (λ all. all ≡ map (granted_readable homes.now) grants.now) }
+    ensures { IfOk result (λ all. all ≡ map (granted_readable namespaces.now) grants.now) }
 {
     let mut all = Items::new(alloc);
     for grant in grants {
-        all.push(granted_readable(alloc, homes, grant)?)?;
+        all.push(granted_readable(alloc, namespaces, grant)?)?;
     }
     Ok(all)
 }
@@ -226,23 +226,25 @@ fn own_stream(alloc: Global, name: &str, stream: &Stream) -> Result<OwnStream, A
 }
 
 // The least time, in ticks, that the stream of a grant still takes.
-fn time_of(homes: &[Home], grant: &Grant) -> u64
-    requires { IsPlaced homes.now grant.now }
-    ensures { result ≡ opened_at homes.now grant.now.owner grant.now.stream }
+fn time_of(namespaces: &[Namespace], grant: &Grant) -> u64
+    requires { IsIndexed namespaces.now grant.now }
+    ensures { result ≡ opened_at namespaces.now grant.now.owner grant.now.stream }
 {
-    let owner = home_at(homes, grant.owner().place());
-    owner.opened(grant.place())
+    let owner = namespace_at(namespaces, grant.owner().index());
+    owner.opened(grant.index())
 }
 
 // A stream that was granted, as a list shows it: it shares the texts of the grant.
-fn read_stream(homes: &[Home], grant: &Grant) -> Result<ReadStream, AllocError>
-    requires { IsPlaced homes.now grant.now }
-    ensures { IfOk result (λ s. s ≡ read_stream homes.now grant.now) }
+fn read_stream(namespaces: &[Namespace], grant: &Grant) -> Result<GrantedStream, AllocError>
+    requires { IsIndexed namespaces.now grant.now }
+    ensures { IfOk result (λ s. s ≡ read_stream namespaces.now grant.now) }
 {
-    let opened = time_of(homes, grant);
-    let owner = home_at(homes, grant.owner().place()).name.share()?;
+    let opened = time_of(namespaces, grant);
+    let owner = namespace_at(namespaces, grant.owner().index())
+        .name
+        .share()?;
     let shown = grant.held()?;
-    Ok(ReadStream {
+    Ok(GrantedStream {
         owner,
         shown,
         opened,
@@ -250,7 +252,7 @@ fn read_stream(homes: &[Home], grant: &Grant) -> Result<ReadStream, AllocError>
 }
 
 /// A tenant's own streams, in order of making, as a list shows them.
-pub fn own_listed(alloc: Global, streams: &Shelf<Stream>) -> Result<Items<OwnStream>, AllocError>
+pub fn own_listed(alloc: Global, streams: &NameMap<Stream>) -> Result<Items<OwnStream>, AllocError>
     ensures { IfOk result (λ all. all ≡ map own_stream streams.now) }
 {
     let mut all = Items::new(alloc);
@@ -264,15 +266,15 @@ pub fn own_listed(alloc: Global, streams: &Shelf<Stream>) -> Result<Items<OwnStr
 /// The streams of these grants, in order, as a list shows them.
 pub fn granted_listed(
     alloc: Global,
-    homes: &[Home],
+    namespaces: &[Namespace],
     grants: &[Grant],
-) -> Result<Items<ReadStream>, AllocError>
-    requires { AllByRecursion (IsPlaced homes.now) grants.now }
-    ensures { IfOk result (λ all. all ≡ map (read_stream homes.now) grants.now) }
+) -> Result<Items<GrantedStream>, AllocError>
+    requires { AllByRecursion (IsIndexed namespaces.now) grants.now }
+    ensures { IfOk result (λ all. all ≡ map (read_stream namespaces.now) grants.now) }
 {
     let mut all = Vec::with_capacity(alloc, grants.len())?;
     for grant in grants {
-        all.push(read_stream(homes, grant)?)?;
+        all.push(read_stream(namespaces, grant)?)?;
     }
     Ok(Items::from_vec(all))
 }

@@ -11,11 +11,11 @@ use Rattle.cql_value.specs.Schema.{type_of, HasTypes}
 use Rattle.cql_window.specs.declared.window.Window.{Window}
 use Rattle.cql_window.specs.declared.window.Window.TheVariants.{Range, Rows, All as all, Parts}
 use Rattle.cql_window.specs.Pin.{HasColumns, AreRows}
-use Rattle.cql_window.specs.RowPlaces.{at_places}
+use Rattle.cql_window.specs.Projection.{projected}
 use Rattle.cql_window.specs.Through.{narrowed_all}
 use Rattle.cql_plan.specs.Ports.{PartsAmong}
 use Rattle.cql_eval.specs.Pin.{AreOf}
-use Rattle.cql_tests.specs.Pins.{one_number, one_place, AreFit}
+use Rattle.cql_tests.specs.Pins.{one_number, one_column, AreFit}
 
 all_weaker : {A : Type 0} (P Q : A → Type 0) → ((x : A) → P x → Q x) → (xs : List A) → AllByRecursion P xs → AllByRecursion Q xs
 all_weaker P Q weaker [] each = tt
@@ -40,33 +40,33 @@ fit_cons x xs rows at row split time values instant first typed fit =
       typed = (subst (HasTypes one_number) values typed, fit.typed);
     })
 
--- rows that are parted at a place are all of them still
+-- rows that are parted by a column are all of them still
 pub joined : (settled : ℕ) (rows : List Element) {content unseen : List Element} → content ≡ take settled rows → unseen ≡ drop settled rows → content ++ unseen ≡ rows
 joined settled rows first later = (λ i. first i ++ later i) ∙ take-append-drop settled rows
 
 -- ---- windows
 
-below : (many place : ℕ) → many ≡ 1 → Contains one_place place → place < many
-below many place one among = All-contains (λ p. p < many) one_place place (All-from_recursion (λ p. p < many) one_place (omega (arith, one), tt)) among
+below : (many column : ℕ) → many ≡ 1 → Contains one_column column → column < many
+below many column one among = All-contains (λ p. p < many) one_column column (All-from_recursion (λ p. p < many) one_column (omega (arith, one), tt)) among
 
-has_columns : (w : Window) (x : Element) → PartsAmong one_place w → HasTypes one_number x.row → HasColumns w x
+has_columns : (w : Window) (x : Element) → PartsAmong one_column w → HasTypes one_number x.row → HasColumns w x
 has_columns (Range len slide) x among typed = tt
 has_columns (Rows count slide) x among typed = tt
 has_columns all x among typed = tt
-has_columns (Parts places count) x among typed =
+has_columns (Parts columns count) x among typed =
     let same : length x.row ≡ 1 = sym (length-map x.row type_of) ∙ ap length typed in
-    all_weaker (Contains one_place) (λ (i : ℕ). i < length x.row) (λ i c. below (length x.row) i same c) places among
+    all_weaker (Contains one_column) (λ (i : ℕ). i < length x.row) (λ i c. below (length x.row) i same c) columns among
 
-pub are_rows : (w : Window) (xs : List Element) → PartsAmong one_place w → AreFit xs → AreRows w xs
+pub are_rows : (w : Window) (xs : List Element) → PartsAmong one_column w → AreFit xs → AreRows w xs
 are_rows w xs among fit = (fit.ascending, fit.instants, all_weaker (λ (x : Element). HasTypes one_number x.row) (HasColumns w) (λ x h. has_columns w x among h) xs fit.typed)
 
 -- ---- what is seen
 
-seen : (row : List Value) → HasTypes one_number row → HasTypes one_number (at_places row one_place)
+seen : (row : List Value) → HasTypes one_number row → HasTypes one_number (projected row one_column)
 seen [] typed = absurd (omega (arith, ap length typed))
 seen (v ∷ []) typed = typed
 seen (v ∷ w ∷ more) typed = absurd (omega (arith, ap length typed))
 
-pub all_seen : (xs : List Element) → AreOf one_number xs → AreOf one_number (narrowed_all one_place xs)
+pub all_seen : (xs : List Element) → AreOf one_number xs → AreOf one_number (narrowed_all one_column xs)
 all_seen [] typed = tt
 all_seen (x ∷ xs) typed = (seen x.row typed.0, all_seen xs typed.1)

@@ -17,9 +17,9 @@ use Rattle.cql_eval.specs.Pin.{AreOf}
 abbrev pub one_number : List ColumnType
 one_number = Number ∷ []
 
--- their places in the whole row
-abbrev pub one_place : List ℕ
-one_place = 0 ∷ []
+-- their projection of the whole row
+abbrev pub one_column : List ℕ
+one_column = 0 ∷ []
 
 -- the block that shows all its rows
 abbrev pub whole : Branch
@@ -32,7 +32,7 @@ whole = record {
 -- this block alone, over an input of which all columns are seen
 pub record IsWhole (input : Input) (p : Planned) : Type 0 where
   pub one : p.inputs ≡ input ∷ []
-  pub places : input.places ≡ one_place
+  pub projection : input.projection ≡ one_column
   pub first : p.first ≡ whole
   pub combined : p.combined ≡ None
 

@@ -3,14 +3,14 @@
 // line tells.
 use crate::outputs::Numbers::{Rows, Signed};
 use crate::outputs::{Told, are_blocks};
-use crate::pins::{Asked, GREATEST, pin};
+use crate::pins::{GREATEST, PinRequest, pin};
 use cql_eval::{Answer, Pin, answer};
 use cql_plain::plain_bench;
 use std::alloc::Global;
 use std::test::Fail;
 
 // The rows 1 at 1 and 2 at 4, which are in the content, and 3 at 6, which isn't.
-const LATER: Asked = Asked {
+const LATER: PinRequest = PinRequest {
     text: "Select Istream(*) From s [Range 3]",
     rows: &[(1, 1), (4, 2), (6, 3)],
     settled: 2,
@@ -21,13 +21,13 @@ const LATER: Asked = Asked {
 };
 
 // The same rows, where 1 comes again in the place of 3.
-const AGAIN: Asked = Asked {
+const AGAIN: PinRequest = PinRequest {
     rows: &[(1, 1), (4, 2), (6, 1)],
     ..LATER
 };
 
 // Rows from before the base, none in the content.
-const BEFORE: Asked = Asked {
+const BEFORE: PinRequest = PinRequest {
     text: "Select Istream(*) From s [Range 2]",
     rows: &[(5, 1), (7, 2)],
     settled: 0,
@@ -40,19 +40,19 @@ const BEFORE: Asked = Asked {
 // What is asked is told these blocks.
 struct Case {
     what: &'static str,
-    asked: Asked,
+    request: PinRequest,
     blocks: &'static [Told],
 }
 
 const CASES: &[Case] = &[
     Case {
         what: "what is there at the base comes there",
-        asked: Asked { base: 5, ..LATER },
+        request: PinRequest { base: 5, ..LATER },
         blocks: &[(5, 5, Rows(&[2])), (6, 6, Rows(&[3]))],
     },
     Case {
         what: "nothing goes at the base",
-        asked: Asked {
+        request: PinRequest {
             text: "Select Dstream(*) From s [Range 3]",
             base: 5,
             ..LATER
@@ -61,7 +61,7 @@ const CASES: &[Case] = &[
     },
     Case {
         what: "what is there from the base on",
-        asked: Asked {
+        request: PinRequest {
             text: "Select Rstream(*) From s [Range 3]",
             base: 5,
             ..LATER
@@ -74,7 +74,7 @@ const CASES: &[Case] = &[
     },
     Case {
         what: "what comes and goes from the base on",
-        asked: Asked {
+        request: PinRequest {
             text: "Select * From s [Range 3]",
             base: 5,
             ..LATER
@@ -88,7 +88,7 @@ const CASES: &[Case] = &[
     },
     Case {
         what: "a row goes and an equal one comes, from the base on",
-        asked: Asked {
+        request: PinRequest {
             text: "Select Rstream(*) From s [Rows 2]",
             base: 5,
             ..AGAIN
@@ -97,7 +97,7 @@ const CASES: &[Case] = &[
     },
     Case {
         what: "an equal row comes, from the base on",
-        asked: Asked {
+        request: PinRequest {
             text: "Select Rstream(*) From s",
             base: 5,
             ..AGAIN
@@ -106,7 +106,7 @@ const CASES: &[Case] = &[
     },
     Case {
         what: "the row of a part goes and an equal one comes, from the base on",
-        asked: Asked {
+        request: PinRequest {
             text: "Select Rstream(*) From s [Partition By v Rows 1]",
             base: 5,
             ..AGAIN
@@ -115,17 +115,17 @@ const CASES: &[Case] = &[
     },
     Case {
         what: "a row from before the base comes at the base",
-        asked: BEFORE,
+        request: BEFORE,
         blocks: &[(6, 6, Rows(&[1])), (7, 7, Rows(&[2]))],
     },
     Case {
         what: "what was there at the base doesn't come later",
-        asked: Asked { from: 7, ..BEFORE },
+        request: PinRequest { from: 7, ..BEFORE },
         blocks: &[(7, 7, Rows(&[2]))],
     },
     Case {
         what: "a base later than the rows",
-        asked: Asked {
+        request: PinRequest {
             rows: &[(5, 1)],
             base: 8,
             from: 8,
@@ -138,7 +138,7 @@ const CASES: &[Case] = &[
 // At how many instants the relation is computed.
 struct Computed {
     what: &'static str,
-    asked: Asked,
+    request: PinRequest,
     least: u64,
     most: u64,
 }
@@ -146,7 +146,7 @@ struct Computed {
 const TURNS: &[Computed] = &[
     Computed {
         what: "no row comes or goes",
-        asked: Asked {
+        request: PinRequest {
             text: "Select Istream(*) From s [Now]",
             rows: &[],
             settled: 0,
@@ -159,7 +159,7 @@ const TURNS: &[Computed] = &[
     },
     Computed {
         what: "a row comes at the first instant and goes at the last",
-        asked: Asked {
+        request: PinRequest {
             text: "Select Istream(*) From s [Range 0 Slide 4611686018427387903]",
             rows: &[(0, 1)],
             settled: 0,
@@ -172,19 +172,19 @@ const TURNS: &[Computed] = &[
     },
     Computed {
         what: "no instant is asked for",
-        asked: Asked { next: 5, ..LATER },
+        request: PinRequest { next: 5, ..LATER },
         least: 0,
         most: 0,
     },
     Computed {
         what: "1 goes at 5, 3 comes at 6, 2 goes at 8, and 3 at 10",
-        asked: LATER,
+        request: LATER,
         least: 5,
         most: 5,
     },
     Computed {
         what: "each of three rows comes and goes at instants of its own",
-        asked: Asked {
+        request: PinRequest {
             rows: &[(11, 1), (21, 2), (31, 3)],
             settled: 0,
             next: 41,
@@ -195,7 +195,7 @@ const TURNS: &[Computed] = &[
     },
     Computed {
         what: "each of three rows comes and goes once",
-        asked: Asked {
+        request: PinRequest {
             text: "Select Rstream(*) From s [Partition By v Rows 1]",
             from: 0,
             settled: 1,
@@ -209,64 +209,64 @@ const TURNS: &[Computed] = &[
 // What differs from LATER in one thing.
 struct Other {
     what: &'static str,
-    asked: Asked,
+    request: PinRequest,
 }
 
 const OTHERS: &[Other] = &[
     Other {
         what: "the plan",
-        asked: Asked {
+        request: PinRequest {
             text: "Select Dstream(*) From s [Range 3]",
             ..LATER
         },
     },
     Other {
         what: "the window",
-        asked: Asked {
+        request: PinRequest {
             text: "Select Istream(*) From s [Range 4]",
             ..LATER
         },
     },
     Other {
         what: "the base",
-        asked: Asked { base: 1, ..LATER },
+        request: PinRequest { base: 1, ..LATER },
     },
     Other {
         what: "the first instant",
-        asked: Asked { from: 6, ..LATER },
+        request: PinRequest { from: 6, ..LATER },
     },
     Other {
         what: "the end",
-        asked: Asked { next: 11, ..LATER },
+        request: PinRequest { next: 11, ..LATER },
     },
     Other {
         what: "the limit",
-        asked: Asked {
+        request: PinRequest {
             limit: 101,
             ..LATER
         },
     },
     Other {
         what: "a row of the content",
-        asked: Asked {
+        request: PinRequest {
             rows: &[(1, 1), (4, 4), (6, 3)],
             ..LATER
         },
     },
     Other {
         what: "the time of a row of the content",
-        asked: Asked {
+        request: PinRequest {
             rows: &[(1, 1), (3, 2), (6, 3)],
             ..LATER
         },
     },
     Other {
         what: "a row behind the content",
-        asked: AGAIN,
+        request: AGAIN,
     },
     Other {
         what: "how many rows are in the content",
-        asked: Asked {
+        request: PinRequest {
             settled: 1,
             ..LATER
         },
@@ -285,25 +285,25 @@ fn others() -> &'static [Other] {
     OTHERS
 }
 
-fn answered(alloc: Global, asked: &Asked) -> Result<Answer, Fail> {
-    let pin = pin(alloc, asked)?;
+fn answered(alloc: Global, request: &PinRequest) -> Result<Answer, Fail> {
+    let pin = pin(alloc, request)?;
     Ok(answer(alloc, &mut plain_bench(alloc), pin)?)
 }
 
 fn is_told(alloc: Global, case: &Case) -> Result<bool, Fail> {
-    let answer = answered(alloc, &case.asked)?;
-    Ok(answer.next() == case.asked.next && are_blocks(alloc, answer.blocks(), case.blocks)?)
+    let answer = answered(alloc, &case.request)?;
+    Ok(answer.next() == case.request.next && are_blocks(alloc, answer.blocks(), case.blocks)?)
 }
 
 fn takes(alloc: Global, turns: &Computed) -> Result<bool, Fail> {
-    let taken = answered(alloc, &turns.asked)?.turns();
+    let taken = answered(alloc, &turns.request)?.turns();
     Ok(turns.least <= taken && taken <= turns.most)
 }
 
 // Whether the answer to LATER has the pin of what is asked.
-fn has_pin(alloc: Global, asked: &Asked) -> Result<bool, Fail> {
+fn has_pin(alloc: Global, request: &PinRequest) -> Result<bool, Fail> {
     let answer = answered(alloc, &LATER)?;
-    Ok(answer.has_pin(&pin(alloc, asked)?))
+    Ok(answer.has_pin(&pin(alloc, request)?))
 }
 
 #[test]
@@ -327,7 +327,7 @@ fn how_often_it_is_computed(rt: HostRuntime) -> Result<(), Fail> {
 fn whose_pin_it_is(rt: HostRuntime) -> Result<(), Fail> {
     assert!(rt; has_pin(rt.alloc(), &LATER)?);
     for other in others() {
-        assert!(rt; !has_pin(rt.alloc(), &other.asked)?, "{}", other.what);
+        assert!(rt; !has_pin(rt.alloc(), &other.request)?, "{}", other.what);
     }
     Ok(())
 }

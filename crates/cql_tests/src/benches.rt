@@ -12,7 +12,7 @@ const TURNED: [OperatorKind; 7] = [Shape, Join, Distinct, Join, Shape, Distinct,
 
 const LONGER: [OperatorKind; 8] = [Join, Shape, Distinct, Join, Shape, Distinct, SetOp, SetOp];
 
-// Operators of some kinds in boxes, and the first place at which they are no bench.
+// Operators of some kinds in boxes, and the first index at which they are no bench.
 const CASES: [(&[OperatorKind], usize); 4] = [(&SHORTER, 6), (&TURNED, 0), (&LONGER, 7), (&[], 0)];
 
 type Boxes = Vec<Box<dyn Operator + Send>>;
@@ -35,7 +35,7 @@ fn operators(alloc: Global, kinds: &[OperatorKind]) -> Result<Boxes, Fail> {
     Ok(boxes)
 }
 
-// Whether the operators are refused at that place, and given back in their order.
+// Whether the operators are refused at that index, and given back in their order.
 fn is_no_bench(boxes: Boxes, kinds: &[OperatorKind], wrong: usize) -> bool {
     let Err(found) = Bench::new(boxes) else {
         return false;

@@ -1,13 +1,11 @@
 //! Tests of values, bags and benches, of answers, of the directory and of the core through their public
-//! items: what no script of lines can show. The laws are called once each.
+//! items: what no script of lines can show.
 #![tactic(auto)]
 
 #[cfg(test)]
 mod answers;
 #[cfg(test)]
 mod benches;
-#[cfg(test)]
-mod laws;
 #[cfg(test)]
 mod memory;
 #[cfg(test)]

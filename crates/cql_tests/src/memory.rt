@@ -1,6 +1,6 @@
 // Commands, also where memory may run out: `rt try --test --fail-alloc` passes here with every number;
 // and how many rows a stream holds as its queries go on, and are dropped.
-use crate::scripts::{Call, Say, Script, Want, command, is_same_reply, is_told, scripts};
+use crate::scripts::{Call, Say, Script, Want, command, is_equal_reply, is_told, scripts};
 use crate::tenants::{Unmade, table_with};
 use cql_core::{Command, Core, Evaluator, Refusal, Reply, TenantId, TenantTable, run, serve};
 use cql_groups::GroupShape;
@@ -31,7 +31,7 @@ fn table_at_last(alloc: Global, script: &Script) -> Result<TenantTable, Unmade> 
 
 fn core_of(alloc: Global, script: &Script) -> Result<Core, Unmade> {
     let table = table_of(alloc, script)?;
-    Ok(Core::new(alloc, table)?)
+    Ok(Core::new(alloc, &table)?)
 }
 
 // What is shown of a core: the lists of both tenants, and how many rows are held of `s` of `a` and
@@ -44,10 +44,10 @@ struct Shown {
 }
 
 impl Shown {
-    fn is_same(&self, other: &Shown) -> bool {
+    fn is_equal(&self, other: &Shown) -> bool {
         self.held == other.held
-            && is_same_reply(&self.first, &other.first)
-            && is_same_reply(&self.second, &other.second)
+            && is_equal_reply(&self.first, &other.first)
+            && is_equal_reply(&self.second, &other.second)
     }
 }
 
@@ -128,7 +128,7 @@ fn is_served<E: Evaluator>(
     };
     let after = shown_of(alloc, core, bench, table)?;
     let again = serve(alloc, core, bench, by, command(alloc, say)?);
-    Ok(before.is_same(&after) && is_told(alloc, &again, told)?)
+    Ok(before.is_equal(&after) && is_told(alloc, &again, told)?)
 }
 
 // Whether each command is served so, and as many rows are held of `s` of `a` behind it as are to be.
@@ -154,7 +154,7 @@ fn are_all_served<E: Evaluator>(
     Ok(are_right)
 }
 
-// The commands of a script but the one at a place.
+// The commands of a script but the one at an index.
 fn commands(
     alloc: Global,
     table: &TenantTable,
@@ -162,8 +162,8 @@ fn commands(
     without: Option<usize>,
 ) -> Result<Vec<(TenantId, Command)>, Unmade> {
     let mut commands = Vec::new(alloc);
-    for (place, (by, say, _, _)) in script.calls.iter().enumerate() {
-        if Some(place) != without {
+    for (index, (by, say, _, _)) in script.calls.iter().enumerate() {
+        if Some(index) != without {
             let by = table.find(by).ok_or(Unmade::Wrong)?;
             commands.push((by, command(alloc, *say)?))?;
         }
@@ -182,22 +182,22 @@ fn replies_to<E: Evaluator>(
 {
     let table = table_of(alloc, script)?;
     let commands = commands(alloc, &table, script, without)?;
-    Ok(run(alloc, table, commands, bench)?)
+    Ok(run(alloc, &table, commands, bench)?)
 }
 
 fn has_no_memory(reply: &Reply) -> bool {
     matches!(reply, Reply::Refused(Refusal::NoMemory))
 }
 
-// Whether the others are these replies without the one at a place.
+// Whether the others are these replies without the one at an index.
 fn are_those_without(replies: &[Reply], without: usize, others: &[Reply]) -> bool {
     let mut left = others;
-    for (place, reply) in replies.iter().enumerate() {
-        if place != without {
+    for (index, reply) in replies.iter().enumerate() {
+        if index != without {
             let Some((other, more)) = left.split_first() else {
                 return false;
             };
-            if !is_same_reply(reply, other) {
+            if !is_equal_reply(reply, other) {
                 return false;
             }
             left = more;

@@ -1,12 +1,12 @@
 // Benches that are handed out and put back: what stands for a query is taken out once it is old.
-use crate::pins::{Asked, pin};
+use crate::pins::{PinRequest, pin};
 use cql_eval::Pool;
 use cql_ops::Operator;
 use cql_plain::{PlainOperator, plain_bench};
 use std::alloc::{AllocError, Global};
 use std::test::Fail;
 
-const ASKED: Asked = Asked {
+const ASKED: PinRequest = PinRequest {
     text: "Select Istream(*) From s [Range 5]",
     rows: &[(1, 1), (2, 2)],
     settled: 0,

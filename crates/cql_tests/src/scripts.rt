@@ -2,7 +2,7 @@
 use crate::outputs::{Numbers, Told, are_blocks};
 use crate::tenants::Unmade;
 use cql_core::{Block, ColumnText, Command, Reply};
-use cql_value::{Items, Row, Same, Text, Value};
+use cql_value::{Equals, Items, Row, Text, Value};
 use std::alloc::Global;
 
 /// A command.
@@ -178,7 +178,7 @@ pub(crate) fn is_told(alloc: Global, reply: &Reply, want: Want) -> Result<bool, 
     }
 }
 
-fn are_same_blocks(all: &[Block], others: &[Block]) -> bool {
+fn are_equal_blocks(all: &[Block], others: &[Block]) -> bool {
     for (one, other) in all.iter().zip(others) {
         if one.from != other.from || one.to != other.to || !one.output.is(&other.output) {
             return false;
@@ -188,14 +188,14 @@ fn are_same_blocks(all: &[Block], others: &[Block]) -> bool {
 }
 
 /// Whether two replies tell the same.
-pub(crate) fn is_same_reply(one: &Reply, other: &Reply) -> bool {
+pub(crate) fn is_equal_reply(one: &Reply, other: &Reply) -> bool {
     match (one, other) {
         (Reply::Ok, Reply::Ok) => true,
         (Reply::Base(base), Reply::Base(other)) => base == other,
         (Reply::Blocks(answer), Reply::Blocks(other)) => {
-            answer.next() == other.next() && are_same_blocks(answer.blocks(), other.blocks())
+            answer.next() == other.next() && are_equal_blocks(answer.blocks(), other.blocks())
         }
-        (Reply::Listing(listing), Reply::Listing(other)) => listing.is_same(other),
+        (Reply::Listing(listing), Reply::Listing(other)) => listing.is_equal(other),
         (Reply::Refused(refusal), Reply::Refused(other)) => refusal.number() == other.number(),
         _ => false,
     }

@@ -77,9 +77,9 @@ fn schema(alloc: Global) -> Result<Schema, Fail> {
     Ok(Schema::new(vec![in alloc; Column { name, kind }]?)?)
 }
 
-fn place(table: &TenantTable, name: &str) -> Result<TenantId, Fail> {
+fn id_of(table: &TenantTable, name: &str) -> Result<TenantId, Fail> {
     match table.find(name) {
-        Some(place) => Ok(place),
+        Some(tenant) => Ok(tenant),
         None => Err(Fail::new("no such tenant")),
     }
 }
@@ -106,8 +106,8 @@ fn reads(alloc: Global, directory: &Directory, tenant: TenantId) -> Result<Optio
 // tenant of another table.
 fn readable(alloc: Global) -> Result<(Option<usize>, Option<usize>, Option<usize>), Fail> {
     let table = table(alloc, &["a", "b"])?;
-    let (a, b) = (place(&table, "a")?, place(&table, "b")?);
-    let stranger = place(&self::table(alloc, &["a", "b", "c"])?, "c")?;
+    let (a, b) = (id_of(&table, "a")?, id_of(&table, "b")?);
+    let stranger = id_of(&self::table(alloc, &["a", "b", "c"])?, "c")?;
     let directory = directory_of(alloc, &table, a)?;
     let (first, second) = (reads(alloc, &directory, a)?, reads(alloc, &directory, b)?);
     Ok((first, second, reads(alloc, &directory, stranger)?))

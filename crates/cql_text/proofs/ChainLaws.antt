@@ -22,7 +22,7 @@ same_ok {A} x y r s o g h =
     let e : p ≡ q = cc in
     (ap (λ (w : A × Tokens). w.0) e, ap (λ (w : A × Tokens). w.1) e)
 
--- where a reader stopped before the place t, what comes after t plays no part for it
+-- where a reader stopped before t, what comes after t plays no part for it
 pub looks_through : {A : Type 0} (p : Parser A) → Looks p → (ts us : Tokens) (x : A) → p ts ≡ Ok (x, us) → (back : Tokens) (t : Token) (r : Tokens) → us ≡ back ++ t ∷ r →
     (front : Tokens) × (ts ≡ front ++ t ∷ r) × ((s : Tokens) → p (front ++ t ∷ s) ≡ Ok (x, back ++ t ∷ s)) × (length back ≤ length front)
 looks_through p k ts us x e [] t r h =
@@ -136,7 +136,7 @@ module _ {A O : Type 0} (item : Parser A) (Item : Rule A) (operator : Token → 
             ))
       ]
 
-  -- ---- no further than the place where it stops
+  -- ---- no further than where it stops
 
   abbrev LooksOn : ℕ → Tokens → A → Token → Tokens → Type 0
   LooksOn n ts left t r = (front : Tokens) × (ts ≡ front ++ t ∷ r) × ((s : Tokens) (m : ℕ) → length (front ++ t ∷ s) ≤ m → go m left (front ++ t ∷ s) ≡ with_rest (go n left ts) (t ∷ s))

@@ -30,7 +30,7 @@ LooksAt p ts t r = (front : Tokens) × (ts ≡ front ++ t ∷ r) × ((s : Tokens
 abbrev pub Looks : {A : Type 0} → Parser A → Type 0
 Looks p = (ts : Tokens) (t : Token) (r : Tokens) → rest_of (p ts) ≡ t ∷ r → LooksAt p ts t r
 
--- what stands before the place of a refusal can go on to something that is so
+-- what stands before the token of a refusal can go on to something that is so
 abbrev pub GoesOnSo : {A : Type 0} → Rule A → Tokens → Tokens → Type 0
 GoesOnSo {A} R ts rest = (front : Tokens) × (more : Tokens) × (x : A) × (ts ≡ front ++ rest) × ((after : Tokens) → R (front ++ (more ++ after)) x after)
 

@@ -14,7 +14,7 @@ pub mod Steps
 pub mod ReadLaws
 pub mod Finish
 pub mod Bound
-pub mod Places
+pub mod Offsets
 pub mod Again
 pub mod AgainQuery
 pub mod Cuts

@@ -21,7 +21,7 @@ use Rattle.cql_text.proofs.BlockLaws.{query_reader}
 no_more : Stops after_query []
 no_more = refl
 
--- what begins a query, begins one as far as any place in it
+-- what begins a query, begins one as far as any token in it
 pub begin_prefix : (a b : Tokens) → CanBegin (a ++ b) → CanBegin a
 begin_prefix a b h = (b ++ h.0, h.1, subst (λ us. Spells us h.1) (append_assoc a b h.0) h.2)
 
@@ -49,7 +49,7 @@ stuck_at ts u r h =
           not_nil u c.0 (rest_of (query (a.0 ++ u ∷ c.0))) (ap rest_of read) (ap rest_of (a.2 c.0) ∙ rest_with (query ts) (u ∷ c.0)),
     )
 
--- what was read before the place where the reader stopped can begin a query
+-- what was read before the token where the reader stopped can begin a query
 begins : (ts : Tokens) (o : Outcome Query) → query ts ≡ o → (front : Tokens) × (ts ≡ front ++ rest_of o) × CanBegin front
 begins ts (Err rest) h =
     let a = query_reader.viable ts rest h in
@@ -63,7 +63,7 @@ begins_nil ts h =
     let a = begins ts (query ts) refl in
     begin_same a.0 ts (sym (append-nil a.0) ∙ ap (λ us. a.0 ++ us) (sym h) ∙ sym a.1) a.2
 
--- the place where the reader stopped before u
+-- the token where the reader stopped before u
 pub stops_there : (ts : Tokens) (u : Token) (r : Tokens) → rest_of (query ts) ≡ u ∷ r → (front : Tokens) × (ts ≡ front ++ u ∷ r) × CanBegin front × (CanBegin (front ++ u ∷ []) → ⊥)
 stops_there ts u r h =
     let a = begins ts (query ts) refl in
@@ -99,7 +99,7 @@ pub tokens-append : (a b : List Lexeme) → tokens_of (a ++ b) ≡ tokens_of a +
 tokens-append [] b = refl
 tokens-append (l ∷ ls) b = ap (λ us. l.token ∷ us) (tokens-append ls b)
 
--- the lexemes of the tokens before a place, and the others
+-- the lexemes of the tokens before one, and the others
 pub split_at : (ls : List Lexeme) (front rest : Tokens) → tokens_of ls ≡ front ++ rest → (F : List Lexeme) × (R : List Lexeme) × (ls ≡ F ++ R) × (tokens_of F ≡ front) × (tokens_of R ≡ rest)
 split_at ls [] rest h = ([], ls, refl, refl, h)
 split_at [] (x ∷ front) rest h = cc
@@ -156,7 +156,7 @@ pub before_fault : (low : ℕ) (F : List Lexeme) (l : Lexeme) (B : List Lexeme) 
 before_fault low [] l B fault at e h = let k = order_fault (l.at + 1) B at (subst (λ o. InOrder (l.at + 1) B o) e h.1) in omega (arith, k)
 before_fault low (x ∷ F) l B fault at e h = before_fault (x.at + 1) F l B fault at e h.1
 
--- ---- places in lists
+-- ---- indices in lists
 
 pub get_after : (F : List Lexeme) (l : Lexeme) (B : List Lexeme) → slice_get (F ++ l ∷ B) (length F) ≡ Some l
 get_after [] l B = refl

@@ -24,7 +24,7 @@ IsSyntax q = (ts : Tokens) × Spells ts q
 abbrev pub Is : Bytes → Query → Type 0
 Is text q = (length text ≤ most_bytes) × ((lexed text).fault ≡ None) × Spells (tokens_of (lexed text).lexemes) q
 
--- ---- the places at which a text is refused
+-- ---- the offsets at which a text is refused
 
 -- the text has too many bytes
 abbrev pub IsTooMany : Bytes → ℕ → Type 0
@@ -52,12 +52,12 @@ abbrev pub IsCutShort : Bytes → ℕ → Type 0
 IsCutShort text at =
     ((lexed text).fault ≡ None) × CanBegin (tokens_of (lexed text).lexemes) × ((q : Query) → Spells (tokens_of (lexed text).lexemes) q → ⊥) × (at ≡ length text)
 
-abbrev pub IsPlace : Bytes → ℕ → Type 0
-IsPlace text at = IsTooMany text at ⊎ (IsNoToken text at ⊎ (IsStuck (lexed text).lexemes at ⊎ (IsTooLong (lexed text).lexemes at ⊎ IsCutShort text at)))
+abbrev pub HasFaultAt : Bytes → ℕ → Type 0
+HasFaultAt text at = IsTooMany text at ⊎ (IsNoToken text at ⊎ (IsStuck (lexed text).lexemes at ⊎ (IsTooLong (lexed text).lexemes at ⊎ IsCutShort text at)))
 
--- the text is refused at the least of its places
+-- the text is refused at the least offset that has a fault
 abbrev pub IsRefusedAt : Bytes → ℕ → Type 0
-IsRefusedAt text at = IsPlace text at × ((other : ℕ) → IsPlace text other → at ≤ other)
+IsRefusedAt text at = HasFaultAt text at × ((other : ℕ) → HasFaultAt text other → at ≤ other)
 
 -- ---- the reader
 
@@ -71,8 +71,8 @@ byte_of (Some l) end = l.at
 byte_of None end = end
 
 -- the byte at which the last `left` tokens begin
-abbrev pub place : Scanned → ℕ → ℕ → ℕ
-place s len left = byte_of (slice_get s.lexemes (length s.lexemes - left)) (end_of s.fault len)
+abbrev pub offset_at : Scanned → ℕ → ℕ → ℕ
+offset_at s len left = byte_of (slice_get s.lexemes (length s.lexemes - left)) (end_of s.fault len)
 
 abbrev pub number_at : ℕ → Token → Option ℕ
 number_at at (t.Number n) = Some at
@@ -101,8 +101,8 @@ unfoldable pub with_one : List Lexeme → ℕ → ℕ → List Lexeme
 with_one ls at left = take (length ls - left + 1) (slice_set ls (length ls - left - 1) (record { at = at; token = t.Number 1 }))
 
 abbrev pub blamed : Scanned → ℕ → ℕ → Option ℕ → ℕ
-blamed s len left None = place s len left
-blamed s len left (Some at) = if goes_on (tokens_of (with_one s.lexemes at left)) then at else place s len left
+blamed s len left None = offset_at s len left
+blamed s len left (Some at) = if goes_on (tokens_of (with_one s.lexemes at left)) then at else offset_at s len left
 
 -- the byte at which a reader that left so many tokens refuses the text
 unfoldable pub refusal : Scanned → ℕ → ℕ → ℕ
@@ -149,6 +149,6 @@ Reads q (Ok s) = s ≡ q
 Reads q (Err NoMemory) = Unit {0}
 Reads q (Err (BadQuery at)) = ⊥
 
--- Of every text: the reader gives the query that it is, and no other, and where there is none the least of the places where it is refused.
+-- Of every text: the reader gives the query that it is, and no other, and where there is none the least of the offsets at which it is refused.
 abbrev pub ReadLaw : Type 0
 ReadLaw = (text : Bytes) → ((q : Query) → read_of text ≡ Ok q → Is text q) × ((q : Query) → Is text q → read_of text ≡ Ok q) × ((at : ℕ) → read_of text ≡ Err at → IsRefusedAt text at)

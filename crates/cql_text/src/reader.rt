@@ -40,8 +40,8 @@ impl From<AllocError> for ReadError {
 }
 
 // The byte at which the last `left` tokens begin.
-fn place(scanned: &Scanned, len: usize, left: usize) -> usize
-    ensures { result ≡ spec.place scanned.now len left }
+fn offset_at(scanned: &Scanned, len: usize, left: usize) -> usize
+    ensures { result ≡ spec.offset_at scanned.now len left }
 {
     let lexemes = scanned.lexemes.as_slice();
     match lexemes.get(lexemes.len().saturating_sub(left)) {
@@ -90,10 +90,10 @@ fn goes_on(alloc: Global, lexemes: &[Lexeme]) -> Result<bool, AllocError>
 fn refusal(alloc: Global, scanned: Scanned, len: usize, left: usize) -> Result<usize, AllocError>
     ensures { IfOk result (λ at. at ≡ spec.refusal scanned len left) }
 {
-    let place = place(&scanned, len, left);
+    let offset = offset_at(&scanned, len, left);
     let mut lexemes = scanned.lexemes;
     let Some(at) = number_before(lexemes.as_slice(), left) else {
-        return Ok(place);
+        return Ok(offset);
     };
     let next = lexemes.len() - left;
     let token = Token::Number(1);
@@ -101,7 +101,7 @@ fn refusal(alloc: Global, scanned: Scanned, len: usize, left: usize) -> Result<u
     if goes_on(alloc, &lexemes.as_slice()[..next + 1])? {
         Ok(at)
     } else {
-        Ok(place)
+        Ok(offset)
     }
 }
 
@@ -179,7 +179,7 @@ impl Model for Syntax {
 }
 
 /// What is read of a text, as a function of its bytes, is what the grammar says of it: the query
-/// that it is, or the least of the places where it is refused.
+/// that it is, or the least of the offsets at which it is refused.
 pub fn read_law()
     ensures { spec.ReadLaw }
 {}

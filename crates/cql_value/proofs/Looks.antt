@@ -5,7 +5,7 @@ use Rattle.std.specs.List.{position}
 use Rattle.indexmap.specs.IndexMap.{set_value_at}
 use Rattle.std.specs.Map.{lookup, set_value, remove_entry, keys_of, values_of}
 use Rattle.cql_value.proofs.Positions.{first}
-use Rattle.cql_value.specs.Named.{Named, same_name, named_of, find_named, change_named, change_placed, place_of, remove_named}
+use Rattle.cql_value.specs.Named.{Named, same_name, named_of, find_named, change_named, change_nth, index_of, remove_named}
 
 -- the first of that name, replaced
 abbrev pub set_named : {A : Type 0} → List (Named A) → List ℕ → A → List (Named A)
@@ -77,19 +77,19 @@ pub set_found : {B : Type 0} (ss : List (Named B)) (name : List ℕ) (old : B) �
 set_found [] name old h = refl
 set_found (s ∷ ss) name old h = grind (arith, set_found ss name old)
 
--- the place among the keys
-pub placed : {A B : Type 0} (es : List (String A × B)) (name : List ℕ) → position (λ k. bytes_eq name (string_bytes k)) (keys_of es) ≡ place_of (named_of es) name
+-- the index among the keys
+pub indexed : {A B : Type 0} (es : List (String A × B)) (name : List ℕ) → position (λ k. bytes_eq name (string_bytes k)) (keys_of es) ≡ index_of (named_of es) name
 unfolding same_name
-placed [] name = refl
-placed (e ∷ es) name = first (λ k. bytes_eq name (string_bytes k)) e.0 (keys_of es) _ refl ∙ ap (λ q. if bytes_eq name (string_bytes e.0) then Some 0 else option_map suc q) (placed es name)
+indexed [] name = refl
+indexed (e ∷ es) name = first (λ k. bytes_eq name (string_bytes k)) e.0 (keys_of es) _ refl ∙ ap (λ q. if bytes_eq name (string_bytes e.0) then Some 0 else option_map suc q) (indexed es name)
 
--- the thing at a place, changed
-pub written_at : {A B : Type 0} (f : B → B) (es : List (String A × B)) (i : ℕ) (old : B) → slice_get (values_of es) i ≡ Some old → named_of (set_value_at es i (f old)) ≡ change_placed f i (named_of es)
+-- the thing at an index, changed
+pub written_at : {A B : Type 0} (f : B → B) (es : List (String A × B)) (i : ℕ) (old : B) → slice_get (values_of es) i ≡ Some old → named_of (set_value_at es i (f old)) ≡ change_nth f i (named_of es)
 written_at f [] i old h = refl
 written_at f (e ∷ es) zero old h = let same : old ≡ e.1 = cc in λ i. record { name = string_bytes e.0; item = f (same i) } ∷ named_of es
 written_at f (e ∷ es) (suc i) old h = ap (λ ss. record { name = string_bytes e.0; item = e.1 } ∷ ss) (written_at f es i old h)
 
--- the thing at a place, by the map's values
+-- the thing at an index, by the map's values
 pub value_at : {A B : Type 0} (es : List (String A × B)) (i : ℕ) → slice_get (values_of es) i ≡ option_map (λ s. s.item) (slice_get (named_of es) i)
 value_at [] i = refl
 value_at (e ∷ es) zero = refl

@@ -1,4 +1,4 @@
--- The place of the first that passes a test.
+-- The index of the first that passes a test.
 use Rattle.std.proofs.Common.{◌≡◌, suc, Bool, true, false, List, ◌∷◌, length, ltb, refl, arith}
 use Rattle.std.specs.Prelude.{Some, option_map, if◌then◌else◌}
 use Rattle.std.specs.List.{position, position_or_len}

@@ -2,8 +2,8 @@
 use Rattle.std.specs.Prelude.{ℕ}
 use Rattle.cql_value.specs.declared.clock.ClockError.{ClockError}
 use Rattle.cql_value.specs.declared.clock.ClockError.TheVariants as clock
-use Rattle.cql_value.specs.declared.refusal.StreamRefusal.{StreamRefusal}
-use Rattle.cql_value.specs.declared.refusal.StreamRefusal.TheVariants.{StreamExists, BadName, BadColumns, TooManyStreams, UnknownStream, UnknownTenant, AlreadyGranted, SelfGrant, BadGrantColumns, NotGranted, WrongRow, Late, AtTooLarge}
+use Rattle.cql_value.specs.declared.stream_refusal.StreamRefusal.{StreamRefusal}
+use Rattle.cql_value.specs.declared.stream_refusal.StreamRefusal.TheVariants.{StreamExists, BadName, BadColumns, TooManyStreams, UnknownStream, UnknownTenant, AlreadyGranted, SelfGrant, BadGrantColumns, NotGranted, WrongRow, Late, AtTooLarge}
 
 abbrev pub number_of : StreamRefusal → ℕ
 number_of StreamExists = 20

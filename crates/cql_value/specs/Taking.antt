@@ -3,8 +3,8 @@ use Rattle.std.specs.Prelude.{ℕ, List, Option, Some, None, option_map, if◌th
 use Rattle.cql_value.specs.declared.value.Value.{Value}
 use Rattle.cql_value.specs.Schema.{is_row_of}
 use Rattle.cql_value.specs.Clock.{time_fault}
-use Rattle.cql_value.specs.declared.refusal.StreamRefusal.{StreamRefusal}
-use Rattle.cql_value.specs.declared.refusal.StreamRefusal.TheVariants.{UnknownStream, WrongRow}
+use Rattle.cql_value.specs.declared.stream_refusal.StreamRefusal.{StreamRefusal}
+use Rattle.cql_value.specs.declared.stream_refusal.StreamRefusal.TheVariants.{UnknownStream, WrongRow}
 use Rattle.cql_value.specs.declared.stream.Stream.{Stream}
 use Rattle.cql_value.specs.Refusal.{clock_refusal}
 

@@ -5,9 +5,9 @@ ghost use Rattle.cql_value.specs.Clock.{time_fault};
 ghost use Rattle.cql_value.specs.Taking.{row_refused, time_refused, opens};
 
 use crate::clock::Clock;
-use crate::refusal::StreamRefusal;
 use crate::row::Row;
 use crate::schema::Schema;
+use crate::stream_refusal::StreamRefusal;
 
 /// A stream: its columns, and its clock.
 pub struct Stream {

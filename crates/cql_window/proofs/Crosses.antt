@@ -2,7 +2,7 @@
 use denote.Param.Send.{IsSend, IsSync, sendable}
 use Rattle.cql_chunks.proofs.Crosses.{chunks_send, chunks_sync}
 use Rattle.cql_window.proofs.window.Window.TheSendSync as window
-use Rattle.cql_window.specs.contracts.pin.WindowPin as window_pin
+use Rattle.cql_window.specs.contracts.window_pin.WindowPin as window_pin
 
 pub window_pin_send : IsSend window_pin.the_row
 window_pin_send = search (sendable, window.the_send, window.the_field_send, chunks_send) depth 20

@@ -4,7 +4,7 @@ use Rattle.cql_value.specs.Element.{Element}
 use Rattle.cql_value.specs.declared.value.Value.TheVariants.{Number}
 use Rattle.cql_window.specs.declared.window.Window.TheVariants.{Range, Rows, All as all, Parts}
 use Rattle.cql_window.specs.Window.{AreAscending, content, last_of_parts, same_part}
-use Rattle.cql_window.specs.Laws.{IsLastMultiple, IsRangeLaw, IsRowsLaw, IsAllLaw, IsPartsLaw, IsHeldLaw, PlacesLaw}
+use Rattle.cql_window.specs.Laws.{IsLastMultiple, IsRangeLaw, IsRowsLaw, IsAllLaw, IsPartsLaw, IsHeldLaw, BoundsLaw}
 use Rattle.cql_window.specs.Coming.{AreNewestOf, IsComingLaw}
 
 -- an element of one part
@@ -40,8 +40,8 @@ parts_law_at law = law (0 ∷ []) 1 7 came ascend (Number (pos 1) ∷ [])
 held_law_at : IsHeldLaw → content (Range 2 3) 8 [] came ≡ of 2 4 ∷ of 1 6 ∷ []
 held_law_at law = law (Range 2 3) 7 came ascend 6 last_multiple
 
-places_law_at : PlacesLaw (Range 2 3) [] came → content (Range 2 3) 8 [] came ≡ of 2 4 ∷ of 1 6 ∷ []
-places_law_at law = law.content 8 tt ascend
+bounds_law_at : BoundsLaw (Range 2 3) [] came → content (Range 2 3) 8 [] came ≡ of 2 4 ∷ of 1 6 ∷ []
+bounds_law_at law = law.content 8 tt ascend
 
 newest : AreNewestOf (0 ∷ []) 1 (of 2 4 ∷ of 1 6 ∷ [])
 newest = refl

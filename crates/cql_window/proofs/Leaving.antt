@@ -1,19 +1,26 @@
 -- Elements come into a range and leave it in the order of their times.
 use Rattle.std.proofs.Common.{◌≡◌, ℕ, zero, suc, ◌+◌, ◌*◌, ◌/◌, ◌^◌, ◌≤◌, ◌<◌, List, [], ◌∷◌, ◌++◌, map, Bool, true, false, cond, nat_lt, nat_le, refl, sym, ap, ◌∙◌, arith}
-use Rattle.std.specs.List.{AllByRecursion, filter, take_while}
+use Rattle.std.specs.List.{AllByRecursion, filter}
 use Rattle.std.proofs.lemmas.Bool.Decides.{nat_tests}
-use Rattle.std.proofs.lemmas.List.Sums.{take_while-cons}
+use Rattle.std.proofs.lemmas.List.{map-append}
+use Rattle.std.proofs.lemmas.List.Elements.{filter-append}
 use Rattle.cql_value.specs.Element.{Element}
 use Rattle.cql_window.specs.Window.{AreAscending, end_of}
-use Rattle.cql_window.specs.Changes.{cap, came, gone, is_within}
+use Rattle.cql_window.specs.Changes.{cap, came, gone, moments, is_within}
+use Rattle.cql_window.specs.Moments.{instant_of}
+use Rattle.cql_window.specs.declared.window.Window.{Window}
+use Rattle.cql_window.specs.declared.window.Window.TheVariants.{Range}
+use Rattle.cql_window.specs.declared.instants.Moment.{Moment}
+use Rattle.cql_window.specs.declared.instants.Moment.TheVariants.{Time, Coming, Leaving}
 use Rattle.cql_window.proofs.Ends.{floor_mono}
+use Rattle.cql_window.proofs.Moments.{each_front}
 use Rattle.cql_window.proofs.Multiples.{seen_from}
 
 -- what an element doesn't do before an instant, no later one does
 abbrev pub InOrder : ℕ → (Element → ℕ) → Type 0
 InOrder to f = (x y : Element) → x.at ≤ y.at → nat_lt (f x) to ≡ false → nat_lt (f y) to ≡ false
 
-pub gone_in_order : (len s to : ℕ) → InOrder to (gone len s)
+gone_in_order : (len s to : ℕ) → InOrder to (gone len s)
 gone_in_order len s to = λ x y le past.
     let reach : cap (x.at + len) ≤ cap (y.at + len) = omega (arith, le) in
     let up : cap (x.at + len) / s * s ≤ cap (y.at + len) / s * s = floor_mono s (cap (x.at + len)) (cap (y.at + len)) reach in
@@ -30,7 +37,7 @@ came_before s to x pos bound = by_test (nat_le x.at (x.at / s * s)) ∙ sym (see
 came_at_once : (x : Element) → came 0 x ≡ 0
 came_at_once x = grind (arith, nat_tests)
 
-pub came_in_order : (s to : ℕ) → to < 2 ^ 64 → InOrder to (came s)
+came_in_order : (s to : ℕ) → to < 2 ^ 64 → InOrder to (came s)
 came_in_order zero to bound = λ x y le past. ap (λ n. nat_lt n to) (came_at_once y ∙ sym (came_at_once x)) ∙ past
 came_in_order (suc s) to bound = λ x y le past.
     let pos : 0 < suc s = omega arith in
@@ -44,22 +51,23 @@ none_later from to f x (y ∷ ys) ordered past after =
     let out : nat_lt (f y) to ≡ false = ordered x y after.0 past in
     grind (arith, out, none_later from to f x ys ordered past after.1)
 
--- so those before an end are found at the front
-pub front_within : (from to : ℕ) (f : Element → ℕ) (xs : List Element) → InOrder to f → AreAscending xs → filter (nat_le from) (take_while (λ t. nat_lt t to) (map f xs)) ≡ filter (is_within from to) (map f xs)
-front_within from to f [] ordered ascending = refl
-front_within from to f (x ∷ xs) ordered ascending =
-    ap (filter (nat_le from)) (take_while-cons (λ t. nat_lt t to) (f x) (map f xs)) ∙ by_test (front_within from to f xs ordered ascending.1) (nat_lt (f x) to) refl
-  where
-    front : List ℕ
-    front = take_while (λ t. nat_lt t to) (map f xs)
+pub in_order : (m : Moment) (to : ℕ) → to < 2 ^ 64 → InOrder to (instant_of m)
+in_order Time to bound = λ x y le past. grind (arith, nat_tests, le, past)
+in_order (Coming slide) to bound = came_in_order slide to bound
+in_order (Leaving len slide) to bound = gone_in_order len slide to
 
-    within : List ℕ
-    within = filter (is_within from to) (map f xs)
+-- so behind one at an end or later none is before it
+pub none_from : (from to : ℕ) (f : Element → ℕ) (x : Element) (xs : List Element) → InOrder to f → nat_lt (f x) to ≡ false → AreAscending (x ∷ xs) → filter (is_within from to) (map f (x ∷ xs)) ≡ []
+none_from from to f x xs ordered past ascending = grind (arith, past, none_later from to f x xs ordered past ascending.0)
 
-    by_test : filter (nat_le from) front ≡ within → (b : Bool) → nat_lt (f x) to ≡ b → filter (nat_le from) (cond b (f x ∷ front) []) ≡ cond (is_within from to (f x)) (f x ∷ within) within
-    by_test rest true is = grind (arith, is, rest)
-    by_test rest false is = grind (arith, is, none_later from to f x xs ordered is ascending.0)
+pub ascending_front : (xs ys : List Element) → AreAscending (xs ++ ys) → AreAscending xs
+ascending_front [] ys ascending = tt
+ascending_front (x ∷ xs) ys ascending = (each_front (λ y. x.at ≤ y.at) xs ys ascending.0, ascending_front xs ys ascending.1)
 
 pub ascending_back : (xs ys : List Element) → AreAscending (xs ++ ys) → AreAscending ys
 ascending_back [] ys ascending = ascending
 ascending_back (x ∷ xs) ys ascending = ascending_back xs ys ascending.1
+
+-- of a range those that leave and then those that come
+pub range_found : (from to len s : ℕ) (settled xs : List Element) (w : Window) (m : Moment) (none first left all : List ℕ) → w ≡ Range len s → m ≡ Coming s → none ≡ [] → first ≡ none ++ filter (is_within from to) (map (gone len s) settled) → left ≡ first ++ filter (is_within from to) (map (gone len s) xs) → all ≡ left ++ filter (is_within from to) (map (instant_of m) xs) → all ≡ filter (is_within from to) (moments w settled xs)
+range_found from to len s settled xs w m none first left all w_is m_is none_is first_is left_is all_is = grind (arith, filter-append, map-append)

@@ -10,11 +10,11 @@ use Rattle.cql_window.specs.Pin.{Pinned}
 abbrev pub rows_of : Pinned → List Element
 rows_of p = p.content ++ p.unseen
 
--- those between two places
+-- those between two indices
 abbrev pub rows_in : Span → List Element → List Element
 rows_in s xs = between s.from s.to xs
 
--- both places are among them
+-- both indices are among them
 abbrev pub IsWithin : Span → List Element → Type 0
 IsWithin s xs = (s.from ≤ s.to) × (s.to ≤ length xs)
 

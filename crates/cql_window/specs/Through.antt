@@ -1,26 +1,26 @@
--- Windows through places: what a store keeps are whole rows, and what a tenant sees are the values at its places.
+-- Windows through projections: what a store keeps are whole rows, and what a tenant sees are the values in its columns.
 use Rattle.std.specs.Prelude.{ℕ, List, map, length}
 use Rattle.cql_value.specs.Element.{Element}
 use Rattle.cql_window.specs.declared.window.Window.{Window}
 use Rattle.cql_window.specs.declared.window.Window.TheVariants.{Range, Rows, All as all, Parts}
 use Rattle.cql_window.specs.Pin.{Pinned}
 use Rattle.cql_window.specs.Window.{content}
-use Rattle.cql_window.specs.RowPlaces.{at_places, AreWithin}
+use Rattle.cql_window.specs.Projection.{projected, AreWithin}
 
--- an element with the values at the places
+-- an element with the values in a projection's columns
 abbrev pub narrowed : List ℕ → Element → Element
-narrowed places x = record x { row = at_places x.row places }
+narrowed projection x = record x { row = projected x.row projection }
 
--- elements with the values at the places
+-- elements with the values in a projection's columns
 abbrev pub narrowed_all : List ℕ → List Element → List Element
-narrowed_all places xs = map (narrowed places) xs
+narrowed_all projection xs = map (narrowed projection) xs
 
--- a window over the columns at the places, as one over the whole row: the columns by which it parts are places there
+-- a window over a projection's columns, as one over the whole row: the columns by which it parts are the whole row's
 abbrev pub wide_window : List ℕ → Window → Window
-wide_window places (Range len slide) = Range len slide
-wide_window places (Rows count slide) = Rows count slide
-wide_window places all = all
-wide_window places (Parts columns count) = Parts (at_places places columns) count
+wide_window projection (Range len slide) = Range len slide
+wide_window projection (Rows count slide) = Rows count slide
+wide_window projection all = all
+wide_window projection (Parts columns count) = Parts (projected projection columns) count
 
 -- the columns by which a window parts are among so many
 abbrev pub PartsWithin : Window → ℕ → Type 0
@@ -29,14 +29,10 @@ PartsWithin (Rows count slide) many = Unit {0}
 PartsWithin all many = Unit {0}
 PartsWithin (Parts columns count) many = AreWithin columns many
 
--- the element has a value at each place
-abbrev pub HasPlaces : List ℕ → Element → Type 0
-HasPlaces places x = AreWithin places (length x.row)
+-- the element has a value in each column of a projection
+abbrev pub HasProjection : List ℕ → Element → Type 0
+HasProjection projection x = AreWithin projection (length x.row)
 
--- what a pinned window of whole rows holds at a cursor, through the places
-abbrev pub content_through : List ℕ → Pinned → ℕ → List Element
-content_through places p c = narrowed_all places (content p.window c p.content p.unseen)
-
--- the pin of the values at the places, for a window over these
+-- the pin of the values in a projection's columns, for a window over these
 abbrev pub narrow_pinned : List ℕ → Window → Pinned → Pinned
-narrow_pinned places w p = record { window = w; content = narrowed_all places p.content; unseen = narrowed_all places p.unseen }
+narrow_pinned projection w p = record { window = w; content = narrowed_all projection p.content; unseen = narrowed_all projection p.unseen }

@@ -1,19 +1,19 @@
 // The columns of a stream that a grant shows.
-ghost use Rattle.std.specs.Prelude.{◌≡◌, true, IfOk, is_some, map, unwrap_or, option_copied};
+ghost use Rattle.std.specs.Prelude.{◌≡◌, true, IfOk, Some, is_some, map, unwrap_or, option_copied};
 ghost use Rattle.std.specs.List.{list_all, list_any};
 ghost use Rattle.std.specs.Str.{bytes_eq};
 ghost use Rattle.cql_value.specs.Schema.{is_schema};
-ghost use Rattle.cql_window.specs.RowPlaces.{at_places};
-ghost use Rattle.cql_window.specs.Chosen.{column_place, are_unlike, is_choice, is_shown, shown_places};
+ghost use Rattle.cql_window.specs.Projection.{projected};
+ghost use Rattle.cql_window.specs.Chosen.{column_index, are_unlike, is_shown, shown_projection};
 
 use crate::copies::copies_at;
-use crate::places::all_places;
+use crate::projection::whole_projection;
 use cql_value::{Column, Items, Schema, Text};
 use sqlite_items::at;
 use std::alloc::{AllocError, Global};
 
-fn column_place(columns: &[Column], name: &Text) -> Option<usize>
-    ensures { result ≡ column_place columns.now name.now }
+fn column_index(columns: &[Column], name: &Text) -> Option<usize>
+    ensures { result ≡ column_index columns.now name.now }
 {
     columns
         .iter()
@@ -43,15 +43,15 @@ fn are_unlike(names: &[Text]) -> bool
 
 // Whether each name is a column's.
 fn are_known(columns: &[Column], names: &[Text]) -> bool
-    ensures { result ≡ list_all (λ name. is_some (column_place columns.now name)) names.now }
+    ensures { result ≡ list_all (λ name. is_some (column_index columns.now name)) names.now }
 {
     names
         .iter()
-        .all(|name| column_place(columns, name).is_some())
+        .all(|name| column_index(columns, name).is_some())
 }
 
 fn is_choice(columns: &[Column], names: &[Text]) -> bool
-    ensures { result ≡ is_choice columns.now names.now }
+    ensures { result ≡ is_shown columns.now (Some names.now) }
 {
     1 <= names.len() && names.len() <= 16 && are_known(columns, names) && are_unlike(names)
 }
@@ -67,41 +67,41 @@ pub fn is_shown(schema: &Schema, names: Option<&Items<Text>>) -> bool
     }
 }
 
-// The places of the columns of these names.
-fn places_named(
+// The indices of the columns of these names.
+fn named_projection(
     alloc: Global,
     columns: &[Column],
     names: &[Text],
 ) -> Result<Items<usize>, AllocError>
-    ensures { IfOk result (λ places. places ≡ map (λ name. unwrap_or (column_place columns.now name) 0) names.now) }
+    ensures { IfOk result (λ projection. projection ≡ map (λ name. unwrap_or (column_index columns.now name) 0) names.now) }
 {
-    let mut places = Items::new(alloc);
+    let mut projection = Items::new(alloc);
     for name in names {
-        places.push(column_place(columns, name).unwrap_or(0))?;
+        projection.push(column_index(columns, name).unwrap_or(0))?;
     }
-    Ok(places)
+    Ok(projection)
 }
 
-/// The places of the columns that a grant shows.
-pub fn shown_places(
+/// The indices of the columns that a grant shows.
+pub fn shown_projection(
     alloc: Global,
     schema: &Schema,
     names: Option<&Items<Text>>,
 ) -> Result<Items<usize>, AllocError>
-    ensures { IfOk result (λ places. places ≡ shown_places schema.now (option_copied names.entry)) }
+    ensures { IfOk result (λ projection. projection ≡ shown_projection schema.now (option_copied names.entry)) }
 {
     match names {
-        None => Items::from_slice(alloc, all_places(schema)),
-        Some(names) => places_named(alloc, schema.columns(), names.as_slice()),
+        None => Items::from_slice(alloc, whole_projection(schema)),
+        Some(names) => named_projection(alloc, schema.columns(), names.as_slice()),
     }
 }
 
-/// The schema of the columns at the places.
-pub fn schema_at(alloc: Global, schema: &Schema, places: &[usize]) -> Result<Schema, AllocError>
-    requires { is_schema (at_places schema.now places.now) ≡ true }
-    ensures { IfOk result (λ shown. shown ≡ at_places schema.now places.now) }
+/// The schema of the projection's columns.
+pub fn schema_at(alloc: Global, schema: &Schema, projection: &[usize]) -> Result<Schema, AllocError>
+    requires { is_schema (projected schema.now projection.now) ≡ true }
+    ensures { IfOk result (λ shown. shown ≡ projected schema.now projection.now) }
 {
-    let columns = copies_at(alloc, schema.columns(), places)?;
+    let columns = copies_at(alloc, schema.columns(), projection)?;
     let shown = Schema::new(columns);
     Ok(shown.unwrap())
 }

@@ -1,7 +1,7 @@
-// Copies of what stands at places.
+// Copies of what stands in the columns of a projection.
 ghost use Rattle.std.specs.Prelude.{◌≡◌, ◌++◌, [], IfOk, OnOk, option_copied};
 ghost use Rattle.std.specs.List.{cons_option};
-ghost use Rattle.cql_window.specs.RowPlaces.{at_places};
+ghost use Rattle.cql_window.specs.Projection.{projected};
 
 use cql_value::TryClone;
 use sqlite_items::at;
@@ -24,17 +24,17 @@ fn push_copy<T: TryClone>(
     }
 }
 
-/// Copies of the values at the places.
+/// Copies of the values in the projection's columns.
 pub fn copies_at<T: TryClone>(
     alloc: Global,
     values: &[T],
-    places: &[usize],
+    projection: &[usize],
 ) -> Result<Vec<T>, AllocError>
-    ensures { IfOk result (λ copies. copies.items ≡ at_places values.now places.now) }
+    ensures { IfOk result (λ copies. copies.items ≡ projected values.now projection.now) }
 {
-    let mut copies = Vec::with_capacity(alloc, places.len())?;
-    for place in places {
-        push_copy(alloc, &mut copies, at(values, *place))?;
+    let mut copies = Vec::with_capacity(alloc, projection.len())?;
+    for column in projection {
+        push_copy(alloc, &mut copies, at(values, *column))?;
     }
     Ok(copies)
 }

@@ -1,21 +1,21 @@
-// Rows of a pin between two places, of which none is copied.
+// Rows of a pin between two indices, of which none is copied.
 ghost use Rattle.std.specs.Prelude.{◌≡◌, ◌++◌};
 ghost use Rattle.std.specs.Iterator.{YieldsFirstRef, item_count};
 ghost use Rattle.cql_window.specs.Span.{rows_of, rows_in, IsWithin};
 
-use crate::pin::WindowPin;
-use crate::place::segment;
+use crate::bounds::segment;
+use crate::window_pin::WindowPin;
 use cql_chunks::Stretch;
 use cql_value::Timed;
 use std::marker::Model;
 
-/// The rows from one place on and before another, where a place counts the content of a pin and then
+/// The rows from one index on and before another; an index counts the content of a pin and then
 /// its unseen rows.
 #[derive(Clone, Copy)]
 pub struct Span {
-    /// The first row's place.
+    /// The first row's index.
     pub from: usize,
-    /// The place behind the last.
+    /// The index behind the last.
     pub to: usize,
 }
 
@@ -39,7 +39,7 @@ pub struct Moved {
     pub gone: Vec<Timed>,
 }
 
-/// Some rows, one after another: those of a list, and then those between two places of a pin.
+/// Some rows, one after another: those of a list, and then those between two indices of a pin.
 pub struct Part<'a> {
     near: &'a [Timed],
     first: Stretch<'a>,
@@ -66,7 +66,7 @@ impl<'a> Model for Part<'a> {
 }
 
 impl<'a> Part<'a> {
-    /// A list's rows, and then those between two places of a pin.
+    /// A list's rows, and then those between two indices of a pin.
     pub(crate) fn new(near: &'a [Timed], pin: &'a WindowPin, span: Span) -> Part<'a>
         requires { IsWithin span (rows_of pin.now) }
         ensures { result ≡ near.now ++ rows_in span (rows_of pin.now) }

@@ -1,68 +1,72 @@
-// Rows and windows through places.
+// Rows and windows through projections.
 ghost use Rattle.std.specs.Prelude.{◌≡◌, ◌++◌, [], IfOk, OnOk, option_copied};
 ghost use Rattle.std.specs.List.{cons_option};
-ghost use Rattle.cql_window.specs.RowPlaces.{at_places};
+ghost use Rattle.cql_window.specs.Projection.{projected};
 ghost use Rattle.cql_window.specs.Through.{narrowed, wide_window};
 
 use crate::copies::copies_at;
-use crate::places::are_all;
+use crate::projection::takes_all;
 use crate::window::Window;
 use cql_value::{Items, Row, Timed};
 use sqlite_items::at;
 use std::alloc::{AllocError, Global};
 
-/// The row of the values at the places. Where these are all of the row, it is the same row with
+/// The row of the values in the projection's columns. Where these are all, it is the same row with
 /// one more holder, and nothing is copied.
-pub fn row_at(alloc: Global, row: &Row, places: &[usize]) -> Result<Row, AllocError>
-    ensures { IfOk result (λ r. r ≡ at_places row.now places.now) }
+pub fn row_at(alloc: Global, row: &Row, projection: &[usize]) -> Result<Row, AllocError>
+    ensures { IfOk result (λ r. r ≡ projected row.now projection.now) }
 {
-    if are_all(places, row.len()) {
+    if takes_all(projection, row.len()) {
         return row.share();
     }
-    let values = copies_at(alloc, row.values(), places)?;
+    let values = copies_at(alloc, row.values(), projection)?;
     Row::new(alloc, values)
 }
 
-/// The element with the values at the places, by `row_at`.
-pub fn timed_at(alloc: Global, timed: &Timed, places: &[usize]) -> Result<Timed, AllocError>
-    ensures { IfOk result (λ t. t ≡ narrowed places.now timed.now) }
+/// The element with the values in the projection's columns, by `row_at`.
+pub fn timed_at(alloc: Global, timed: &Timed, projection: &[usize]) -> Result<Timed, AllocError>
+    ensures { IfOk result (λ t. t ≡ narrowed projection.now timed.now) }
 {
-    let row = row_at(alloc, timed.row(), places)?;
+    let row = row_at(alloc, timed.row(), projection)?;
     Ok(Timed::new(timed.at(), row))
 }
 
-// A place, if there is one, goes behind the others.
-fn push_place(wide: &mut Items<usize>, place: Option<&usize>) -> Result<(), AllocError>
-    ensures { OnOk result (wide.new ≡ wide.old ++ cons_option (option_copied place.entry) []) }
+// A column, if there is one, goes behind the others.
+fn push_column(wide: &mut Items<usize>, column: Option<&usize>) -> Result<(), AllocError>
+    ensures { OnOk result (wide.new ≡ wide.old ++ cons_option (option_copied column.entry) []) }
 {
-    match place {
+    match column {
         None => Ok(()),
-        Some(place) => wide.push(*place),
+        Some(column) => wide.push(*column),
     }
 }
 
-// What stands at the columns' places.
+// Where columns of the projection stand in the whole row.
 fn wide_columns(
     alloc: Global,
-    places: &[usize],
+    projection: &[usize],
     columns: &[usize],
 ) -> Result<Items<usize>, AllocError>
-    ensures { IfOk result (λ wide. wide ≡ at_places places.now columns.now) }
+    ensures { IfOk result (λ wide. wide ≡ projected projection.now columns.now) }
 {
     let mut wide = Items::new(alloc);
     for column in columns {
-        push_place(&mut wide, at(places, *column))?;
+        push_column(&mut wide, at(projection, *column))?;
     }
     Ok(wide)
 }
 
-/// A window over the columns at the places, as one over the whole row. Only parts take memory.
-pub fn wide_window(alloc: Global, places: &[usize], window: Window) -> Result<Window, AllocError>
-    ensures { IfOk result (λ wide. wide ≡ wide_window places.now window) }
+/// A window over the projection's columns, as one over the whole row. Only parts take memory.
+pub fn wide_window(
+    alloc: Global,
+    projection: &[usize],
+    window: Window,
+) -> Result<Window, AllocError>
+    ensures { IfOk result (λ wide. wide ≡ wide_window projection.now window) }
 {
     match window {
         Window::Parts { columns, count } => Ok(Window::Parts {
-            columns: wide_columns(alloc, places, columns.as_slice())?,
+            columns: wide_columns(alloc, projection, columns.as_slice())?,
             count,
         }),
         other => Ok(other),

@@ -6,20 +6,20 @@ ghost use Rattle.cql_value.specs.Element.{Element};
 ghost use Rattle.cql_window.specs.declared.window.Window.TheVariants.{Parts};
 ghost use Rattle.cql_window.specs.Laws.{between};
 ghost use Rattle.cql_window.specs.Pin.{HasColumns, IsPinned};
-ghost use Rattle.cql_window.specs.Places.{AreUpTo};
+ghost use Rattle.cql_window.specs.Bounds.{AreUpTo};
 ghost use Rattle.cql_window.specs.Queues.{AreQueued};
 ghost use Rattle.cql_window.specs.Span.{rows_of, rows_in, rows_left, IsWithin};
 ghost use Rattle.cql_window.specs.Window.{content, last_of_parts};
 ghost use Rattle.cql_window.specs.Walk.{IsExchange};
 
 use crate::amount::Count;
-use crate::pin::WindowPin;
-use crate::place::{Places, segment};
+use crate::bounds::{Bounds, segment};
 use crate::queues::Queues;
 use crate::span::{Moved, Part, Span};
 use crate::window::Window;
-use cql_chunks::{Stretch, are_joined_same};
-use cql_value::{Same, Timed};
+use crate::window_pin::WindowPin;
+use cql_chunks::{Stretch, are_joined_equal};
+use cql_value::{Equals, Timed};
 use std::alloc::{AllocError, Global};
 use std::marker::Model;
 
@@ -27,7 +27,7 @@ use std::marker::Model;
 pub struct Walk<'a> {
     pin: &'a WindowPin,
     cursor: u64,
-    places: Places,
+    bounds: Bounds,
     queues: Queues,
 }
 
@@ -36,7 +36,7 @@ impl<'a> Drop for Walk<'a> {
         let Walk {
             pin: _,
             cursor: _,
-            places: _,
+            bounds: _,
             queues: _,
         } = self;
     }
@@ -45,13 +45,13 @@ impl<'a> Drop for Walk<'a> {
 impl<'a> Model for Walk<'a> {
     ghost use Rattle.std.specs.Prelude.{◌++◌};
     ghost use Rattle.cql_window.specs.Walk.{Walked};
-    ghost use Rattle.cql_window.specs.Places.{held_between, IsReached};
+    ghost use Rattle.cql_window.specs.Bounds.{held_between, IsReached};
 
     ghost Value = { Walked };
 
-    ghost view = { λ w. record { pin = w.pin.now; cursor = w.cursor; held = held_between w.pin.now.window w.places (w.pin.now.content ++ w.pin.now.unseen) } };
+    ghost view = { λ w. record { pin = w.pin.now; cursor = w.cursor; held = held_between w.pin.now.window w.bounds (w.pin.now.content ++ w.pin.now.unseen) } };
 
-    ghost invariant = { λ w. IsReached w.pin.now w.cursor w.places w.queues };
+    ghost invariant = { λ w. IsReached w.pin.now w.cursor w.bounds w.queues };
 }
 
 impl<'a> Walk<'a> {
@@ -62,7 +62,7 @@ impl<'a> Walk<'a> {
         Walk {
             pin,
             cursor: 0,
-            places: Places::start(),
+            bounds: Bounds::start(),
             queues: Queues::new(alloc),
         }
     }
@@ -83,7 +83,7 @@ impl<'a> Walk<'a> {
         let Walk {
             pin,
             cursor: _,
-            places: from,
+            bounds: from,
             mut queues,
         } = self;
         let to = from.at(pin, cursor);
@@ -97,7 +97,7 @@ impl<'a> Walk<'a> {
         let walk = Walk {
             pin,
             cursor,
-            places: to,
+            bounds: to,
             queues,
         };
         Ok((walk, moved))
@@ -111,26 +111,8 @@ impl<'a> Walk<'a> {
         ensures cursor { IfOk result (λ r. r.cursor ≡ cursor) }
         ensures held { IfOk result (λ r. r.held ≡ content self.entry.pin.window cursor self.entry.pin.content self.entry.pin.unseen) }
     {
-        let Walk {
-            pin,
-            cursor: _,
-            places: from,
-            mut queues,
-        } = self;
-        let to = from.at(pin, cursor);
-        match pin.window() {
-            Window::Parts { columns, count } => {
-                let columns = columns.as_slice();
-                let _moved = come(alloc, pin, columns, *count, &mut queues, from.high, to.high)?;
-            }
-            _ => {}
-        };
-        Ok(Walk {
-            pin,
-            cursor,
-            places: to,
-            queues,
-        })
+        let (walk, _) = self.advance(alloc, cursor)?;
+        Ok(walk)
     }
 
     // What the window holds where it has no parts, as one part of the rows and the next.
@@ -142,8 +124,8 @@ impl<'a> Walk<'a> {
             _ => Some(segment(
                 self.pin.content(),
                 self.pin.unseen(),
-                self.places.low,
-                self.places.high,
+                self.bounds.low,
+                self.bounds.high,
             )),
         }
     }
@@ -154,7 +136,7 @@ impl<'a> Walk<'a> {
         ensures { IsTrue result → self.now.held ≡ other.now.held }
     {
         match (self.parts_held(), other.parts_held()) {
-            (Some(held), Some(others)) => are_joined_same(held, others),
+            (Some(held), Some(others)) => are_joined_equal(held, others),
             _ => false,
         }
     }
@@ -163,12 +145,16 @@ impl<'a> Walk<'a> {
     /// no of windows with parts.
     pub fn seems_same(&self, other: &Walk<'_>) -> bool {
         match (self.parts_held(), other.parts_held()) {
-            (Some(held), Some(others)) => begin_alike(held, others),
+            (Some(held), Some(others)) => {
+                let (count, row) = beginning(held);
+                let (many, another) = beginning(others);
+                count == many && are_alike(row, another)
+            }
             _ => false,
         }
     }
 
-    /// A list's rows, and then those between two places of the pin. None is copied.
+    /// A list's rows, and then those between two indices of the pin. None is copied.
     pub fn rows<'b>(&'b self, near: &'b [Timed], span: Span) -> Part<'b>
         requires { IsWithin span (rows_of self.now.pin) }
         ensures { result ≡ near.now ++ rows_in span (rows_of self.now.pin) }
@@ -183,42 +169,30 @@ impl<'a> Walk<'a> {
     {
         match self.pin.window() {
             Window::Parts { .. } => self.queues.rows(alloc),
-            _ => rows_between(alloc, self.pin, self.places.low, self.places.high),
+            _ => rows_between(alloc, self.pin, self.bounds.low, self.bounds.high),
         }
     }
 }
 
-// How many rows both have.
-fn count_of(first: &Stretch<'_>, second: &Stretch<'_>) -> u128 {
-    first.len() as u128 + second.len() as u128
+// How many rows two stretches have, and the first of them.
+fn beginning<'a>(held: (Stretch<'a>, Stretch<'a>)) -> (u128, Option<&'a Timed>) {
+    let (mut first, mut second) = held;
+    let count = first.len() as u128 + second.len() as u128;
+    match first.next() {
+        Some(row) => (count, Some(row)),
+        None => (count, second.next()),
+    }
 }
 
-// Whether two stretches after one another have as many rows as two others, and the same first one.
-fn begin_alike<'a, 'b>(one: (Stretch<'a>, Stretch<'a>), other: (Stretch<'b>, Stretch<'b>)) -> bool {
-    let (mut first, mut second) = one;
-    let (mut third, mut fourth) = other;
-    if count_of(&first, &second) != count_of(&third, &fourth) {
-        return false;
-    }
-    let row = first.next().or_else(|| second.next());
-    let another = third.next().or_else(|| fourth.next());
+// Whether both are the same row, where both are there.
+fn are_alike(row: Option<&Timed>, another: Option<&Timed>) -> bool {
     match (row, another) {
-        (Some(row), Some(another)) => row.is_same(another),
+        (Some(row), Some(another)) => row.is_equal(another),
         _ => true,
     }
 }
 
-// Copies of more rows come behind others. They are shared.
-fn push_copies(rows: &mut Vec<Timed>, more: Stretch<'_>) -> Result<(), AllocError>
-    ensures { OnOk result (rows.new.items ≡ rows.old.items ++ more.entry) }
-{
-    for row in more {
-        rows.push(row.try_clone()?)?;
-    }
-    Ok(())
-}
-
-// The rows from one place to another. They are shared.
+// The rows from one index to another. They are shared.
 fn rows_between(
     alloc: Global,
     pin: &WindowPin,
@@ -230,15 +204,16 @@ fn rows_between(
     ensures rows { IfOk result (λ r. r.items ≡ between from to (pin.now.content ++ pin.now.unseen)) }
     ensures pinned { IsPinned pin.now }
 {
-    let (first, second) = segment(pin.content(), pin.unseen(), from, to);
+    let _ = pin.window();
     let mut rows = Vec::with_capacity(alloc, to - from)?;
-    push_copies(&mut rows, first)?;
-    push_copies(&mut rows, second)?;
+    for row in Part::new(&[], pin, Span { from, to }) {
+        rows.push(row.try_clone()?)?;
+    }
     Ok(rows)
 }
 
-// What comes and leaves where a window without parts goes from some places to later ones.
-fn slide(alloc: Global, _pin: &WindowPin, from: Places, to: Places) -> Moved
+// What comes and leaves where a window without parts goes from some bounds to later ones.
+fn slide(alloc: Global, _pin: &WindowPin, from: Bounds, to: Bounds) -> Moved
     requires rising { AreUpTo from to }
     requires order { from.low ≤ from.high }
     requires order_then { to.low ≤ to.high }
@@ -283,7 +258,7 @@ fn pushed_out(
     Ok(left)
 }
 
-// What comes and leaves where a window of parts goes from one place to another: its queues are then
+// What comes and leaves where a window of parts goes from one index to another: its queues are then
 // those of the rows that came.
 fn come(
     alloc: Global,

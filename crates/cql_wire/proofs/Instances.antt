@@ -6,8 +6,8 @@ use Rattle.cql_tenants.specs.declared.tenants.Tenant.{Tenant}
 use Rattle.cql_value.specs.Named.{same_name}
 use Rattle.cql_core.specs.declared.command.Command.{Command}
 use Rattle.cql_core.specs.declared.command.Command.TheVariants.{Stream}
-use Rattle.cql_core.specs.Told.{Done, no_memory}
-use Rattle.cql_wire.specs.Asked.{Asked}
+use Rattle.cql_core.specs.ReplyModel.{Done, no_memory}
+use Rattle.cql_wire.specs.Request.{Request}
 use Rattle.cql_wire.specs.Line.{told_line}
 use Rattle.cql_wire.specs.Output.{IsOutput, StandsIn, output_from, OutputLaw}
 
@@ -18,13 +18,13 @@ table = record { name = 97 ∷ []; key = 107 ∷ []; quotas = record { streams =
 abbrev make : Command
 make = Stream (115 ∷ []) (record { name = 118 ∷ []; kind = codes "int" } ∷ [])
 
-abbrev asked : List Asked
-asked = Ok (0, make) ∷ []
+abbrev request : List Request
+request = Ok (0, make) ∷ []
 
 abbrev written : List ℕ
 written = told_line Done
 
-is_output : IsOutput table [] asked written
+is_output : IsOutput table [] request written
 unfolding same_name words.is_reserved
 is_output = (written, [], (0, make) ∷ [], inl (refl, refl), refl, refl)
 
@@ -34,5 +34,5 @@ is_another stands =
     let (front, rest, is) = stands in
     omega (arith, ap length is ∙ length-append front (told_line no_memory ++ rest) ∙ ap (λ n. length front + n) (length-append (told_line no_memory) rest))
 
-output_law_at : OutputLaw → written ≡ output_from table [] asked
-output_law_at law = law.unique table [] asked written is_output is_another
+output_law_at : OutputLaw → written ≡ output_from table [] request
+output_law_at law = law.unique table [] request written is_output is_another

@@ -99,6 +99,25 @@ fn tell_checked(rt: &impl Print, table: &TenantTable) -> Result<(), Failure> {
     Ok(())
 }
 
+// Puts operators into the boxes of a bench, in its order. This is no function, since one that gave
+// boxes out would hide what it gives.
+macro_rules! push_boxes {
+    ($boxes:ident, $operators:expr) => {{
+        let Operators {
+            left,
+            right,
+            set_op,
+        } = $operators;
+        $boxes.push_reserved(left.join);
+        $boxes.push_reserved(left.shape);
+        $boxes.push_reserved(left.distinct);
+        $boxes.push_reserved(right.join);
+        $boxes.push_reserved(right.shape);
+        $boxes.push_reserved(right.distinct);
+        $boxes.push_reserved(set_op);
+    }};
+}
+
 /// Makes a bench for each worker and those that they borrow, listens, and serves.
 fn outcome<R>(rt: &R, alloc: Global, config: Config, table: &TenantTable) -> Result<(), Failure>
 where
@@ -113,41 +132,14 @@ where
     let workers = u16::from(config.workers);
     let mut own = Vec::new(alloc);
     let mut shared = Vec::new(alloc);
-    for place in 0..workers.saturating_add(config.warm) {
-        // Operators of the caller's own may stand in the place of these. They are boxed here, since
-        // a function that gave boxes of them out would hide what it gives.
+    for index in 0..workers.saturating_add(config.warm) {
+        // Operators of the caller's own may stand in the place of these.
         let mut boxes: Vec<Box<dyn Operator + Send>> = Vec::with_capacity(alloc, 7)?;
         match config.join {
-            JoinForm::Plain => {
-                let Operators {
-                    left,
-                    right,
-                    set_op,
-                } = plain_operators(alloc)?;
-                boxes.push_reserved(left.join);
-                boxes.push_reserved(left.shape);
-                boxes.push_reserved(left.distinct);
-                boxes.push_reserved(right.join);
-                boxes.push_reserved(right.shape);
-                boxes.push_reserved(right.distinct);
-                boxes.push_reserved(set_op);
-            }
-            JoinForm::Keyed => {
-                let Operators {
-                    left,
-                    right,
-                    set_op,
-                } = keyed_operators(alloc)?;
-                boxes.push_reserved(left.join);
-                boxes.push_reserved(left.shape);
-                boxes.push_reserved(left.distinct);
-                boxes.push_reserved(right.join);
-                boxes.push_reserved(right.shape);
-                boxes.push_reserved(right.distinct);
-                boxes.push_reserved(set_op);
-            }
+            JoinForm::Plain => push_boxes!(boxes, plain_operators(alloc)?),
+            JoinForm::Keyed => push_boxes!(boxes, keyed_operators(alloc)?),
         }
-        if place < workers {
+        if index < workers {
             own.push(boxes)?;
         } else {
             shared.push(boxes)?;
@@ -175,8 +167,8 @@ where
         + Print
         + Eprint
         + Sync,
-    requires own { All (IsBench seen_in) benches.own.items }
-    requires shared { All (IsBench seen_in) benches.shared.items }
+    requires own { All (IsBench model_of) benches.own.items }
+    requires shared { All (IsBench model_of) benches.shared.items }
 {
     let Ok(listener) = TcpListener::bind(rt, ("127.0.0.1", config.port)) else {
         return Err(Failure::Listening);

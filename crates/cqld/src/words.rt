@@ -2,7 +2,7 @@
 ghost use Rattle.std.specs.Prelude.{◌≤◌, IfOk};
 
 use clap::builder::ValueParser;
-use clap::{Arg, ArgAction, Command, Error, value_parser};
+use clap::{Arg, ArgAction, ArgMatches, Command, Error, value_parser};
 use std::alloc::Global;
 
 /// The version, which is that of the top entry of CHANGELOG.md that has a number.
@@ -11,7 +11,7 @@ pub const VERSION: &str = "0.1.0";
 const JOIN_FORMS: &[&str] = &["plain", "keyed"];
 
 /// The operators by which joins and groups are computed.
-#[derive(Clone, Copy, Debug, PartialEq, Eq)]
+#[derive(Clone, Copy)]
 pub enum JoinForm {
     /// All rows anew at each instant.
     Plain,
@@ -20,7 +20,7 @@ pub enum JoinForm {
 }
 
 /// What is served, and how.
-#[derive(Clone, Copy, Debug)]
+#[derive(Clone, Copy)]
 pub struct Config {
     /// The port of 127.0.0.1; at 0 the system chooses one.
     pub port: u16,
@@ -63,22 +63,31 @@ pub fn read_words(alloc: Global, words: &[String]) -> Result<Config, Error>
 {
     let matches = command(alloc)?.try_get_matches_from(words)?;
     Ok(Config {
-        port: matches.get_one::<u16>("port").unwrap_or(0),
-        workers: matches.get_one::<u8>("workers").unwrap_or(4).clamp(1, 64),
-        callers: matches
-            .get_one::<u32>("callers")
-            .unwrap_or(1024)
-            .clamp(1, 65_536),
-        sessions: matches.get_one::<u16>("sessions").unwrap_or(0),
-        login: matches.get_one::<u16>("login").unwrap_or(10).min(3600),
-        idle: matches.get_one::<u32>("idle").unwrap_or(0).min(86_400),
-        answer: matches.get_one::<u32>("answer").unwrap_or(60).min(86_400),
+        port: number(&matches, "port", 0, 65_535) as u16,
+        workers: number(&matches, "workers", 1, 64) as u8,
+        callers: number(&matches, "callers", 1, 65_536),
+        sessions: number(&matches, "sessions", 0, 65_535) as u16,
+        login: number(&matches, "login", 0, 3600) as u16,
+        idle: number(&matches, "idle", 0, 86_400),
+        answer: number(&matches, "answer", 0, 86_400),
         join: join_form(matches.get_str("join")),
-        warm: matches.get_one::<u16>("warm").unwrap_or(64).min(1024),
-        log: matches.get_one::<u32>("log").unwrap_or(0).min(86_400),
+        warm: number(&matches, "warm", 0, 1024) as u16,
+        log: number(&matches, "log", 0, 86_400),
         audit: matches.get_flag("audit"),
         check: matches.get_flag("check"),
     })
+}
+
+// The number of a word, which lies between these by its parser.
+fn number(matches: &ArgMatches, word: &str, least: u32, most: u32) -> u32
+    requires { least ≤ most }
+    ensures least { least ≤ result }
+    ensures most { result ≤ most }
+{
+    matches
+        .get_one::<u32>(word)
+        .unwrap_or(least)
+        .clamp(least, most)
 }
 
 // The form of that name; keyed where none is named.
@@ -89,159 +98,129 @@ fn join_form(name: Option<&str>) -> JoinForm {
     }
 }
 
+// What stands behind a word.
+#[derive(Clone, Copy)]
+enum Takes {
+    // A number: what it is where none is given, the least and the most.
+    Count(&'static str, i64, i64),
+    // A number of seconds: what it is where none is given, and the most.
+    Seconds(&'static str, i64),
+    // A form of joins.
+    Form,
+    Nothing,
+}
+
+// A word: its name, what it takes, and what the help says of it.
+struct Word(&'static str, Takes, &'static str);
+
+const WORDS: &[Word] = &[
+    Word(
+        "port",
+        Takes::Count("0", 0, 65_535),
+        "The port of 127.0.0.1, or 0 for one that the system chooses",
+    ),
+    Word(
+        "workers",
+        Takes::Count("4", 1, 64),
+        "How many threads serve callers, 1 to 64",
+    ),
+    Word(
+        "callers",
+        Takes::Count("1024", 1, 65_536),
+        "How many callers are connected at once, 1 to 65536; further ones wait",
+    ),
+    Word(
+        "sessions",
+        Takes::Count("0", 0, 65_535),
+        "How many sessions are served in all, or 0 for no end",
+    ),
+    Word(
+        "login",
+        Takes::Seconds("10", 3600),
+        "By when a session's login line has to be whole, or 0 for never",
+    ),
+    Word(
+        "idle",
+        Takes::Seconds("0", 86_400),
+        "How long a session waits for its caller, or 0 for no end",
+    ),
+    Word(
+        "answer",
+        Takes::Seconds("60", 86_400),
+        "How long an answer is computed before it is given up, or 0 for no end",
+    ),
+    Word(
+        "join",
+        Takes::Form,
+        "How joins and groups are computed: plain, all rows anew, or keyed, what changes",
+    ),
+    Word(
+        "warm",
+        Takes::Count("64", 0, 1024),
+        "How many answers are kept to go on from, or 0 for none",
+    ),
+    Word(
+        "log",
+        Takes::Seconds("0", 86_400),
+        "How often counts are told on standard error, with who comes and leaves, or 0 for nothing",
+    ),
+    Word(
+        "audit",
+        Takes::Nothing,
+        "Keep each call, and check them after the last session",
+    ),
+    Word(
+        "check",
+        Takes::Nothing,
+        "Tell whether the tenants are right, and serve nobody",
+    ),
+];
+
 fn command<'a>(alloc: Global) -> Result<Command<'a>, Error> {
-    let words = vec![in alloc;
-        port(alloc),
-        workers(alloc),
-        callers(alloc),
-        sessions(alloc),
-        login(alloc),
-        idle(alloc),
-        answer(alloc),
-        join(alloc),
-        warm(alloc),
-        log(alloc),
-        audit(alloc),
-        check(alloc),
-    ]?;
+    let mut words = Vec::with_capacity(alloc, WORDS.len())?;
+    for word in WORDS {
+        words.push(argument(alloc, word))?;
+    }
     let command = Command::new(alloc, "cqld").version(VERSION).about(
         "Serves continuous queries to the tenants that standard input names",
     );
     Ok(command.args(words)?)
 }
 
-// A word that takes a value: what the value is called, what it is where none is given, and how it is
-// read.
+fn argument<'a>(alloc: Global, word: &'static Word) -> Arg<'a> {
+    let Word(name, takes, help) = word;
+    let argument = Arg::new(alloc, *name).long(*name).help(*help);
+    match *takes {
+        Takes::Count(default, least, most) => {
+            valued(
+                argument,
+                "N",
+                default,
+                value_parser!(u32).range(least..=most),
+            )
+        }
+        Takes::Seconds(default, most) => {
+            valued(
+                argument,
+                "SECONDS",
+                default,
+                value_parser!(u32).range(0..=most),
+            )
+        }
+        Takes::Form => valued(argument, "FORM", "keyed", JOIN_FORMS.into()),
+        Takes::Nothing => argument.action(ArgAction::SetTrue),
+    }
+}
+
+// One that takes a value: what the value is called, what it is where none is given, and how it is read.
 fn valued<'a>(
-    alloc: Global,
-    word: &'a str,
-    value: &'a str,
+    argument: Arg<'a>,
+    called: &'a str,
     default: &'a str,
-    help: &'a str,
     parser: ValueParser<'a>,
 ) -> Arg<'a> {
-    Arg::new(alloc, word)
-        .long(word)
-        .value_name(value)
+    argument
+        .value_name(called)
         .default_value(default)
-        .help(help)
         .value_parser(parser)
-}
-
-fn port<'a>(alloc: Global) -> Arg<'a> {
-    let help = "The port of 127.0.0.1, or 0 for one that the system chooses";
-    valued(alloc, "port", "N", "0", help, value_parser!(u16))
-}
-
-fn workers<'a>(alloc: Global) -> Arg<'a> {
-    let help = "How many threads serve callers, 1 to 64";
-    valued(
-        alloc,
-        "workers",
-        "N",
-        "4",
-        help,
-        value_parser!(u8).range(1..=64),
-    )
-}
-
-fn callers<'a>(alloc: Global) -> Arg<'a> {
-    let help = "How many callers are connected at once, 1 to 65536; further ones wait";
-    valued(
-        alloc,
-        "callers",
-        "N",
-        "1024",
-        help,
-        value_parser!(u32).range(1..=65_536),
-    )
-}
-
-fn sessions<'a>(alloc: Global) -> Arg<'a> {
-    let help = "How many sessions are served in all, or 0 for no end";
-    valued(alloc, "sessions", "N", "0", help, value_parser!(u16))
-}
-
-fn login<'a>(alloc: Global) -> Arg<'a> {
-    let help = "By when a session's login line has to be whole, or 0 for never";
-    valued(
-        alloc,
-        "login",
-        "SECONDS",
-        "10",
-        help,
-        value_parser!(u16).range(0..=3600),
-    )
-}
-
-fn idle<'a>(alloc: Global) -> Arg<'a> {
-    let help = "How long a session waits for its caller, or 0 for no end";
-    valued(
-        alloc,
-        "idle",
-        "SECONDS",
-        "0",
-        help,
-        value_parser!(u32).range(0..=86_400),
-    )
-}
-
-fn answer<'a>(alloc: Global) -> Arg<'a> {
-    let help = "How long an answer is computed before it is given up, or 0 for no end";
-    valued(
-        alloc,
-        "answer",
-        "SECONDS",
-        "60",
-        help,
-        value_parser!(u32).range(0..=86_400),
-    )
-}
-
-fn join<'a>(alloc: Global) -> Arg<'a> {
-    let help = "How joins and groups are computed: plain, all rows anew, or keyed, what changes";
-    valued(alloc, "join", "FORM", "keyed", help, JOIN_FORMS.into())
-}
-
-fn log<'a>(alloc: Global) -> Arg<'a> {
-    let help =
-        "How often counts are told on standard error, with who comes and leaves, or 0 for nothing";
-    valued(
-        alloc,
-        "log",
-        "SECONDS",
-        "0",
-        help,
-        value_parser!(u32).range(0..=86_400),
-    )
-}
-
-fn warm<'a>(alloc: Global) -> Arg<'a> {
-    let help = "How many answers are kept to go on from, or 0 for none";
-    valued(
-        alloc,
-        "warm",
-        "N",
-        "64",
-        help,
-        value_parser!(u16).range(0..=1024),
-    )
-}
-
-// A word that takes no value.
-fn flag<'a>(alloc: Global, word: &'a str, help: &'a str) -> Arg<'a> {
-    Arg::new(alloc, word)
-        .long(word)
-        .action(ArgAction::SetTrue)
-        .help(help)
-}
-
-fn audit<'a>(alloc: Global) -> Arg<'a> {
-    let help = "Keep each call, and check them after the last session";
-    flag(alloc, "audit", help)
-}
-
-fn check<'a>(alloc: Global) -> Arg<'a> {
-    let help = "Tell whether the tenants are right, and serve nobody";
-    flag(alloc, "check", help)
 }

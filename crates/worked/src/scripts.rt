@@ -32,7 +32,7 @@ fn replies_by<O: Operator>(
     goes_on: bool,
     bench: BenchOf<O>,
 ) -> Result<Vec<u8>, &'static str>
-    requires { IsBench O.seen_in bench }
+    requires { IsBench O.model_of bench }
 {
     if goes_on {
         replies(alloc, text, &mut Warm::new(bench))

@@ -363,8 +363,8 @@ fn held_after(
 }
 
 // The number of a word, or another where there is none.
-fn number(words: &[String], place: usize, other: u64) -> u64 {
-    match words.get(place) {
+fn number(words: &[String], index: usize, other: u64) -> u64 {
+    match words.get(index) {
         Some(word) => word.as_str().parse().unwrap_or(other),
         None => other,
     }

@@ -1,7 +1,7 @@
 // A bench lets go of what its operators hold.
 ghost use Rattle.std.specs.Prelude.{◌≡◌};
 ghost use Rattle.cql_plan.specs.Node.{kind_of_node};
-ghost use Rattle.cql_ops.specs.Bench.{AreKinds, IsBench, block_seen};
+ghost use Rattle.cql_ops.specs.Bench.{AreKinds, IsBench, block_model};
 
 use crate::bench::{BenchOf, BlockOf};
 use crate::operator::Operator;
@@ -35,7 +35,7 @@ fn empty_node(alloc: Global, kind: OperatorKind) -> Node
 
 // Started over a node without columns it holds no row.
 fn empty<O: Operator>(alloc: Global, op: &mut O)
-    ensures { (O.seen_in op.new).kind ≡ (O.seen_in op.old).kind }
+    ensures { (O.model_of op.new).kind ≡ (O.model_of op.old).kind }
 {
     let node = empty_node(alloc, op.kind());
     let _ = start(op, &node, 0);
@@ -44,8 +44,8 @@ fn empty<O: Operator>(alloc: Global, op: &mut O)
 impl<O: Operator> BlockOf<O> {
     // Its operators hold nothing.
     fn clear(&mut self, alloc: Global)
-        requires { AreKinds (block_seen O.seen_in self.old) }
-        ensures { AreKinds (block_seen O.seen_in self.new) }
+        requires { AreKinds (block_model O.model_of self.old) }
+        ensures { AreKinds (block_model O.model_of self.new) }
     {
         empty(alloc, &mut self.join);
         empty(alloc, &mut self.shape);
@@ -57,8 +57,8 @@ impl<O: Operator> BenchOf<O> {
     /// Lets go of all that its operators hold, whatever plans they ran: each is started over a node
     /// without columns, for which the given ones take no memory.
     pub fn clear(&mut self, alloc: Global)
-        requires { IsBench O.seen_in self.old }
-        ensures { IsBench O.seen_in self.new }
+        requires { IsBench O.model_of self.old }
+        ensures { IsBench O.model_of self.new }
     {
         self.left.clear(alloc);
         self.right.clear(alloc);

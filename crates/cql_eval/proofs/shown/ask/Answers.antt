@@ -1,5 +1,6 @@
-use Rattle.std.proofs.Common.{subst, ◌∙◌}
-use Rattle.cql_ops.specs.Bench.{BenchSeen, bench_seen}
+use Rattle.std.proofs.lemmas.Grind.{common_steps}
+use Rattle.std.proofs.Common.{subst, ◌∙◌, arith}
+use Rattle.cql_ops.specs.Bench.{BenchModel, bench_model}
 use Rattle.cql_ops.specs.Running.{IsOutcome}
 use Rattle.cql_eval.proofs.Steps.{runs_on, leads_on, leads_anew}
 use Rattle.cql_eval.proofs.shown.ask.Goals as goal
@@ -10,8 +11,8 @@ restart-requires-clause-walks g c = (c.args.cursor, c.requires.ready.walks)
 pub returns-in_default-clause-leads : goal.returns-in_default-clause-leads
 returns-in_default-clause-leads g c =
     let p = c.args.pin.now in
-    let o : BenchSeen = bench_seen g.O.Operator.seen_in c.args.bench.now in
-    let after : BenchSeen = bench_seen g.O.Operator.seen_in c.emit.new.self in
+    let o : BenchModel = bench_model g.O.Operator.model_of c.args.bench.now in
+    let after : BenchModel = bench_model g.O.Operator.model_of c.emit.new.self in
     let out : IsOutcome p.plan p.limit o after c.in_ok-outcome.outcome
     = subst (λ n. IsOutcome p.plan n o after c.in_ok-outcome.outcome) c.limit.ensures (subst (λ q. IsOutcome q c.limit.result o after c.in_ok-outcome.outcome) c.plan.ensures.value c.in_ok-outcome.ensures.outcome) in
     leads_on p c.args.cursor c.in_ok-outcome.outcome o after c.requires.based (c.requires.ready.contents ∙ c.requires.bags) out c.in_default.not-Faulty
@@ -19,8 +20,8 @@ returns-in_default-clause-leads g c =
 pub returns-in_default-clause-ready : goal.returns-in_default-clause-ready
 returns-in_default-clause-ready g c =
     let p = c.args.pin.now in
-    let o : BenchSeen = bench_seen g.O.Operator.seen_in c.args.bench.now in
-    let after : BenchSeen = bench_seen g.O.Operator.seen_in c.emit.new.self in
+    let o : BenchModel = bench_model g.O.Operator.model_of c.args.bench.now in
+    let after : BenchModel = bench_model g.O.Operator.model_of c.emit.new.self in
     let out : IsOutcome p.plan p.limit o after c.in_ok-outcome.outcome
     = subst (λ n. IsOutcome p.plan n o after c.in_ok-outcome.outcome) c.limit.ensures (subst (λ q. IsOutcome q c.limit.result o after c.in_ok-outcome.outcome) c.plan.ensures.value c.in_ok-outcome.ensures.outcome) in
     runs_on p c.args.cursor c.args.walks.now c.in_ok-outcome.outcome o after c.requires.ready out c.in_default.not-Faulty
@@ -28,9 +29,12 @@ returns-in_default-clause-ready g c =
 pub returns-in_ok-restart-in-Faulty-clause-leads : goal.returns-in_ok-restart-in-Faulty-clause-leads
 returns-in_ok-restart-in-Faulty-clause-leads g c =
     let p = c.args.pin.now in
-    let o : BenchSeen = bench_seen g.O.Operator.seen_in c.args.bench.now in
-    let after : BenchSeen = bench_seen g.O.Operator.seen_in c.emit.new.self in
+    let o : BenchModel = bench_model g.O.Operator.model_of c.args.bench.now in
+    let after : BenchModel = bench_model g.O.Operator.model_of c.emit.new.self in
     let out : IsOutcome p.plan p.limit o after c.in_ok-outcome.outcome
     = subst (λ n. IsOutcome p.plan n o after c.in_ok-outcome.outcome) c.limit.ensures (subst (λ q. IsOutcome q c.limit.result o after c.in_ok-outcome.outcome) c.plan.ensures.value c.in_ok-outcome.ensures.outcome) in
     let is = subst (IsOutcome p.plan p.limit o after) c.in-Faulty.is out in
     (c.in_ok-restart-in-Faulty.ensures.told, leads_anew p c.args.cursor c.in-Faulty.fault o c.requires.based (c.requires.ready.contents ∙ c.requires.bags) is)
+
+pub returns-in_ok-restart-in-Faulty-clause-ready : goal.returns-in_ok-restart-in-Faulty-clause-ready
+returns-in_ok-restart-in-Faulty-clause-ready g c = grind (arith, common_steps)

@@ -3,10 +3,10 @@ use Rattle.std.proofs.Common.{◌≡◌, ◌<◌, ◌++◌, [], length, drop, ma
 use Rattle.cql_bag.specs.Bag.{bag_of}
 use Rattle.cql_plan.specs.Ports.{ports}
 use Rattle.cql_algebra.specs.Ports.{port_of}
-use Rattle.cql_ops.specs.Bench.{BenchSeen, bench_seen}
-use Rattle.cql_ops.specs.Seen.{columns_at}
+use Rattle.cql_ops.specs.Bench.{BenchModel, bench_model}
+use Rattle.cql_ops.specs.OperatorModel.{columns_at}
 use Rattle.cql_ops.specs.Running.{contents_of}
-use Rattle.cql_eval.specs.Seen.{SeenWalked, content_seen, windows_seen, reached}
+use Rattle.cql_eval.specs.Projected.{ProjectedWalkModel, projected_content, projected_windows, reached}
 use Rattle.cql_eval.specs.Shown.{rows_of, IsWalk, IsReady, HasPushed}
 use Rattle.cql_eval.proofs.Holding.{no_length}
 use Rattle.cql_eval.proofs.Back.{returning, back_starts, whole_at_first, IsTurn, turn, all_back}
@@ -15,8 +15,8 @@ use Rattle.cql_eval.proofs.walks.retreat.Goals as goal
 pub loop-walk-init : goal.loop-walk-init
 loop-walk-init g c =
     let p = c.args.pin.now in
-    let all = map (reached c.args.cursor) (windows_seen p) in
-    let o : BenchSeen = bench_seen g.O.Operator.seen_in c.args.bench.now in
+    let all = map (reached c.args.cursor) (projected_windows p) in
+    let o : BenchModel = bench_model g.O.Operator.model_of c.args.bench.now in
     let is : c.in_ok-walks.walks.items ≡ all = c.in_ok-walks.ensures in
     record {
       bench = c.requires.bench;
@@ -28,10 +28,10 @@ loop-walk-init g c =
 pub retreat_one-requires-clause-input : goal.retreat_one-requires-clause-input
 retreat_one-requires-clause-input g c =
     let p = c.args.pin.now in
-    let all = map (reached c.args.cursor) (windows_seen p) in
-    let o : BenchSeen = bench_seen g.O.Operator.seen_in c.loop-walk.bench in
+    let all = map (reached c.args.cursor) (projected_windows p) in
+    let o : BenchModel = bench_model g.O.Operator.model_of c.loop-walk.bench in
     let ks = c.pop.new.self.items in
-    let k : SeenWalked = c.in-Some.walk in
+    let k : ProjectedWalkModel = c.in-Some.walk in
     let t : IsTurn p all ks k o = turn p c.args.cursor all ks k o c.windows.ensures.pin.windows c.requires.earlier refl
     (subst (λ l. l ++ drop (length l) all ≡ all) c.in-Some.ensures.items c.loop-walk.invariant.whole)
     (subst (λ l. IsReady p p.next (returning p.next all l) o) c.in-Some.ensures.items c.loop-walk.invariant.ready) in
@@ -41,10 +41,10 @@ retreat_one-requires-clause-input g c =
 pub retreat_one-requires-clause-walk : goal.retreat_one-requires-clause-walk
 retreat_one-requires-clause-walk g c =
     let p = c.args.pin.now in
-    let all = map (reached c.args.cursor) (windows_seen p) in
-    let o : BenchSeen = bench_seen g.O.Operator.seen_in c.loop-walk.bench in
+    let all = map (reached c.args.cursor) (projected_windows p) in
+    let o : BenchModel = bench_model g.O.Operator.model_of c.loop-walk.bench in
     let ks = c.pop.new.self.items in
-    let k : SeenWalked = c.in-Some.walk in
+    let k : ProjectedWalkModel = c.in-Some.walk in
     let t : IsTurn p all ks k o = turn p c.args.cursor all ks k o c.windows.ensures.pin.windows c.requires.earlier refl
     (subst (λ l. l ++ drop (length l) all ≡ all) c.in-Some.ensures.items c.loop-walk.invariant.whole)
     (subst (λ l. IsReady p p.next (returning p.next all l) o) c.in-Some.ensures.items c.loop-walk.invariant.ready) in
@@ -54,24 +54,24 @@ retreat_one-requires-clause-walk g c =
 pub retreat_one-requires-clause-ended : goal.retreat_one-requires-clause-ended
 retreat_one-requires-clause-ended g c =
     let p = c.args.pin.now in
-    let all = map (reached c.args.cursor) (windows_seen p) in
-    let o : BenchSeen = bench_seen g.O.Operator.seen_in c.loop-walk.bench in
+    let all = map (reached c.args.cursor) (projected_windows p) in
+    let o : BenchModel = bench_model g.O.Operator.model_of c.loop-walk.bench in
     let ks = c.pop.new.self.items in
-    let k : SeenWalked = c.in-Some.walk in
+    let k : ProjectedWalkModel = c.in-Some.walk in
     let t : IsTurn p all ks k o = turn p c.args.cursor all ks k o c.windows.ensures.pin.windows c.requires.earlier refl
     (subst (λ l. l ++ drop (length l) all ≡ all) c.in-Some.ensures.items c.loop-walk.invariant.whole)
     (subst (λ l. IsReady p p.next (returning p.next all l) o) c.in-Some.ensures.items c.loop-walk.invariant.ready) in
     let size : c.len.result ≡ length ks = omega (arith, c.len.ensures, c.pop.new.self.ok) in
-    subst (λ n. port_of (contents_of p.plan o) n ≡ bag_of (rows_of (content_seen p.next k.pin))) (sym size) t.ended
+    subst (λ n. port_of (contents_of p.plan o) n ≡ bag_of (rows_of (projected_content p.next k.pin))) (sym size) t.ended
 
 pub loop-walk-preserved : goal.loop-walk-preserved
 loop-walk-preserved g c =
     let p = c.args.pin.now in
-    let all = map (reached c.args.cursor) (windows_seen p) in
-    let o : BenchSeen = bench_seen g.O.Operator.seen_in c.loop-walk.bench in
-    let next : BenchSeen = bench_seen g.O.Operator.seen_in c.retreat_one.new.bench in
+    let all = map (reached c.args.cursor) (projected_windows p) in
+    let o : BenchModel = bench_model g.O.Operator.model_of c.loop-walk.bench in
+    let next : BenchModel = bench_model g.O.Operator.model_of c.retreat_one.new.bench in
     let ks = c.pop.new.self.items in
-    let k : SeenWalked = c.in-Some.walk in
+    let k : ProjectedWalkModel = c.in-Some.walk in
     let t : IsTurn p all ks k o = turn p c.args.cursor all ks k o c.windows.ensures.pin.windows c.requires.earlier refl
     (subst (λ l. l ++ drop (length l) all ≡ all) c.in-Some.ensures.items c.loop-walk.invariant.whole)
     (subst (λ l. IsReady p p.next (returning p.next all l) o) c.in-Some.ensures.items c.loop-walk.invariant.ready) in
@@ -87,9 +87,9 @@ loop-walk-preserved g c =
 pub returns-clause-back : goal.returns-clause-back
 returns-clause-back g c =
     let p = c.args.pin.now in
-    let all = map (reached c.args.cursor) (windows_seen p) in
+    let all = map (reached c.args.cursor) (projected_windows p) in
     let none : c.loop-walk.walks.items ≡ [] = no_length c.loop-walk.walks.items (omega (arith, c.in_default.ensures.cases.0, c.loop-walk.walks.ok)) in
-    all_back p c.args.cursor all c.loop-walk.walks.items (bench_seen g.O.Operator.seen_in c.args.bench.now) (bench_seen g.O.Operator.seen_in c.loop-walk.bench) refl none c.loop-walk.invariant.ready c.loop-walk.invariant.told
+    all_back p c.args.cursor all c.loop-walk.walks.items (bench_model g.O.Operator.model_of c.args.bench.now) (bench_model g.O.Operator.model_of c.loop-walk.bench) refl none c.loop-walk.invariant.ready c.loop-walk.invariant.told
 
 pub loop-walk-smaller : goal.loop-walk-smaller
 loop-walk-smaller g c = grind (arith, common_steps)

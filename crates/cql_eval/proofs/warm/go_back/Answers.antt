@@ -1,10 +1,10 @@
 use Rattle.std.proofs.Common.{◌≡◌, sym, ap, subst, ◌∙◌, arith}
 use Rattle.std.proofs.lemmas.Result.{IfOk-weaker}
-use Rattle.cql_ops.specs.Bench.{BenchSeen, bench_seen}
+use Rattle.cql_ops.specs.Bench.{BenchModel, bench_model}
 use Rattle.cql_ops.specs.Running.{told_of}
-use Rattle.cql_eval.specs.Pin.{PinSeen}
+use Rattle.cql_eval.specs.Pin.{PinModel}
 use Rattle.cql_eval.specs.Relation.{bags_at, relation_at}
-use Rattle.cql_eval.specs.Seen.{windows_seen}
+use Rattle.cql_eval.specs.Projected.{projected_windows}
 use Rattle.cql_eval.specs.Shown.{IsReady, IsShown, IsBack, StandsFor, LeadsTo}
 use Rattle.cql_eval.proofs.Resumed.{resumed}
 use Rattle.cql_eval.proofs.Back.{met_bags, met_ready, met_stands}
@@ -12,41 +12,41 @@ use Rattle.cql_eval.proofs.warm.go_back.Goals as goal
 
 pub returns-then-begins-next-clause-shown : goal.returns-then-begins-next-clause-shown
 returns-then-begins-next-clause-shown g c =
-    let p : PinSeen = c.args.kept.pin in
-    let q : PinSeen = c.args.pin.now in
+    let p : PinModel = c.args.kept.pin in
+    let q : PinModel = c.args.pin.now in
     let ks = c.args.walks.now in
-    let o : BenchSeen = bench_seen g.O.Operator.seen_in c.args.bench.now in
+    let o : BenchModel = bench_model g.O.Operator.model_of c.args.bench.now in
     let meets = c.requires.meets in
-    let ends : p.next ≡ q.from = omega (arith, c.if-begins-next.true, c.from-begins.ensures.value, c.next.ensures.value, ap (λ (r : PinSeen). r.next) c.pin-before.ensures) in
+    let ends : p.next ≡ q.from = omega (arith, c.if-begins-next.true, c.from-begins.ensures.value, c.next.ensures.value, ap (λ (r : PinModel). r.next) c.pin-before.ensures) in
     subst (λ l. IsShown q q.from ks l o) (sym c.into_last.ensures)
-    (resumed p q c.args.kept.last ks o meets.plan meets.limit meets.based c.from-begins.ensures.pin.windows c.requires.walks (ap (λ n. bags_at n (windows_seen p)) ends ∙ meets.same) c.requires.kept)
+    (resumed p q c.args.kept.last ks o meets.plan meets.limit meets.based c.from-begins.ensures.pin.windows c.requires.walks (ap (λ n. bags_at n (projected_windows p)) ends ∙ meets.same) c.requires.kept)
 
 -- the bench was taken back to where the pin begins
 pub ask-requires-clause-ready : goal.ask-requires-clause-ready
 ask-requires-clause-ready g c =
-    let p : PinSeen = c.args.kept.pin in
-    let q : PinSeen = c.args.pin.now in
+    let p : PinModel = c.args.kept.pin in
+    let q : PinModel = c.args.pin.now in
     let ks = c.args.walks.now in
-    let o : BenchSeen = bench_seen g.O.Operator.seen_in c.args.bench.now in
-    let mid : BenchSeen = bench_seen g.O.Operator.seen_in c.retreat.new.bench in
+    let o : BenchModel = bench_model g.O.Operator.model_of c.args.bench.now in
+    let mid : BenchModel = bench_model g.O.Operator.model_of c.retreat.new.bench in
     let back : IsBack p q.from o mid
     = subst (λ r. IsBack r q.from o mid) c.pin-before.ensures (subst (λ n. IsBack c.pin-before.result.now n o mid) c.from-begins.ensures.value c.in_ok-retreat.ensures.back) in
     subst (λ n. IsReady q n ks mid) (sym c.from-begins.ensures.value) (met_ready c.args.kept q ks o mid c.requires.meets c.requires.walks c.from-begins.ensures.pin.windows back)
 
 pub ask-requires-clause-bags : goal.ask-requires-clause-bags
 ask-requires-clause-bags g c =
-    let q : PinSeen = c.args.pin.now in
-    let o : BenchSeen = bench_seen g.O.Operator.seen_in c.args.bench.now in
-    met_bags c.args.kept q c.args.walks.now o o c.requires.meets c.requires.walks ∙ ap (λ n. bags_at n (windows_seen q)) (sym c.from-begins.ensures.value)
+    let q : PinModel = c.args.pin.now in
+    let o : BenchModel = bench_model g.O.Operator.model_of c.args.bench.now in
+    met_bags c.args.kept q c.args.walks.now o o c.requires.meets c.requires.walks ∙ ap (λ n. bags_at n (projected_windows q)) (sym c.from-begins.ensures.value)
 
 pub returns-clause-shown : goal.returns-clause-shown
 returns-clause-shown g c =
-    let p : PinSeen = c.args.kept.pin in
-    let q : PinSeen = c.args.pin.now in
+    let p : PinModel = c.args.kept.pin in
+    let q : PinModel = c.args.pin.now in
     let ks = c.args.walks.now in
-    let o : BenchSeen = bench_seen g.O.Operator.seen_in c.args.bench.now in
-    let mid : BenchSeen = bench_seen g.O.Operator.seen_in c.retreat.new.bench in
-    let after : BenchSeen = bench_seen g.O.Operator.seen_in c.ask.new.bench in
+    let o : BenchModel = bench_model g.O.Operator.model_of c.args.bench.now in
+    let mid : BenchModel = bench_model g.O.Operator.model_of c.retreat.new.bench in
+    let after : BenchModel = bench_model g.O.Operator.model_of c.ask.new.bench in
     let back : IsBack p q.from o mid
     = subst (λ r. IsBack r q.from o mid) c.pin-before.ensures (subst (λ n. IsBack c.pin-before.result.now n o mid) c.from-begins.ensures.value c.in_ok-retreat.ensures.back) in
     let kind : c.output.result ≡ q.plan.output = c.output.ensures ∙ ap (λ r. r.output) c.plan.ensures.value in

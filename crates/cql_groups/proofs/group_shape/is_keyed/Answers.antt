@@ -4,10 +4,10 @@ use Rattle.cql_plan.specs.Fit.{HasColumn}
 use Rattle.cql_groups.proofs.Keyed.{has_column, all_next_at}
 use Rattle.cql_groups.proofs.group_shape.is_keyed.Goals as goal
 
-pub loop-place-preserved : goal.loop-place-preserved
-loop-place-preserved c =
-    let lt : c.loop-place.place-index < length c.as_slice-groups.result.now = omega arith in
-    all_next_at (HasColumn c.args.shape.now.columns) c.as_slice-groups.result.now c.loop-place.place-index 0 lt c.loop-place.invariant (has_column c.args.shape.now.columns (get_or c.as_slice-groups.result.now c.loop-place.place-index 0) (omega (arith, c.len-columns.ensures, c.if-place-columns.false)))
+pub loop-column-preserved : goal.loop-column-preserved
+loop-column-preserved c =
+    let lt : c.loop-column.column-index < length c.as_slice-groups.result.now = omega arith in
+    all_next_at (HasColumn c.args.shape.now.columns) c.as_slice-groups.result.now c.loop-column.column-index 0 lt c.loop-column.invariant (has_column c.args.shape.now.columns (get_or c.as_slice-groups.result.now c.loop-column.column-index 0) (omega (arith, c.len-columns.ensures, c.if-column-columns.false)))
 
 pub loop-item-preserved : goal.loop-item-preserved
 loop-item-preserved c = grind (arith, common_steps)

@@ -5,8 +5,8 @@ use Rattle.cql_groups.specs.Keyed.{IsKeyedItem}
 use Rattle.cql_groups.proofs.group_shape.is_keyed.Given as goal
 
 -- the grouped columns so far are there
-abbrev pub invariant-loop-place : goal.invariant-loop-place
-invariant-loop-place l = AllByRecursion (HasColumn l.shape.columns) (take l.place-index l.groups)
+abbrev pub invariant-loop-column : goal.invariant-loop-column
+invariant-loop-column l = AllByRecursion (HasColumn l.shape.columns) (take l.column-index l.groups)
 
 -- the items so far are kept by the keys
 abbrev pub invariant-loop-item : goal.invariant-loop-item

@@ -9,7 +9,7 @@ below : (m n : ℕ) → IsTrue (nat_lt m n) → m < n
 below m n h = grind (arith, nat_tests)
 
 pub returns-in-Min : goal.returns-in-Min
-returns-in-Min c = λ h types len. subst (IsKeyedItem types c.args.groups.now) (sym c.in-Min.is) (has_column types c.in-Min.place (subst (λ n. c.in-Min.place < n) (sym len) (below c.in-Min.place c.args.columns h)))
+returns-in-Min c = λ h types len. subst (IsKeyedItem types c.args.groups.now) (sym c.in-Min.is) (has_column types c.in-Min.column (subst (λ n. c.in-Min.column < n) (sym len) (below c.in-Min.column c.args.columns h)))
 
 pub returns-in-Max : goal.returns-in-Max
-returns-in-Max c = λ h types len. subst (IsKeyedItem types c.args.groups.now) (sym c.in-Max.is) (has_column types c.in-Max.place (subst (λ n. c.in-Max.place < n) (sym len) (below c.in-Max.place c.args.columns h)))
+returns-in-Max c = λ h types len. subst (IsKeyedItem types c.args.groups.now) (sym c.in-Max.is) (has_column types c.in-Max.column (subst (λ n. c.in-Max.column < n) (sym len) (below c.in-Max.column c.args.columns h)))

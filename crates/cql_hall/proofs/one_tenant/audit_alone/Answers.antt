@@ -7,25 +7,25 @@ use Rattle.cql_hall.specs.Alone.{FirstFailsAlone}
 use Rattle.cql_hall.specs.Sent.{sent_as, FailsFirst}
 use Rattle.cql_hall.specs.declared.audits.AuditError.TheVariants as error
 use Rattle.cql_hall.proofs.Alone.{has_no_mismatch}
-use Rattle.cql_hall.proofs.Places.{get_map}
+use Rattle.cql_hall.proofs.Lookups.{get_map}
 use Rattle.cql_hall.proofs.Sending.{none_fails, fails_within, one_fails}
 use Rattle.cql_hall.proofs.one_tenant.audit_alone.Goals as goal
 
 pub returns-in_default-clause-audits : goal.returns-in_default-clause-audits
 returns-in_default-clause-audits c =
-    let journal : Journal = record { table = c.args.table; entries = map noted c.args.entries.now } in
+    let journal : Journal = record { table = c.args.table.now; entries = map noted c.args.entries.now } in
     none_fails c.args.tenant journal (in_order 0 (map (λ list. list.items) c.args.receipts.now)) (map sent_as c.deref.result.now) c.in_ok-number.field-0
     (ap (map sent_as) c.deref.ensures.value ∙ c.in_ok-sent.ensures.ok) c.in_default.is c.in_ok-number.ensures.ok
 
 pub index-requires : goal.index-requires
 index-requires c =
-    let journal : Journal = record { table = c.args.table; entries = map noted c.args.entries.now } in
+    let journal : Journal = record { table = c.args.table.now; entries = map noted c.args.entries.now } in
     let within = fails_within c.args.tenant journal (map sent_as c.deref.result.now) c.in_ok-number.field-0 c.in-Some.number c.in-Some.is c.in_ok-number.ensures.ok in
     omega (arith, within, length-map c.deref.result.now sent_as, c.deref.ensures.len)
 
 pub returns-clause-audits : goal.returns-clause-audits
 returns-clause-audits c =
-    let journal : Journal = record { table = c.args.table; entries = map noted c.args.entries.now } in
+    let journal : Journal = record { table = c.args.table.now; entries = map noted c.args.entries.now } in
     let hs = in_order 0 (map (λ list. list.items) c.args.receipts.now) in
     let sent = c.in_ok-sent.sent.items in
     let number = c.in-Some.number in
@@ -36,7 +36,7 @@ returns-clause-audits c =
 
 pub returns-clause-agreed : goal.returns-clause-agreed
 returns-clause-agreed c =
-    let journal : Journal = record { table = c.args.table; entries = map noted c.args.entries.now } in
+    let journal : Journal = record { table = c.args.table.now; entries = map noted c.args.entries.now } in
     let hs = in_order 0 (map (λ list. list.items) c.args.receipts.now) in
     let sent = c.in_ok-sent.sent.items in
     let number = c.in-Some.number in

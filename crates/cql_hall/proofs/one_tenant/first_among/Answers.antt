@@ -6,7 +6,7 @@ use Rattle.std.proofs.lemmas.List.{take_more}
 use Rattle.std.proofs.lemmas.List.Elements.{All-get_or}
 use Rattle.cql_core.specs.Steps.{stepped_of}
 use Rattle.cql_hall.specs.Sent.{sent_as, is_before, FailsAmong, Replies}
-use Rattle.cql_hall.proofs.Places.{get_map}
+use Rattle.cql_hall.proofs.Lookups.{get_map}
 use Rattle.cql_hall.proofs.Sending.{among_new, among_same, replies_decide}
 use Rattle.cql_hall.proofs.one_tenant.first_among.Goals.{then-is_before+then-not-is_reply_of, else-is_before, else-is_before-via-then-is_before+else-not-is_reply_of, else-is_before-via-else-is_before}
 use Rattle.cql_hall.proofs.one_tenant.first_among.Goals as goal

@@ -9,7 +9,7 @@ use Rattle.cql_hall.specs.Entering.{noted}
 use Rattle.cql_hall.specs.Audit.{Journal}
 use Rattle.cql_hall.specs.Tells.{after_alone, replayed_alone}
 use Rattle.cql_hall.specs.Sent.{sent_as, numbers_at, FailsAmong}
-use Rattle.cql_hall.proofs.Places.{map_more, get_map}
+use Rattle.cql_hall.proofs.Lookups.{map_more, get_map}
 use Rattle.cql_hall.proofs.Telling.{replayed_alone_more}
 use Rattle.cql_hall.proofs.Sending.{numbers_below, numbers_read, so_far_none, so_far_more, so_far_all}
 use Rattle.cql_hall.proofs.one_tenant.first_failing.Goals as goal
@@ -27,7 +27,7 @@ first_among-first-requires c =
 pub loop-i-init : goal.loop-i-init
 loop-i-init c = record {
   core = c.in_ok-core.ensures;
-  first = so_far_none c.args.tenant (record { table = c.args.table; entries = map noted c.args.entries.now }) (map sent_as c.args.sent.now) c.unplaced-first.result (length c.args.entries.now)
+  first = so_far_none c.args.tenant (record { table = c.args.table.now; entries = map noted c.args.entries.now }) (map sent_as c.args.sent.now) c.unplaced-first.result (length c.args.entries.now)
       (sym (length-map c.args.entries.now noted)) c.unplaced-first.ensures;
 }
 
@@ -39,9 +39,9 @@ loop-i-preserved c =
     let e = c.index-entries-i.result in
     let n = noted e in
     let ns = map noted (take i es) in
-    let start = opening c.args.table in
+    let start = opening c.args.table.now in
     let ss = map sent_as c.args.sent.now in
-    let journal : Journal = record { table = c.args.table; entries = map noted es } in
+    let journal : Journal = record { table = c.args.table.now; entries = map noted es } in
     let step = c.in_ok-step.step in
     let many : length c.in_ok-numbers.numbers.items ≡ length es = omega (arith, c.in_ok-numbers.numbers.ok, c.in_ok-numbers.ensures.room) in
     let is = numbers_read (λ list. list.items) c.in_ok-numbers.numbers.items (length es) i c.index.result.now c.deref.result.now ss
@@ -57,5 +57,5 @@ loop-i-preserved c =
 pub returns-clause-ok : goal.returns-clause-ok
 returns-clause-ok c =
     let es = c.args.entries.now in
-    so_far_all c.args.tenant (record { table = c.args.table; entries = map noted es }) c.loop-i.i (map sent_as c.args.sent.now) c.loop-i.first
+    so_far_all c.args.tenant (record { table = c.args.table.now; entries = map noted es }) c.loop-i.i (map sent_as c.args.sent.now) c.loop-i.first
     (omega (arith, length-map es noted, c.loop-i-test.false)) c.loop-i.invariant.first

@@ -4,7 +4,7 @@ use Rattle.std.specs.Prelude.{if◌then◌else◌}
 use Rattle.std.proofs.lemmas.List.{length-map, length-take-le}
 use Rattle.cql_hall.specs.Tracks.{is_at}
 use Rattle.cql_hall.specs.Sent.{sent_as, numbers_at}
-use Rattle.cql_hall.proofs.Places.{map_more}
+use Rattle.cql_hall.proofs.Lookups.{map_more}
 use Rattle.cql_hall.proofs.Sending.{numbers_more}
 use Rattle.cql_hall.proofs.sent.by_place.Goals as goal
 

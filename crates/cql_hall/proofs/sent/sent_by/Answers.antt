@@ -2,7 +2,7 @@ use Rattle.std.proofs.lemmas.Grind.{common_steps}
 use Rattle.std.proofs.Common.{map, take, ◌++◌, ap, sym, ◌∙◌, arith}
 use Rattle.cql_hall.specs.Audit.{heard, in_order}
 use Rattle.cql_hall.specs.Sent.{sent_by}
-use Rattle.cql_hall.proofs.Places.{lists_more}
+use Rattle.cql_hall.proofs.Lookups.{lists_more}
 use Rattle.cql_hall.proofs.Sending.{sent_more}
 use Rattle.cql_hall.proofs.sent.sent_by.Goals as goal
 

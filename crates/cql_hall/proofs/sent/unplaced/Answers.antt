@@ -2,7 +2,7 @@ use Rattle.std.proofs.Common.{not, map, ap, ◌∙◌, arith}
 use Rattle.std.proofs.lemmas.List.{length-map}
 use Rattle.std.proofs.lemmas.Option.{slice_get_within}
 use Rattle.cql_hall.specs.Sent.{sent_as}
-use Rattle.cql_hall.proofs.Places.{get_map}
+use Rattle.cql_hall.proofs.Lookups.{get_map}
 use Rattle.cql_hall.proofs.Sending.{within_of, within_more}
 use Rattle.cql_hall.proofs.sent.unplaced.Goals as goal
 

@@ -3,4 +3,4 @@ use Rattle.cql_part_tests.proofs.groups.push_all.Given as goal
 
 -- the operator is as it was started
 abbrev pub invariant-loop-change : goal.invariant-loop-change
-invariant-loop-change g l = HasNumbers (g.O.Operator.seen_in l.op)
+invariant-loop-change g l = HasNumbers (g.O.Operator.model_of l.op)

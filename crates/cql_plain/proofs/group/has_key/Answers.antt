@@ -1,7 +1,7 @@
 use Rattle.std.proofs.Common.{rules, ◌≡◌, ◌∷◌, [], Some, None, slice_get, get_or, sym, ap, ◌∙◌}
 use Rattle.cql_plain.proofs.Gathering.{key_goes_on, key_passes, key_ends, no_length}
 use Rattle.cql_plain.proofs.group.has_key.Goals as goal
-use Rattle.cql_plain.proofs.group.has_key.Goals.{in-Some+in-Some-split_first+else-not-is_same, in_default}
+use Rattle.cql_plain.proofs.group.has_key.Goals.{in-Some+in-Some-split_first+else-not-is_equal, in_default}
 
 pub loop-column-preserved : goal.loop-column-preserved
 loop-column-preserved c = λ after.
@@ -9,7 +9,7 @@ loop-column-preserved c = λ after.
     let i = c.loop-column.column-index in
     let left = c.loop-column.left.now in
     elim c.match-at.branch [
-      | in-Some+in-Some-split_first+else-not-is_same w ↦
+      | in-Some+in-Some-split_first+else-not-is_equal w ↦
           let value = w.in-Some.value.now in
           let rest = w.in-Some-split_first.rest.now in
           let is : Some value ≡ slice_get c.args.row.now (get_or columns i 0) = search rules in

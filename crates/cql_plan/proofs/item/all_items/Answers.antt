@@ -3,9 +3,9 @@ use Rattle.std.proofs.Common.{arith}
 use Rattle.cql_plan.specs.Typing.{all_items}
 use Rattle.cql_plan.proofs.item.all_items.Goals as goal
 
-pub loop-place-preserved : goal.loop-place-preserved
+pub loop-column-preserved : goal.loop-column-preserved
 unfolding all_items
-loop-place-preserved c = grind (arith, common_steps)
+loop-column-preserved c = grind (arith, common_steps)
 
 pub returns : goal.returns
 unfolding all_items

@@ -4,5 +4,5 @@ use Rattle.cql_plan.proofs.Finding.{found_list}
 use Rattle.cql_plan.proofs.row.column_named.Given as goal
 
 -- what is meant is what was found and what the columns left may give
-abbrev pub invariant-loop-place : goal.invariant-loop-place
-invariant-loop-place l = meant l.qualifier l.name 0 l.fields ≡ found_list l.found ++ meant l.qualifier l.name l.place (drop l.place l.fields)
+abbrev pub invariant-loop-column : goal.invariant-loop-column
+invariant-loop-column l = meant l.qualifier l.name 0 l.fields ≡ found_list l.found ++ meant l.qualifier l.name l.column (drop l.column l.fields)

@@ -2,8 +2,8 @@ use denote.Param.{param}
 use denote.Param.Send.{IsSend, sendable}
 use denote.Ref.{NamedLft}
 use Rattle.cql_eval.specs.contracts.pool.Pooled as pooled
-use Rattle.cql_server.specs.contracts.shared_pool.Borrower as borrower
-use Rattle.cql_server.proofs.BenchesCrosses.{borrowing_send}
+use Rattle.cql_sessions.specs.contracts.shared_pool.Borrower as borrower
+use Rattle.cql_sessions.proofs.BenchesCrosses.{borrowing_send}
 use Rattle.cql_server.proofs.serving.start_borrowing.Goals as goal
 
 pub start_all-requires-send-E : goal.start_all-requires-send-E

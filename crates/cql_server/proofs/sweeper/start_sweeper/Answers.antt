@@ -3,8 +3,8 @@ use denote.Param.Send.{IsSync, sendable}
 use Rattle.std.proofs.Crossing.{crosses}
 use Rattle.cql_hall.proofs.Crosses.{hall_sync}
 use Rattle.cql_hall.specs.contracts.hall.Hall as hall_type
-use Rattle.cql_server.specs.contracts.shared_pool.SharedPool as pool_type
-use Rattle.cql_server.proofs.BenchesCrosses.{pool_sync}
+use Rattle.cql_sessions.specs.contracts.shared_pool.SharedPool as pool_type
+use Rattle.cql_sessions.proofs.BenchesCrosses.{pool_sync}
 use Rattle.cql_server.proofs.Crosses.{table_sync}
 use Rattle.cql_server.proofs.sweeper.start_sweeper.Goals as goal
 

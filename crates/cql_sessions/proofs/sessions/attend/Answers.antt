@@ -7,7 +7,7 @@ loop-init g c = record {
   bench = c.requires.bench;
   kept = refl;
   going = c.in_ok-make_room.ensures.going ∙ c.requires.going;
-  room = omega (arith, c.in_ok-desk.ensures.room);
+  room = omega (arith, c.in_ok-buffers.ensures.room);
   so_far = λ new. begins c.args.service.now.table.now c.make_room.new.self _ (c.in_ok-make_room.ensures.begins new);
 }
 
@@ -37,8 +37,8 @@ loop-preserved g c = record {
 pub returns-in_err-make_room-clause-served : goal.returns-in_err-make_room-clause-served
 returns-in_err-make_room-clause-served g c = λ new. nobody_yet c.args.service.now.table.now c.make_room.new.self _ (c.in_err-make_room.ensures.begins new)
 
-pub returns-in_err-desk-clause-served : goal.returns-in_err-desk-clause-served
-returns-in_err-desk-clause-served g c = λ new. nobody_yet c.args.service.now.table.now c.make_room.new.self _ (c.in_ok-make_room.ensures.begins new)
+pub returns-in_err-buffers-clause-served : goal.returns-in_err-buffers-clause-served
+returns-in_err-buffers-clause-served g c = λ new. nobody_yet c.args.service.now.table.now c.make_room.new.self _ (c.in_ok-make_room.ensures.begins new)
 
 pub returns-clause-served : goal.returns-clause-served
 returns-clause-served g c = λ new. going_served c.args.service.now.table.now c.loop.visit _ _ (c.loop.invariant.so_far new)

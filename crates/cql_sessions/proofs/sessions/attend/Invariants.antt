@@ -9,6 +9,6 @@ invariant-loop g l = record {
   bench : g.E.Evaluator.is_ready l.bench;
   kept : l.visit.is_kept ≡ l.initial.visit.is_kept;
   going : l.visit.is_held ≡ false;
-  room : 0 < vec_len l.desk.chunk;
+  room : 0 < vec_len l.buffers.chunk;
   so_far : IsNew l.fn.visit → SoFar l.fn.service.table.now l.visit (g.R.Read.remaining (inner_of l.fn.reader)) (g.R.Read.remaining (inner_of l.reader));
 }

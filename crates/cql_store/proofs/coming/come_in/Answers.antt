@@ -23,5 +23,5 @@ returns-clause-parted c =
 pub returns-clause-rows : goal.returns-clause-rows
 returns-clause-rows c = grind (arith, common_steps)
 
-pub insert-requires-clause-place : goal.insert-requires-clause-place
-insert-requires-clause-place c = grind (arith, common_steps)
+pub insert-requires-clause-index : goal.insert-requires-clause-index
+insert-requires-clause-index c = grind (arith, common_steps)

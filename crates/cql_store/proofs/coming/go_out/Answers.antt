@@ -40,9 +40,9 @@ remove-requires c =
     let behind = subst (λ xs. IsDown (is_before columns key true) xs → c.before-behind.result ≡ prefix_len (is_before columns key true) xs) c.deref-2.ensures c.before-behind.ensures.value (c.requires.parted.sorted key true) in
     let many : c.args.count ≤ count_part columns row (map row_in rows) = omega (arith, first, behind, between columns rows parts row c.requires.parted, c.saturating_sub.ensures, c.get.ensures.value, c.if-saturating_sub-get.false) in
     let some : 0 < count_part columns row (map row_in rows) = omega (arith, many, c.get.ensures.value, c.get.ensures.positive) in
-    let place = subst (λ xs. IsDown (is_below oldest.number) xs → c.below-place.result ≡ prefix_len (is_below oldest.number) xs) c.deref-in-Some.ensures c.below-place.ensures.value (numbers_down next oldest.number rows c.requires.numbered.1) in
+    let index = subst (λ xs. IsDown (is_below oldest.number) xs → c.below-index.result ≡ prefix_len (is_below oldest.number) xs) c.deref-in-Some.ensures c.below-index.ensures.value (numbers_down next oldest.number rows c.requires.numbered.1) in
     let at = c.in-Some.ensures ∙ ap (λ xs. slice_get xs c.before-first.result) c.deref-3.ensures in
-    let left = oldest_leaves columns next rows parts row oldest c.before-first.result c.below-place.result c.requires.numbered.1 c.requires.parted first place at some in
+    let left = oldest_leaves columns next rows parts row oldest c.before-first.result c.below-index.result c.requires.numbered.1 c.requires.parted first index at some in
     left.within
 
 pub returns-clause-rows : goal.returns-clause-rows
@@ -58,13 +58,13 @@ returns-clause-rows c =
     let behind = subst (λ xs. IsDown (is_before columns key true) xs → c.before-behind.result ≡ prefix_len (is_before columns key true) xs) c.deref-2.ensures c.before-behind.ensures.value (c.requires.parted.sorted key true) in
     let many : c.args.count ≤ count_part columns row (map row_in rows) = omega (arith, first, behind, between columns rows parts row c.requires.parted, c.saturating_sub.ensures, c.get.ensures.value, c.if-saturating_sub-get.false) in
     let some : 0 < count_part columns row (map row_in rows) = omega (arith, many, c.get.ensures.value, c.get.ensures.positive) in
-    let place = subst (λ xs. IsDown (is_below oldest.number) xs → c.below-place.result ≡ prefix_len (is_below oldest.number) xs) c.deref-in-Some.ensures c.below-place.ensures.value (numbers_down next oldest.number rows c.requires.numbered.1) in
+    let index = subst (λ xs. IsDown (is_below oldest.number) xs → c.below-index.result ≡ prefix_len (is_below oldest.number) xs) c.deref-in-Some.ensures c.below-index.ensures.value (numbers_down next oldest.number rows c.requires.numbered.1) in
     let at = c.in-Some.ensures ∙ ap (λ xs. slice_get xs c.before-first.result) c.deref-3.ensures in
-    let left = oldest_leaves columns next rows parts row oldest c.before-first.result c.below-place.result c.requires.numbered.1 c.requires.parted first place at some in
+    let left = oldest_leaves columns next rows parts row oldest c.before-first.result c.below-index.result c.requires.numbered.1 c.requires.parted first index at some in
     ap (map row_in) c.in_ok-rows-in-Some.ensures ∙ left.rest ∙ sym (stays_many columns c.args.count row (map row_in rows) many)
 
 pub returns-clause-numbered : goal.returns-clause-numbered
-returns-clause-numbered c = λ next rise. subst (AreNumbered next) (sym c.in_ok-rows-in-Some.ensures) (numbers_remove next (arc_value c.args.rows) c.below-place.result rise)
+returns-clause-numbered c = λ next rise. subst (AreNumbered next) (sym c.in_ok-rows-in-Some.ensures) (numbers_remove next (arc_value c.args.rows) c.below-index.result rise)
 
 pub returns-clause-parted : goal.returns-clause-parted
 returns-clause-parted c =
@@ -79,12 +79,12 @@ returns-clause-parted c =
     let behind = subst (λ xs. IsDown (is_before columns key true) xs → c.before-behind.result ≡ prefix_len (is_before columns key true) xs) c.deref-2.ensures c.before-behind.ensures.value (c.requires.parted.sorted key true) in
     let many : c.args.count ≤ count_part columns row (map row_in rows) = omega (arith, first, behind, between columns rows parts row c.requires.parted, c.saturating_sub.ensures, c.get.ensures.value, c.if-saturating_sub-get.false) in
     let some : 0 < count_part columns row (map row_in rows) = omega (arith, many, c.get.ensures.value, c.get.ensures.positive) in
-    let place = subst (λ xs. IsDown (is_below oldest.number) xs → c.below-place.result ≡ prefix_len (is_below oldest.number) xs) c.deref-in-Some.ensures c.below-place.ensures.value (numbers_down next oldest.number rows c.requires.numbered.1) in
+    let index = subst (λ xs. IsDown (is_below oldest.number) xs → c.below-index.result ≡ prefix_len (is_below oldest.number) xs) c.deref-in-Some.ensures c.below-index.ensures.value (numbers_down next oldest.number rows c.requires.numbered.1) in
     let at = c.in-Some.ensures ∙ ap (λ xs. slice_get xs c.before-first.result) c.deref-3.ensures in
-    let left = oldest_leaves columns next rows parts row oldest c.before-first.result c.below-place.result c.requires.numbered.1 c.requires.parted first place at some in
+    let left = oldest_leaves columns next rows parts row oldest c.before-first.result c.below-index.result c.requires.numbered.1 c.requires.parted first index at some in
     let on_rows = c.in_ok-rows-in-Some.ensures in
     let on_parts = c.in_ok-remove-in-Some.ensures in
-    subst (λ xs. AreParted columns xs (arc_value c.in_ok-remove-in-Some.field-0)) (sym on_rows) (subst (AreParted columns (remove rows c.below-place.result)) (sym on_parts) left.parted)
+    subst (λ xs. AreParted columns xs (arc_value c.in_ok-remove-in-Some.field-0)) (sym on_rows) (subst (AreParted columns (remove rows c.below-index.result)) (sym on_parts) left.parted)
 
 pub remove-requires-in-Some : goal.remove-requires-in-Some
 remove-requires-in-Some c = grind (arith, common_steps)

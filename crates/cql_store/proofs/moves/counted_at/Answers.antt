@@ -1,8 +1,8 @@
 use Rattle.std.proofs.Common.{◌+◌, drop, ap, ◌∙◌, arith, length-drop}
 use Rattle.cql_window.proofs.Ends.{before_le}
-use Rattle.cql_window.specs.Places.{end_in}
+use Rattle.cql_window.specs.Bounds.{end_in}
 use Rattle.cql_window.specs.Window.{count_before}
-use Rattle.cql_store.specs.Places.{shifted}
+use Rattle.cql_store.specs.Sequence.{shifted}
 use Rattle.cql_store.proofs.Later.{counted_on, fit_counted}
 use Rattle.cql_store.proofs.moves.counted_at.Goals as goal
 

@@ -7,7 +7,7 @@ use Rattle.cql_store.proofs.Search.{before_at, past_at}
 use Rattle.cql_store.proofs.moves.rows_between.Goals.{After-at}
 use Rattle.cql_store.proofs.moves.rows_between.Goals as goal
 
--- the stretch has as many rows as its places say
+-- the stretch has as many rows as its numbers say
 long : (rows : List Element) (from to : ℕ) → from ≤ to → to ≤ length rows → length (take (to - from) (drop from rows)) ≡ to - from
 long rows from to order within = omega (arith, length-take (to - from) (drop from rows), length-drop from rows, order, within)
 

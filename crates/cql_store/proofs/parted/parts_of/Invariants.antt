@@ -4,5 +4,5 @@ use Rattle.cql_store.specs.Parts.{AreParted}
 use Rattle.cql_store.proofs.parted.parts_of.Given as goal
 
 -- the rows so far
-abbrev pub invariant-loop-place : goal.invariant-loop-place
-invariant-loop-place l = (l.place-end ≡ length (arc_value l.rows)) × AreParted l.columns (take l.place (arc_value l.rows)) (arc_value l.parts)
+abbrev pub invariant-loop-index : goal.invariant-loop-index
+invariant-loop-index l = (l.index-end ≡ length (arc_value l.rows)) × AreParted l.columns (take l.index (arc_value l.rows)) (arc_value l.parts)

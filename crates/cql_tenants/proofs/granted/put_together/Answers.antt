@@ -8,9 +8,9 @@ use Rattle.cql_tenants.proofs.granted.put_together.Goals as goal
 pub among-requires : goal.among-requires
 among-requires c =
     let old = c.args.all.now in
-    let place = c.loop-place.place in
-    let grant : Grant = c.index-as_slice-place.result in
-    let read : grant ≡ get_or old place grant = c.index-as_slice-place.is ∙ (λ k. get_or (c.as_slice.ensures k) place grant) ∙ (λ k. get_or (c.loop-place.invariant k) place grant) in
-    ap (λ pack. slice_get pack (place - c.args.from)) c.requires.pack
-    ∙ standing shown_of old c.args.from c.args.end place grant c.loop-place.auto.place c.loop-place-test.true c.requires.within
+    let index = c.loop-index.index in
+    let grant : Grant = c.index-as_slice-index.result in
+    let read : grant ≡ get_or old index grant = c.index-as_slice-index.is ∙ (λ k. get_or (c.as_slice.ensures k) index grant) ∙ (λ k. get_or (c.loop-index.invariant k) index grant) in
+    ap (λ pack. slice_get pack (index - c.args.from)) c.requires.pack
+    ∙ standing shown_of old c.args.from c.args.end index grant c.loop-index.auto.index c.loop-index-test.true c.requires.within
     ∙ ap (λ (g : Grant). Some (shown_of g)) (sym read)

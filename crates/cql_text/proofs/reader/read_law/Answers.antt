@@ -1,4 +1,4 @@
-use Rattle.cql_text.proofs.Places.{read_found, read_only, read_refused}
+use Rattle.cql_text.proofs.Offsets.{read_found, read_only, read_refused}
 use Rattle.cql_text.proofs.reader.read_law.Goals as goal
 
 pub returns : goal.returns

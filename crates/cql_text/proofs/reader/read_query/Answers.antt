@@ -1,4 +1,4 @@
-use Rattle.cql_text.proofs.Places.{answer_found, answer_only, answer_refused}
+use Rattle.cql_text.proofs.Offsets.{answer_found, answer_only, answer_refused}
 use Rattle.cql_text.proofs.reader.read_query.Goals as goal
 
 pub returns-clause-found : goal.returns-clause-found

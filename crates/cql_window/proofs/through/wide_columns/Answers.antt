@@ -6,8 +6,8 @@ use Rattle.cql_window.proofs.through.wide_columns.Goals as goal
 
 pub loop-column-preserved : goal.loop-column-preserved
 loop-column-preserved c =
-    c.in_ok-push_place.ensures ∙ (λ k. c.loop-column.invariant k ++ cons_option (c.at.ensures k) [])
-    ∙ sym (at_more c.args.places.now c.args.columns.now c.loop-column.column-index c.loop-column-test.true)
+    c.in_ok-push_column.ensures ∙ (λ k. c.loop-column.invariant k ++ cons_option (c.at.ensures k) [])
+    ∙ sym (at_more c.args.projection.now c.args.columns.now c.loop-column.column-index c.loop-column-test.true)
 
 pub returns : goal.returns
 returns c = grind (arith, common_steps)

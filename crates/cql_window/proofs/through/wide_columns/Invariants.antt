@@ -1,7 +1,7 @@
 use Rattle.std.proofs.Common.{◌≡◌, take}
-use Rattle.cql_window.specs.RowPlaces.{at_places}
+use Rattle.cql_window.specs.Projection.{projected}
 use Rattle.cql_window.proofs.through.wide_columns.Given as goal
 
--- the places of the columns so far
+-- where the columns so far stand in the whole row
 abbrev pub invariant-loop-column : goal.invariant-loop-column
-invariant-loop-column l = l.wide ≡ at_places l.places (take l.column-index l.columns)
+invariant-loop-column l = l.wide ≡ projected l.projection (take l.column-index l.columns)

@@ -1,7 +1,7 @@
 use Rattle.std.proofs.lemmas.Grind.{common_steps}
 use Rattle.std.proofs.Common.{◌≡◌, ◌+◌, ◌-◌, ◌≤◌, ◌<◌, ◌*◌, ◌/◌, ◌^◌, arith, rules, ap, length, drop, take, length-drop, refl}
 use Rattle.cql_chunks.specs.Chunks.{rows_of, chunk_at}
-use Rattle.cql_chunks.proofs.Rows.{place_within, chunk_of, chunk_short, one_rows, more_rows, more_chunks}
+use Rattle.cql_chunks.proofs.Rows.{index_within, chunk_of, chunk_short, one_rows, more_rows, more_chunks}
 use Rattle.cql_chunks.proofs.plain.Plain.part.Goals as goal
 
 pub copies_in-requires-clause-within : goal.copies_in-requires-clause-within
@@ -14,7 +14,7 @@ copies_in-requires-clause-within c =
     let bound : stop ≤ length rows = omega (arith, c.requires.within, held, length-drop s.gone rows, c.self.invariant.all, c.self.invariant.within) in
     let is : k ≡ chunk_of stop (length s.full.items) = search rules in
     let chunk : c.chunk_of-rest.result.now ≡ chunk_at s.full.items s.last.items k = search rules in
-    let within : stop ≤ 128 * k + length (chunk_at s.full.items s.last.items k) = rw is (place_within stop s.full.items s.last.items c.self.invariant.are_full bound) in
+    let within : stop ≤ 128 * k + length (chunk_at s.full.items s.last.items k) = rw is (index_within stop s.full.items s.last.items c.self.invariant.are_full bound) in
     rw chunk (omega (arith, within))
 
 pub copies_in-requires-2-clause-within : goal.copies_in-requires-2-clause-within
@@ -27,7 +27,7 @@ copies_in-requires-2-clause-within c =
     let bound : stop ≤ length rows = omega (arith, c.requires.within, held, length-drop s.gone rows, c.self.invariant.all, c.self.invariant.within) in
     let is : k ≡ chunk_of stop (length s.full.items) = search rules in
     let chunk : c.chunk_of-rest.result.now ≡ chunk_at s.full.items s.last.items k = search rules in
-    let within : stop ≤ 128 * k + length (chunk_at s.full.items s.last.items k) = rw is (place_within stop s.full.items s.last.items c.self.invariant.are_full bound) in
+    let within : stop ≤ 128 * k + length (chunk_at s.full.items s.last.items k) = rw is (index_within stop s.full.items s.last.items c.self.invariant.are_full bound) in
     rw chunk (omega (arith, within))
 
 pub returns-then-whole-first : goal.returns-then-whole-first

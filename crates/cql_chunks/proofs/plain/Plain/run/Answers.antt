@@ -1,7 +1,7 @@
 use Rattle.std.proofs.lemmas.Grind.{common_steps}
 use Rattle.std.proofs.Common.{◌≡◌, ◌+◌, ◌-◌, ◌≤◌, ◌<◌, ◌*◌, arith, rules, ap, ◌∙◌, length, drop, take, length-drop, length-take, refl}
 use Rattle.cql_chunks.specs.Chunks.{rows_of, chunk_at}
-use Rattle.cql_chunks.proofs.Rows.{place_before, chunk_below, chunk_of, run_rows}
+use Rattle.cql_chunks.proofs.Rows.{index_before, chunk_below, chunk_of, run_rows}
 use Rattle.cql_chunks.proofs.plain.Plain.run.Goals as goal
 
 pub part-requires-clause-order : goal.part-requires-clause-order
@@ -15,7 +15,7 @@ part-requires-clause-order c =
     let within : start < length rows = omega (arith, c.requires.order, c.requires.within, held, length-drop s.gone rows, c.self.invariant.all, c.self.invariant.within) in
     let is : k ≡ chunk_of start (length s.full.items) = search rules in
     let chunk : c.run_of-rows.result ≡ chunk_at s.full.items s.last.items k = search rules in
-    let before : start < 128 * k + length (chunk_at s.full.items s.last.items k) = rw is (place_before start s.full.items s.last.items c.self.invariant.are_full within) in
+    let before : start < 128 * k + length (chunk_at s.full.items s.last.items k) = rw is (index_before start s.full.items s.last.items c.self.invariant.are_full within) in
     let below = chunk_below start k s.full.items is in
     let long : length c.run_of-rows.result ≡ length (chunk_at s.full.items s.last.items k) = ap length chunk in
     omega (arith, c.min.ensures, long, before, below.1)
@@ -31,7 +31,7 @@ returns-clause-some c =
     let within : start < length rows = omega (arith, c.requires.order, c.requires.within, held, length-drop s.gone rows, c.self.invariant.all, c.self.invariant.within) in
     let is : k ≡ chunk_of start (length s.full.items) = search rules in
     let chunk : c.run_of-rows.result ≡ chunk_at s.full.items s.last.items k = search rules in
-    let before : start < 128 * k + length (chunk_at s.full.items s.last.items k) = rw is (place_before start s.full.items s.last.items c.self.invariant.are_full within) in
+    let before : start < 128 * k + length (chunk_at s.full.items s.last.items k) = rw is (index_before start s.full.items s.last.items c.self.invariant.are_full within) in
     let below = chunk_below start k s.full.items is in
     let long : length c.run_of-rows.result ≡ length (chunk_at s.full.items s.last.items k) = ap length chunk in
     let size : length c.part.result ≡ c.min.result - first = omega (arith, ap length c.part.ensures, length-take (c.min.result - first) (drop first c.run_of-rows.result), length-drop first c.run_of-rows.result, c.min.ensures, long, before, below.1) in
@@ -48,7 +48,7 @@ returns-clause-rows c =
     let within : start < length rows = omega (arith, c.requires.order, c.requires.within, held, length-drop s.gone rows, c.self.invariant.all, c.self.invariant.within) in
     let is : k ≡ chunk_of start (length s.full.items) = search rules in
     let chunk : c.run_of-rows.result ≡ chunk_at s.full.items s.last.items k = search rules in
-    let before : start < 128 * k + length (chunk_at s.full.items s.last.items k) = rw is (place_before start s.full.items s.last.items c.self.invariant.are_full within) in
+    let before : start < 128 * k + length (chunk_at s.full.items s.last.items k) = rw is (index_before start s.full.items s.last.items c.self.invariant.are_full within) in
     let below = chunk_below start k s.full.items is in
     let long : length c.run_of-rows.result ≡ length (chunk_at s.full.items s.last.items k) = ap length chunk in
     let size : length c.part.result ≡ c.min.result - first = omega (arith, ap length c.part.ensures, length-take (c.min.result - first) (drop first c.run_of-rows.result), length-drop first c.run_of-rows.result, c.min.ensures, long, before, below.1) in

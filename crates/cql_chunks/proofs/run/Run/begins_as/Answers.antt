@@ -42,8 +42,8 @@ returns c =
       λ is. c.are_equal.ensures.1 (same.1 (one ∙ is ∙ sym other)),
     )
 
-pub slice_bounds-are_same-end : goal.slice_bounds-are_same-end
-slice_bounds-are_same-end c = grind (arith, common_steps)
+pub slice_bounds-slices_equal-end : goal.slice_bounds-slices_equal-end
+slice_bounds-slices_equal-end c = grind (arith, common_steps)
 
-pub slice_bounds-are_same-end-then-self-eq0 : goal.slice_bounds-are_same-end-then-self-eq0
-slice_bounds-are_same-end-then-self-eq0 c = grind (arith, common_steps)
+pub slice_bounds-slices_equal-end-then-self-eq0 : goal.slice_bounds-slices_equal-end-then-self-eq0
+slice_bounds-slices_equal-end-then-self-eq0 c = grind (arith, common_steps)

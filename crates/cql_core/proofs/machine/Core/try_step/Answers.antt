@@ -5,5 +5,5 @@ use Rattle.cql_core.proofs.machine.Core.try_step.Goals as goal
 pub query-requires-clause-checked : goal.query-requires-clause-checked
 query-requires-clause-checked c = grind (arith, common_steps)
 
-pub returns-clause-step : goal.returns-clause-step
-returns-clause-step c = grind (arith, common_steps)
+pub returns-clause-tries : goal.returns-clause-tries
+returns-clause-tries c = grind (arith, common_steps)

@@ -8,8 +8,8 @@ use Rattle.cql_eval.proofs.pool.Pool.new.Goals as goal
 
 pub loop-bench-preserved : goal.loop-bench-preserved
 loop-bench-preserved g c =
-    let is = IsBench g.O.Operator.seen_in in
-    let warm = IsWarm g.O.Operator.seen_in in
+    let is = IsBench g.O.Operator.model_of in
+    let warm = IsWarm g.O.Operator.model_of in
     let b = c.in-Some.bench in
     let rest = into_iter_items c.next.new.self in
     let steps = c.in-Some.ensures.steps.0 in
@@ -20,6 +20,6 @@ loop-bench-preserved g c =
 
 pub loop-bench-init : goal.loop-bench-init
 loop-bench-init g c = record {
-  left = subst (All (IsBench g.O.Operator.seen_in)) (sym c.into_iter-bench-iterator.ensures.into_iter_gives.0) c.requires;
-  made = subst (All (IsWarm g.O.Operator.seen_in)) (sym c.in_ok-warm.ensures.items) (All-nil (IsWarm g.O.Operator.seen_in));
+  left = subst (All (IsBench g.O.Operator.model_of)) (sym c.into_iter-bench-iterator.ensures.into_iter_gives.0) c.requires;
+  made = subst (All (IsWarm g.O.Operator.model_of)) (sym c.in_ok-warm.ensures.items) (All-nil (IsWarm g.O.Operator.model_of));
 }

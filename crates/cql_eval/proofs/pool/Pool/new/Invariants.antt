@@ -7,6 +7,6 @@ use Rattle.cql_eval.proofs.pool.Pool.new.Given as goal
 -- the benches that are left are benches, and those that were taken are warm
 abbrev pub invariant-loop-bench : goal.invariant-loop-bench
 invariant-loop-bench g l = record {
-  left : All (IsBench g.O.Operator.seen_in) (into_iter_items l.bench-iterator);
-  made : All (IsWarm g.O.Operator.seen_in) l.warm.items;
+  left : All (IsBench g.O.Operator.model_of) (into_iter_items l.bench-iterator);
+  made : All (IsWarm g.O.Operator.model_of) l.warm.items;
 }

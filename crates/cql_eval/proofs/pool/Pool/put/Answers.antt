@@ -11,5 +11,5 @@ all_if P false xs x all is = all
 
 pub invariant_of-self : goal.invariant_of-self
 invariant_of-self g c =
-    let warm = IsWarm g.O.Operator.seen_in in
+    let warm = IsWarm g.O.Operator.model_of in
     subst (All warm) (sym c.push.ensures.items) (all_if warm (is_ok c.push.result) c.self.inside.benches.items (record { bench = c.args.bench.bench; kept = c.args.bench.kept; pushed = c.args.bench.pushed; used = c.args.now }) c.self.invariant (record { bench = c.requires.bench; kept = c.requires.kept }))

@@ -5,8 +5,8 @@ use Rattle.cql_tenants.proofs.directory.Directory.granting.Goals as goal
 pub returns-clause-schema : goal.returns-clause-schema
 returns-clause-schema c = grind (arith, common_steps)
 
-pub home_at-requires : goal.home_at-requires
-home_at-requires c = grind (arith, common_steps)
+pub namespace_at-requires : goal.namespace_at-requires
+namespace_at-requires c = grind (arith, common_steps)
 
 pub returns-clause-within : goal.returns-clause-within
 returns-clause-within c = grind (arith, common_steps)
@@ -14,8 +14,8 @@ returns-clause-within c = grind (arith, common_steps)
 pub returns-in_default-clause-refused : goal.returns-in_default-clause-refused
 returns-in_default-clause-refused c = grind (arith, common_steps)
 
-pub returns-clause-place : goal.returns-clause-place
-returns-clause-place c = grind (arith, common_steps)
+pub returns-clause-index : goal.returns-clause-index
+returns-clause-index c = grind (arith, common_steps)
 
 pub returns-clause-shown : goal.returns-clause-shown
 returns-clause-shown c = grind (arith, common_steps)

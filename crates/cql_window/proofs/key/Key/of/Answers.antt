@@ -4,3 +4,6 @@ use Rattle.cql_window.proofs.key.Key.of.Goals as goal
 
 pub loop-column-preserved : goal.loop-column-preserved
 loop-column-preserved c = grind (arith, common_steps)
+
+pub returns : goal.returns
+returns c = grind (arith, common_steps)

@@ -1,0 +1,338 @@
+// What a server did of late, and who came and left.
+
+use cql_core::{HeldStream, TenantId, TenantTable};
+use cql_hall::{EndReason, Gate, Kind, Point};
+use std::alloc::{AllocError, Global};
+use std::fmt;
+use std::sync::atomic::{AtomicU64, Ordering};
+use std::time::{Clock, Instant};
+
+// More than the greatest number of a refusal.
+const NUMBERS: usize = 100;
+
+/// Counts what a server does, and tells it on standard error, lines of JSON: each login, each login
+/// that was refused and each session that has ended, as it comes; and every so many seconds how many
+/// sessions are open and fetches under way, what was called and refused since the line before, how
+/// many answers went on or began anew, and of these calls the longest time that one had the lock and
+/// that a fetch took, in microseconds. Of tenants it tells their names, and nothing of what they send
+/// or are told.
+pub struct Watch<'a, R> {
+    rt: &'a R,
+    alloc: Global,
+    table: &'a TenantTable,
+    begun: Instant,
+    // Every so many seconds; at 0 nothing is counted or told.
+    every: u64,
+    seconds: AtomicU64,
+    // 1 where what is held is to be told
+    wants: AtomicU64,
+    sessions: AtomicU64,
+    fetches: AtomicU64,
+    fetching: AtomicU64,
+    // Answers by benches that went on, and by others.
+    warm: AtomicU64,
+    cold: AtomicU64,
+    // When the call under the lock entered, and the longest such time, in nanoseconds.
+    entered: AtomicU64,
+    longest_lock: AtomicU64,
+    longest_fetch: AtomicU64,
+    // By the indices of kinds, and by numbers.
+    kinds: Vec<AtomicU64>,
+    refusals: Vec<AtomicU64>,
+}
+
+impl<'a, R> Drop for Watch<'a, R> {
+    fn drop(self) {
+        let Watch {
+            rt: _,
+            alloc: _,
+            table: _,
+            begun: _,
+            every: _,
+            seconds: _,
+            wants: _,
+            sessions: _,
+            fetches: _,
+            fetching: _,
+            warm: _,
+            cold: _,
+            entered: _,
+            longest_lock: _,
+            longest_fetch: _,
+            kinds: _,
+            refusals: _,
+        } = self;
+    }
+}
+
+// What the line of a session that has ended tells of why.
+fn why(reason: EndReason) -> &'static str {
+    match reason {
+        EndReason::Caller => ",\"why\":\"caller\"",
+        EndReason::Refused => ",\"why\":\"refused\"",
+        EndReason::Login => ",\"why\":\"login\"",
+        EndReason::Idle => ",\"why\":\"idle\"",
+        EndReason::Fault => ",\"why\":\"fault\"",
+    }
+}
+
+// So many counts of nothing.
+fn no_counts(alloc: Global, many: usize) -> Result<Vec<AtomicU64>, AllocError> {
+    let mut counts = Vec::with_capacity(alloc, many)?;
+    for _ in 0..many {
+        counts.push(AtomicU64::new(0))?;
+    }
+    Ok(counts)
+}
+
+// One more at an index.
+fn count_at(counts: &[AtomicU64], index: usize) {
+    if let Some(it) = counts.get(index) {
+        count(it);
+    }
+}
+
+// The count at an index, which begins anew.
+fn taken_at(counts: &[AtomicU64], index: usize) -> u64 {
+    match counts.get(index) {
+        Some(count) => count.swap(0, Ordering::SeqCst),
+        None => 0,
+    }
+}
+
+// One more.
+fn count(count: &AtomicU64) {
+    count.fetch_add(1, Ordering::SeqCst);
+}
+
+impl<'a, R: Clock + Eprint> Watch<'a, R> {
+    /// One that tells every so many seconds, or never at 0; none where the clock can't be read or
+    /// there is no memory.
+    pub fn new(
+        rt: &'a R,
+        alloc: Global,
+        table: &'a TenantTable,
+        every: u32,
+    ) -> Option<Watch<'a, R>> {
+        let Ok(begun) = Instant::now(rt) else {
+            return None;
+        };
+        let Ok(kinds) = no_counts(alloc, Kind::ALL.len()) else {
+            return None;
+        };
+        let Ok(refusals) = no_counts(alloc, NUMBERS) else {
+            return None;
+        };
+        Some(Watch {
+            rt,
+            alloc,
+            table,
+            begun,
+            every: u64::from(every),
+            seconds: AtomicU64::new(0),
+            wants: AtomicU64::new(0),
+            sessions: AtomicU64::new(0),
+            fetches: AtomicU64::new(0),
+            fetching: AtomicU64::new(0),
+            warm: AtomicU64::new(0),
+            cold: AtomicU64::new(0),
+            entered: AtomicU64::new(0),
+            longest_lock: AtomicU64::new(0),
+            longest_fetch: AtomicU64::new(0),
+            kinds,
+            refusals,
+        })
+    }
+
+    // Tells what happened of a tenant, whose name is null where there is none.
+    fn tell(&self, event: &str, tenant: Option<TenantId>, more: &str) {
+        let _ = match self.name_of(tenant) {
+            Some(name) => eprintln!(self.rt; "{{\"{event}\":\"{name}\"{more}}}"),
+            None => eprintln!(self.rt; "{{\"{event}\":null{more}}}"),
+        };
+    }
+
+    fn name_of(&self, tenant: Option<TenantId>) -> Option<&str> {
+        let tenant = self.table.tenants().get(tenant?.index())?;
+        Some(tenant.name.as_str())
+    }
+
+    // The nanoseconds since it was made; 0 where the clock can't be read.
+    fn now(&self) -> u64 {
+        match self.begun.elapsed(self.rt) {
+            Ok(gone) => u64::try_from(gone.as_nanos()).unwrap_or(u64::MAX),
+            Err(_) => 0,
+        }
+    }
+
+    // The call under the lock is about to let it go. Nobody else writes these numbers meanwhile.
+    fn stepped(&self) {
+        let took = self
+            .now()
+            .saturating_sub(self.entered.load(Ordering::SeqCst));
+        if took > self.longest_lock.load(Ordering::SeqCst) {
+            self.longest_lock.store(took, Ordering::SeqCst);
+        }
+    }
+
+    // A call of the kind begins.
+    fn asked(&self, kind: Kind) {
+        count_at(self.kinds.as_slice(), kind.index());
+        if kind == Kind::Fetch {
+            count(&self.fetching);
+        }
+    }
+
+    // The reply of a fetch is made that began then.
+    fn fetched(&self, begun: u64) {
+        self.fetching.fetch_sub(1, Ordering::SeqCst);
+        let took = self.now().saturating_sub(begun);
+        self.longest_fetch.fetch_max(took, Ordering::SeqCst);
+    }
+
+    // Tells the counts where it is time.
+    fn second(&self) {
+        let seconds = self.seconds.fetch_add(1, Ordering::SeqCst).wrapping_add(1);
+        if seconds < self.every {
+            return;
+        }
+        self.seconds.store(0, Ordering::SeqCst);
+        self.wants.store(1, Ordering::SeqCst);
+        self.tell_counts();
+    }
+
+    // Tells the counts, which begin anew.
+    fn tell_counts(&self) {
+        let Ok((calls, commands)) = commands_of(self.alloc, self.kinds.as_slice()) else {
+            return;
+        };
+        let Ok(refused) = refusals_of(self.alloc, self.refusals.as_slice()) else {
+            return;
+        };
+        let Ok(numbers) = numbers_of(self.alloc, &self.numbers(calls)) else {
+            return;
+        };
+        let _ = eprintln!(self.rt;
+            "{{{numbers},\"commands\":{{{commands}}},\"refused\":{{{refused}}}}}"
+        );
+    }
+
+    // The line's numbers by their words; but for those of what is under way they begin anew.
+    fn numbers(&self, calls: u64) -> [(&'static str, u64); 8] {
+        [
+            ("sessions", self.sessions.load(Ordering::SeqCst)),
+            ("calls", calls),
+            ("fetches", self.fetches.swap(0, Ordering::SeqCst)),
+            ("fetching", self.fetching.load(Ordering::SeqCst)),
+            ("warm", self.warm.swap(0, Ordering::SeqCst)),
+            ("cold", self.cold.swap(0, Ordering::SeqCst)),
+            (
+                "lock_us",
+                self.longest_lock.swap(0, Ordering::SeqCst) / 1000,
+            ),
+            (
+                "answer_us",
+                self.longest_fetch.swap(0, Ordering::SeqCst) / 1000,
+            ),
+        ]
+    }
+}
+
+// Numbers by their words.
+fn numbers_of(alloc: Global, numbers: &[(&'static str, u64)]) -> Result<String, AllocError> {
+    let mut members = String::new(alloc);
+    for (word, count) in numbers {
+        push_member(&mut members, *word, *count)?;
+    }
+    Ok(members)
+}
+
+// Adds a member to the members of an object.
+fn push_member<K: fmt::Display + Drop>(
+    members: &mut String,
+    key: K,
+    count: u64,
+) -> Result<(), AllocError> {
+    let comma = if members.is_empty() { "" } else { "," };
+    write!(members, "{comma}\"{key}\":{count}")
+}
+
+// How many calls there are, and their counts by their kinds, without those of which there are none.
+// The counts begin anew.
+fn commands_of(alloc: Global, counts: &[AtomicU64]) -> Result<(u64, String), AllocError> {
+    let mut calls: u64 = 0;
+    let mut members = String::new(alloc);
+    for kind in Kind::ALL.iter() {
+        let count = taken_at(counts, kind.index());
+        if count > 0 {
+            calls = calls.saturating_add(count);
+            push_member(&mut members, kind.word(), count)?;
+        }
+    }
+    Ok((calls, members))
+}
+
+// The counts of refusals by their numbers, without those of which there are none, which begin anew.
+fn refusals_of(alloc: Global, counts: &[AtomicU64]) -> Result<String, AllocError> {
+    let mut members = String::new(alloc);
+    for (number, count) in counts.iter().enumerate() {
+        let count = count.swap(0, Ordering::SeqCst);
+        if count > 0 {
+            push_member(&mut members, number, count)?;
+        }
+    }
+    Ok(members)
+}
+
+// The rows held of streams by their names.
+fn held_of(alloc: Global, streams: &[HeldStream]) -> Result<String, AllocError> {
+    let mut members = String::new(alloc);
+    for stream in streams {
+        push_member(&mut members, stream.name.as_str(), stream.rows)?;
+    }
+    format!(in alloc; ",\"held\":{{{members}}}")
+}
+
+impl<'a, R: Clock + Eprint + Sync> Gate for Watch<'a, R> {
+    fn at(&self, point: Point) {
+        if self.every == 0 {
+            return;
+        }
+        match point {
+            Point::Opened => count(&self.sessions),
+            Point::LoggedIn(tenant) => self.tell("login", Some(tenant), ""),
+            Point::NotLoggedIn(tenant) => {
+                count_at(self.refusals.as_slice(), 13);
+                self.tell("refused_login", tenant, "");
+            }
+            Point::Closed(tenant, reason) => {
+                self.sessions.fetch_sub(1, Ordering::SeqCst);
+                self.tell("ended", tenant, why(reason));
+            }
+            Point::Asked(kind) => self.asked(kind),
+            Point::Entered => self.entered.store(self.now(), Ordering::SeqCst),
+            Point::Stepped => self.stepped(),
+            Point::Pinned => count(&self.fetches),
+            Point::Answered => {}
+            Point::Fetched(begun) => self.fetched(begun),
+            Point::Computed(true) => count(&self.warm),
+            Point::Computed(false) => count(&self.cold),
+            Point::Refused(number) => count_at(self.refusals.as_slice(), number as usize),
+            Point::Second => self.second(),
+        }
+    }
+
+    fn nanos(&self) -> u64 {
+        if self.every == 0 { 0 } else { self.now() }
+    }
+
+    fn wants_held(&self) -> bool {
+        self.wants.swap(0, Ordering::SeqCst) == 1
+    }
+
+    fn held(&self, owner: TenantId, streams: &[HeldStream]) {
+        if let Ok(rows) = held_of(self.alloc, streams) {
+            self.tell("owner", Some(owner), rows.as_str());
+        }
+    }
+}

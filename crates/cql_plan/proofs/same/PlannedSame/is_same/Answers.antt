@@ -1,6 +1,0 @@
-use Rattle.std.proofs.lemmas.Grind.{common_steps}
-use Rattle.std.proofs.Common.{arith}
-use Rattle.cql_plan.proofs.same.PlannedSame.is_same.Goals as goal
-
-pub returns-then-is_same-3 : goal.returns-then-is_same-3
-returns-then-is_same-3 c = grind (arith, common_steps)

@@ -1,0 +1,238 @@
+// Benches that go on, which all threads borrow.
+ghost use Rattle.std.specs.Prelude.{All, IfOk, IfSome};
+ghost use Rattle.cql_ops.specs.Bench.{IsBench};
+ghost use Rattle.cql_eval.specs.Warm.{IsWarm};
+
+use crate::answers::Answers;
+use cql_core::{BenchOf, Lender, Operator, Pin, Pool, Pooled, Warm};
+use cql_ops::Cancellation;
+use crossbeam_channel::{Receiver, RecvTimeoutError};
+use std::alloc::{AllocError, Global};
+use std::sync::{Mutex, Wait};
+use std::time::{Clock, Duration, Instant};
+
+// For so many seconds a bench stands unused before what it stands for is let go of.
+const UNUSED: u64 = 40;
+
+// How often answers are looked at that may take only so long: so many times a second.
+const LOOKS: u64 = 4;
+
+/// A pool that threads share.
+pub struct SharedPool<O: Operator> {
+    alloc: Global,
+    pool: Mutex<Pool<O>>,
+    count: usize,
+    begun: Instant,
+    answers: Answers,
+}
+
+impl<O: Operator> Drop for SharedPool<O> {
+    fn drop(self) {
+        let SharedPool {
+            alloc: _,
+            pool: _,
+            count: _,
+            begun: _,
+            answers: _,
+        } = self;
+    }
+}
+
+impl<O: Operator> SharedPool<O> {
+    /// Of these benches, none of which stands for a query, for threads whose answers are these.
+    pub fn new<R: Clock>(
+        rt: &R,
+        alloc: Global,
+        benches: Vec<BenchOf<O>>,
+        answers: Answers,
+    ) -> Result<SharedPool<O>, AllocError>
+        requires { All (IsBench O.model_of) benches.items }
+    {
+        let count = benches.len();
+        let benches = with_flags(alloc, benches, &answers)?;
+        let pool = Pool::new(alloc, benches)?;
+        let Ok(begun) = Instant::now(rt) else {
+            return Err(AllocError);
+        };
+        Ok(SharedPool {
+            alloc,
+            pool: Mutex::new(pool),
+            count,
+            begun,
+            answers,
+        })
+    }
+
+    // The seconds since it was made; 0 where the clock can't be read.
+    fn seconds<R: Clock>(&self, rt: &R) -> u64 {
+        match self.begun.elapsed(rt) {
+            Ok(gone) => gone.as_secs(),
+            Err(_) => 0,
+        }
+    }
+
+    // Takes out a bench that stands for a query and that nobody used of late.
+    fn take_unused<R: Wait + Clock>(&self, rt: &R) -> Option<Warm<O>>
+        ensures { IfSome result (IsWarm O.model_of) }
+    {
+        let since = self.seconds(rt).saturating_sub(UNUSED);
+        self.pool.lock(rt).take_unused(since)
+    }
+
+    fn put<R: Wait + Clock>(&self, rt: &R, bench: Warm<O>)
+        requires { IsWarm O.model_of bench }
+    {
+        let now = self.seconds(rt);
+        self.pool.lock(rt).put(bench, now);
+    }
+
+    /// What benches that nobody used of late stand for is let go of, outside the lock.
+    pub fn sweep<R: Wait + Clock>(&self, rt: &R) {
+        for _ in 0..self.count {
+            let Some(mut bench) = self.take_unused(rt) else {
+                return;
+            };
+            bench.clear(self.alloc);
+            self.put(rt, bench);
+        }
+    }
+
+    /// Waits for a second, and gives up late answers meanwhile. Whether the sender is still there.
+    pub fn second<R: Wait + Clock>(&self, rt: &R, stopped: &Receiver<()>) -> bool {
+        let (looks, pause) = if self.answers.are_limited() {
+            (LOOKS, 1000 / LOOKS)
+        } else {
+            (1, 1000)
+        };
+        for _ in 0..looks {
+            match stopped.recv_timeout(rt, Duration::from_millis(pause)) {
+                Err(RecvTimeoutError::Timeout) => self.answers.give_up_late(rt),
+                _ => return false,
+            }
+        }
+        true
+    }
+}
+
+// Where answers may take only so long, each bench heeds a flag of its own from now on.
+fn with_flags<O: Operator>(
+    alloc: Global,
+    benches: Vec<BenchOf<O>>,
+    answers: &Answers,
+) -> Result<Vec<BenchOf<O>>, AllocError>
+    requires { All (IsBench O.model_of) benches.items }
+    ensures { IfOk result (λ v. All (IsBench O.model_of) v.items) }
+{
+    if !answers.are_limited() {
+        return Ok(benches);
+    }
+    let mut all = Vec::with_capacity(alloc, benches.len())?;
+    for bench in benches {
+        let one = with_flag(alloc, bench)?;
+        all.push(one)?;
+    }
+    Ok(all)
+}
+
+// The bench, which heeds a flag of its own.
+fn with_flag<O: Operator>(alloc: Global, bench: BenchOf<O>) -> Result<BenchOf<O>, AllocError>
+    requires { IsBench O.model_of bench }
+    ensures { IfOk result (IsBench O.model_of) }
+{
+    let mut bench = bench;
+    bench.heed(Cancellation::new(alloc)?)?;
+    Ok(bench)
+}
+
+/// Borrows benches of a shared pool for a thread, and tells which of them, or whether the thread's
+/// own bench, computes its answer.
+#[derive(Drop)]
+pub struct Borrower<'a, R, O: Operator> {
+    rt: &'a R,
+    shared: &'a SharedPool<O>,
+    // the thread's index
+    thread: usize,
+    // the flag of the thread's own bench
+    own: Cancellation,
+}
+
+impl<R: Wait + Clock, O: Operator> Borrower<'_, R, O> {
+    // The bench of this flag begins an answer.
+    fn begin(&self, flag: &Cancellation) {
+        self.shared.answers.begin(self.rt, self.thread, flag);
+    }
+}
+
+impl<'a, R: Wait + Clock, O: Operator> Lender<O> for Borrower<'a, R, O> {
+    fn lend(&mut self, alloc: Global, pin: &Pin) -> Option<Warm<O>> {
+        let lent = self.shared.pool.lock(self.rt).take(alloc, pin);
+        match lent {
+            Some(bench) => {
+                self.begin(bench.cancellation());
+                Some(bench)
+            }
+            None => {
+                self.begin(&self.own);
+                None
+            }
+        }
+    }
+
+    // The slot is left before another thread may borrow the bench.
+    fn take_back(&mut self, bench: Warm<O>)
+        requires { IsWarm O.model_of bench }
+    {
+        self.shared.answers.end(self.rt, self.thread);
+        self.shared.put(self.rt, bench);
+    }
+}
+
+/// What answers in a thread: a bench of its own, and those of a shared pool.
+pub type Borrowing<'a, R, O> = Pooled<O, Borrower<'a, R, O>>;
+
+/// One for each bench.
+pub fn borrowing<'a, R, O>(
+    rt: &'a R,
+    alloc: Global,
+    own: Vec<BenchOf<O>>,
+    shared: &'a SharedPool<O>,
+) -> Result<Vec<Borrowing<'a, R, O>>, AllocError>
+where
+    R: Wait + Clock,
+    O: Operator,
+    requires { All (IsBench O.model_of) own.items }
+    ensures { IfOk result (λ v. All (λ p. IsBench O.model_of p.cold) v.items) }
+{
+    let benches = with_flags(alloc, own, &shared.answers)?;
+    let mut all = Vec::with_capacity(alloc, benches.len())?;
+    for bench in benches {
+        let one = borrowing_of(rt, bench, shared, all.len())?;
+        all.push(one)?;
+    }
+    Ok(all)
+}
+
+// The one of the thread of this index.
+fn borrowing_of<'a, R, O>(
+    rt: &'a R,
+    bench: BenchOf<O>,
+    shared: &'a SharedPool<O>,
+    thread: usize,
+) -> Result<Borrowing<'a, R, O>, AllocError>
+where
+    R: Wait + Clock,
+    O: Operator,
+    requires { IsBench O.model_of bench }
+    ensures { IfOk result (λ p. IsBench O.model_of p.cold) }
+{
+    let own = bench.cancellation().share()?;
+    Ok(Pooled::new(
+        bench,
+        Borrower {
+            rt,
+            shared,
+            thread,
+            own,
+        },
+    ))
+}

@@ -1,0 +1,219 @@
+// What the stubs need of the store's rows, without a look at them.
+ghost use Rattle.std.specs.Prelude.{◌≡◌, ◌≤◌, ◌<◌, ◌+◌, [], IfSome, IfNone, IsSome, IsTrue, OnOk, Some, length, set, slice_index, map, drop};
+ghost use Rattle.std.specs.List.{All, Contains};
+ghost use Rattle.cql_bag.specs.Levels.{changed_where};
+ghost use Rattle.cql_store.specs.declared.stub.Stub.{Stub as StubValue};
+ghost use Rattle.cql_store.specs.Sequence.{greatest, AreLonger, AreKnown, AreOf, AreWithin, IsKnown, IsStore, Slots, all_shown, at_some, emptied, limit_at, marked, live_count, slot_of};
+
+use crate::stub::{Stub, mark};
+use cql_bag::MinTree;
+use cql_chunks::{Chunks, Waste};
+use slab::Slab;
+use std::alloc::{AllocError, Global};
+use std::marker::Model;
+
+// So many stubs that an append overruns are marked one by one.
+const FEW: usize = 64;
+
+// Or such a share of all stubs, where that is more. One by one they take less than a walk over all.
+const SHARE: usize = 64;
+
+/// By slot, the first row that its stub needs, and how many rows may have come before the stub has
+/// one too many. Where no stub lives both are the greatest number.
+#[derive(Drop)]
+pub(crate) struct RetentionIndex {
+    pub(crate) firsts: MinTree,
+    pub(crate) limits: MinTree,
+}
+
+impl RetentionIndex {
+    /// No slots.
+    pub(crate) fn new(alloc: Global) -> RetentionIndex
+        ensures firsts { result.firsts ≡ [] }
+        ensures limits { result.limits ≡ [] }
+    {
+        RetentionIndex {
+            firsts: MinTree::new(alloc),
+            limits: MinTree::new(alloc),
+        }
+    }
+
+    /// Makes room for each slot up to this one.
+    pub(crate) fn reach(&mut self, alloc: Global, slot: usize) -> Result<(), AllocError>
+        ensures firsts { AreLonger self.old.firsts self.new.firsts }
+        ensures limits { AreLonger self.old.limits self.new.limits }
+        ensures has_first { OnOk result (slot < length self.new.firsts) }
+        ensures has_limit { OnOk result (slot < length self.new.limits) }
+    {
+        reach_in(&mut self.firsts, alloc, slot)?;
+        reach_in(&mut self.limits, alloc, slot)
+    }
+
+    /// Changes the numbers of a slot. This takes no memory.
+    pub(crate) fn put(&mut self, slot: usize, first: u64, limit: u64)
+        requires has_first { slot < length self.old.firsts }
+        requires has_limit { slot < length self.old.limits }
+        ensures firsts { self.new.firsts ≡ set self.old.firsts slot first }
+        ensures limits { self.new.limits ≡ set self.old.limits slot limit }
+    {
+        self.firsts.set(slot, first);
+        self.limits.set(slot, limit);
+    }
+
+    /// The first row that some stub needs, or the greatest number.
+    pub(crate) fn first(&self) -> u64
+        ensures low { All (λ n. result ≤ n) self.now.firsts }
+        ensures met { result < greatest → Contains self.now.firsts result }
+    {
+        match self.firsts.least() {
+            Some(first) => first,
+            None => u64::MAX,
+        }
+    }
+
+    /// A slot whose stub has one too many where so many rows have come.
+    pub(crate) fn overdue(&self, count: u64) -> Option<usize>
+        ensures some { IfSome result (λ slot. (slot < length self.now.limits) × (slice_index self.now.limits slot < count)) }
+        ensures none { IfNone result (All (λ n. count ≤ n) self.now.limits) }
+    {
+        self.limits.below(count)
+    }
+
+    /// So many stubs are worth no walk over all.
+    pub(crate) fn few(&self) -> usize {
+        FEW.max(self.limits.len() / SHARE)
+    }
+
+    /// The numbers of each slot whose stub has one too many where so many rows have come become the
+    /// greatest, in one walk over all slots. This takes no memory.
+    pub(crate) fn lift(&mut self, count: u64)
+        ensures firsts { self.new.firsts ≡ changed_where self.old.limits count greatest self.old.firsts }
+        ensures limits { self.new.limits ≡ changed_where self.old.limits count greatest self.old.limits }
+    {
+        self.firsts
+            .set_where(self.limits.numbers(), count, u64::MAX);
+        self.limits.set_below(count, u64::MAX);
+    }
+}
+
+// Makes room for each slot up to this one, with the greatest number.
+fn reach_in(numbers: &mut MinTree, alloc: Global, slot: usize) -> Result<(), AllocError>
+    ensures same { AreLonger numbers.old numbers.new }
+    ensures has { OnOk result (slot < length numbers.new) }
+{
+    while numbers.len() <= slot {
+        numbers.push(alloc, u64::MAX)?;
+    }
+    Ok(())
+}
+
+// Marks the stub of a slot that has one too many.
+fn mark_one(
+    stubs: &mut Slab<Stub>,
+    retention: &mut RetentionIndex,
+    waste: &mut Waste,
+    slot: usize,
+    count: u64,
+)
+    requires known { AreKnown stubs.old.slots retention.old.firsts retention.old.limits }
+    requires slot { slot < length retention.old.limits }
+    requires over { slice_index retention.old.limits slot < count }
+    ensures marked { map (at_some (marked count)) stubs.new.slots ≡ map (at_some (marked count)) stubs.old.slots }
+    ensures known { AreKnown stubs.new.slots retention.new.firsts retention.new.limits }
+    ensures within { AreWithin stubs.old.slots → AreWithin stubs.new.slots }
+    ensures fewer { live_count stubs.new.slots < live_count stubs.old.slots }
+{
+    match stubs.get_mut(slot) {
+        Some(stub) => mark(stub, waste),
+        None => unreachable!(),
+    }
+    retention.put(slot, u64::MAX, u64::MAX);
+}
+
+// Marks stubs that have more than they may hold where so many rows have come, one by one: all of
+// them where they are few. It looks at no other stub, and tells whether none is left.
+fn mark_few(
+    stubs: &mut Slab<Stub>,
+    retention: &mut RetentionIndex,
+    waste: &mut Waste,
+    count: u64,
+) -> bool
+    requires known { AreKnown stubs.old.slots retention.old.firsts retention.old.limits }
+    requires within { AreWithin stubs.old.slots }
+    ensures marked { map (at_some (marked count)) stubs.new.slots ≡ map (at_some (marked count)) stubs.old.slots }
+    ensures known { AreKnown stubs.new.slots retention.new.firsts retention.new.limits }
+    ensures within { AreWithin stubs.new.slots }
+    ensures none { IsTrue result → All (λ n. count ≤ n) retention.new.limits }
+{
+    for _ in 0..retention.few() {
+        let Some(slot) = retention.overdue(count) else {
+            return true;
+        };
+        mark_one(stubs, retention, waste, slot, count);
+    }
+    retention.overdue(count).is_none()
+}
+
+// Marks the stub of a slot.
+fn mark_at(stubs: &mut Slab<Stub>, waste: &mut Waste, slot: usize)
+    requires { IsSome (slot_of stubs.old.slots slot) }
+    ensures { (s : StubValue) → slot_of stubs.old.slots slot ≡ Some s → stubs.new.slots ≡ set stubs.old.slots slot (Some (emptied s)) }
+{
+    match stubs.get_mut(slot) {
+        Some(stub) => mark(stub, waste),
+        None => unreachable!(),
+    }
+}
+
+// Marks each stub whose limit is below the count, in one walk over all limits.
+fn mark_slots(stubs: &mut Slab<Stub>, limits: &[u64], waste: &mut Waste, count: u64)
+    requires limits { AreOf limit_at stubs.old.slots limits.now }
+    requires within { AreWithin stubs.old.slots }
+    ensures { stubs.new.slots ≡ map (at_some (marked count)) stubs.old.slots }
+{
+    for (slot, limit) in limits.iter().enumerate() {
+        if *limit < count {
+            mark_at(stubs, waste, slot);
+        }
+    }
+}
+
+/// Marks each stub that has more than it may hold where so many rows have come. Where these are few
+/// it looks at no other stub; else it walks once over all. What the stubs kept is let go later.
+pub(crate) fn mark_all(
+    stubs: &mut Slab<Stub>,
+    retention: &mut RetentionIndex,
+    waste: &mut Waste,
+    count: u64,
+)
+    requires known { AreKnown stubs.old.slots retention.old.firsts retention.old.limits }
+    requires within { AreWithin stubs.old.slots }
+    ensures stubs { stubs.new.slots ≡ map (at_some (marked count)) stubs.old.slots }
+    ensures known { AreKnown stubs.new.slots retention.new.firsts retention.new.limits }
+{
+    if mark_few(stubs, retention, waste, count) {
+        return;
+    }
+    mark_slots(stubs, retention.limits.numbers(), waste, count);
+    retention.lift(count);
+}
+
+// Lets go of so many rows at the front.
+fn drop_front(rows: &mut Chunks, behind: usize)
+    requires { behind ≤ length rows.old }
+    ensures { rows.new ≡ drop behind rows.old }
+{
+    rows.drop_front(behind);
+}
+
+/// Lets go of the rows before the first that some stub needs. Tells how many are gone then.
+pub(crate) fn trim(rows: &mut Chunks, gone: usize, retention: &RetentionIndex) -> usize
+    requires { gone + length rows.old ≤ greatest }
+    ensures store { (slots : Slots) → IsKnown rows.old gone slots retention.now.firsts retention.now.limits → IsStore rows.new result slots retention.now.firsts retention.now.limits }
+    ensures same { (slots : Slots) → IsKnown rows.old gone slots retention.now.firsts retention.now.limits → all_shown rows.new result slots ≡ all_shown rows.old gone slots }
+{
+    let first = retention.first() as usize;
+    let behind = first.saturating_sub(gone).min(rows.len());
+    drop_front(rows, behind);
+    gone + behind
+}

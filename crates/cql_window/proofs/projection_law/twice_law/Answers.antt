@@ -1,0 +1,5 @@
+use Rattle.cql_window.proofs.ProjectionLaws as laws
+use Rattle.cql_window.proofs.projection_law.twice_law.Goals as goal
+
+pub returns : goal.returns
+returns c = laws.twice_law

@@ -39,8 +39,9 @@ test:
 	@echo 'The gate. It takes $(TEST_TIME); a line tells how far it is after each crate.'
 	@.ci/run
 
-# what the pages name, the figures of docs/READING.md, names that two things share, how large crates are, laws and their instances, and worked replies by the definitions
+# how sources are laid out, what the pages name, the figures of docs/READING.md, names that two things share, how large crates are, laws and their instances, and worked replies by the definitions
 look:
+	tests/format
 	tests/names
 	tests/reading
 	tests/homonyms

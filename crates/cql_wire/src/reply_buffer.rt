@@ -8,9 +8,9 @@ ghost use Rattle.cql_lines.specs.Watched.{inner_of, has_failed, Grows};
 
 use crate::reply::{long_line, write_fault, write_reply};
 use arrayvec::ArrayVec;
+use cql_asked::LineFault;
 use cql_core::Reply;
 use cql_lines::{Watched, WriteFault};
-use cql_asked::LineFault;
 use std::alloc::{AllocError, Global};
 use std::io::Write;
 use std::marker::Model;

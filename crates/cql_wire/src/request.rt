@@ -3,9 +3,9 @@ ghost use Rattle.cql_wire.specs.Request.{request_of};
 ghost use Rattle.cql_asked.specs.Fault.{Means};
 ghost use Rattle.cql_lines.specs.Next.{text_of};
 
+use cql_asked::{LineFault, Scratch, read_addressed};
 use cql_core::{Command, TenantId, TenantTable};
 use cql_lines::Line;
-use cql_asked::{LineFault, Scratch, read_addressed};
 use std::alloc::Global;
 
 /// The command of a line, and the tenant of the table that it is for.

@@ -8,9 +8,9 @@ ghost use Rattle.cql_wire.specs.declared.programs.TableFault.TheVariants as tabl
 ghost use Rattle.cql_wire.specs.Table.{text_of, EndsRest, TellsBehind, EndsBehind, GivesTable, GivesNone};
 
 use crate::programs::{TableFault, table_line};
+use cql_asked::{BrokenRule, TenantsFault, read_tenants};
 use cql_core::TenantTable;
 use cql_lines::Watched;
-use cql_asked::{BrokenRule, TenantsFault, read_tenants};
 use std::alloc::{AllocError, Global};
 use std::io::Read;
 

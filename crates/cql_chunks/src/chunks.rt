@@ -160,6 +160,21 @@ impl Chunks {
     }
 
     /// Rows from an index on that lie together: one at least, and none from another index on.
+    #[inline(never)]
+    pub fn near(&self, from: usize, to: usize) -> &[Timed]
+        requires order { from < to }
+        requires within { to ≤ length self.now }
+        ensures some { 0 < length result.now }
+        ensures rows { result.now ≡ take (length result.now) (drop from self.now) }
+        ensures within { from + length result.now ≤ to }
+    {
+        match &self.form {
+            Form::Plain(plain) => plain.near(from, to),
+            Form::Tree(tree) => tree.run(from).rows(),
+        }
+    }
+
+    /// The same as a run, with their words where these are known.
     pub(crate) fn run(&self, from: usize, to: usize) -> Run<'_>
         requires order { from < to }
         requires within { to ≤ length self.now }

@@ -236,6 +236,21 @@ impl Plain {
         rows.part(first, rows.len().min(first + (to - from)))
     }
 
+    /// The rows of such a run, without their words.
+    pub(crate) fn near(&self, from: usize, to: usize) -> &[Timed]
+        requires order { from < to }
+        requires within { to ≤ length self.now }
+        ensures some { 0 < length result.now }
+        ensures rows { result.now ≡ take (length result.now) (drop from self.now) }
+        ensures within { from + length result.now ≤ to }
+    {
+        let start = self.gone + from;
+        let chunk = (start / SIZE).min(self.full.len());
+        let rows = chunk_of(&self.full, &self.last, chunk);
+        let first = start - SIZE * chunk;
+        slice_in(rows, first, rows.len().min(first + (to - from)))
+    }
+
     /// The list of these rows.
     pub(crate) fn of(alloc: Global, rows: Vec<Timed>) -> Result<Plain, AllocError>
         ensures { IfOk result (λ r. r ≡ rows.items) }

@@ -73,6 +73,8 @@ impl<'a> Iterator for Stretch<'a> {
 
     ghost remaining = { item_count (λ s. s) };
 
+    // Most rows are near: what takes the next ones stays a call.
+    #[inline(always)]
     fn next(&mut self) -> Option<&'a Timed> {
         if let Some((row, rest)) = self.near.split_first() {
             self.near = rest;
@@ -81,8 +83,7 @@ impl<'a> Iterator for Stretch<'a> {
         if self.at == self.to {
             return None;
         }
-        let run = self.chunks.run(self.at, self.to);
-        let near = run.rows();
+        let near = self.chunks.near(self.at, self.to);
         self.at += near.len();
         match near.split_first() {
             Some((row, rest)) => {

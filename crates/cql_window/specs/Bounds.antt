@@ -1,5 +1,5 @@
 -- How far a walk over the elements of a pin has gone: elements have an index in content ++ unseen.
-use Rattle.std.specs.Prelude.{ℕ, ◌*◌, ◌/◌, ◌≤◌, List, ◌++◌, take}
+use Rattle.std.specs.Prelude.{◌≡◌, ℕ, ◌+◌, ◌*◌, ◌/◌, ◌^◌, ◌≤◌, ◌<◌, List, ◌++◌, drop, length, take}
 use Rattle.cql_value.specs.Element.{Element}
 use Rattle.cql_window.specs.declared.bounds.Bounds.{Bounds}
 use Rattle.cql_window.specs.declared.queues.Queues.{Queues}
@@ -57,3 +57,13 @@ pub record IsReached (p : Pinned) (cursor : ℕ) (bounds : Bounds) (queues : Que
   pub ahead : (t : ℕ) → cursor ≤ t → AreUpTo bounds (bounds_at p t)
   pub order : bounds.low ≤ bounds.high
   pub queued : HasQueues p.window (take bounds.high (p.content ++ p.unseen)) queues
+
+-- elements begin those from an index on
+abbrev pub IsFront : ℕ → List Element → List Element → Type 0
+IsFront i front xs = front ≡ take (length front) (drop i xs)
+
+-- elements that haven't come at these bounds, and such as haven't left
+pub record HasAhead (p : Pinned) (bounds : Bounds) (front rest : List Element) : Type 0 where
+  pub coming : IsFront (length p.content + bounds.seen) front (p.content ++ p.unseen)
+  pub staying : IsFront bounds.low rest (p.content ++ p.unseen)
+  pub few : length (p.content ++ p.unseen) < 2 ^ 64

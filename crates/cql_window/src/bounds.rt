@@ -1,15 +1,18 @@
 // How far a walk over the rows of a pin has gone. A row's index counts the content and then the
 // unseen rows.
-ghost use Rattle.std.specs.Prelude.{◌≡◌, ◌≤◌, ◌<◌, ◌+◌, ◌^◌, ◌++◌, nat_le, length};
+ghost use Rattle.std.specs.Prelude.{◌≡◌, ◌≤◌, ◌<◌, ◌+◌, ◌^◌, ◌++◌, [], nat_le, drop, length};
 ghost use Rattle.std.specs.List.{prefix_len};
 ghost use Rattle.cql_window.specs.Laws.{between};
-ghost use Rattle.cql_window.specs.Bounds.{bounds_at, AreUpTo};
+ghost use Rattle.cql_window.specs.Bounds.{bounds_at, AreUpTo, HasAhead, IsFront};
+ghost use Rattle.cql_window.specs.Span.{rows_of};
 ghost use Rattle.cql_window.specs.Window.{count_before};
 
-use crate::content::{end_in, whole_slides};
+use crate::content::{end_in, rows_before, whole_slides};
+use crate::span::{Part, Span};
 use crate::window::Window;
 use crate::window_pin::WindowPin;
 use cql_chunks::{Chunks, Stretch};
+use cql_value::Timed;
 
 /// The bounds that were reached. They only rise.
 #[derive(Clone, Copy)]
@@ -34,24 +37,54 @@ impl Bounds {
         }
     }
 
-    /// The bounds at a cursor, where these are not behind them: only rows from these on are looked
-    /// at.
-    pub(crate) fn at(self, pin: &WindowPin, cursor: u64) -> Bounds
-        requires { AreUpTo self (bounds_at pin.now cursor) }
-        ensures { result ≡ bounds_at pin.now cursor }
+    /// The bounds at a cursor, where these are not behind them, and rows ahead of them: only rows from
+    /// these on are looked at, and first those that are known.
+    pub(crate) fn at<'a>(
+        self,
+        pin: &'a WindowPin,
+        ahead: Ahead<'a>,
+        cursor: u64,
+    ) -> (Bounds, Ahead<'a>)
+        requires later { AreUpTo self (bounds_at pin.now cursor) }
+        requires ahead { HasAhead pin.now self ahead.coming.now ahead.staying.now }
+        ensures value { result.0 ≡ bounds_at pin.now cursor }
+        ensures ahead { HasAhead pin.now result.0 result.1.coming.now result.1.staying.now }
     {
         let window = pin.window();
         let end = end_in(window, cursor);
-        let seen = seen_before(pin.unseen(), self.seen, end);
+        let (seen, coming) = seen_before(pin, ahead.coming, self.seen, end);
         let high = pin.content().len() + whole_slides(window, seen);
-        let low = match window {
+        let none: &'a [Timed] = &[];
+        let (low, staying) = match window {
             Window::Range { length, .. } => {
-                past_before(pin.content(), pin.unseen(), self.low, length.get(), end)
+                past_before(pin, ahead.staying, self.low, length.get(), end)
             }
-            Window::Rows { count, .. } => high.saturating_sub(count.get() as usize),
-            _ => 0,
+            Window::Rows { count, .. } => (high.saturating_sub(count.get() as usize), none),
+            _ => (0, none),
         };
-        Bounds { seen, low, high }
+        (Bounds { seen, low, high }, Ahead { coming, staying })
+    }
+}
+
+/// Rows ahead of the bounds, known before they are needed: so most steps of a walk look none up.
+#[derive(Clone, Copy)]
+pub(crate) struct Ahead<'a> {
+    /// Unseen ones that haven't come.
+    pub(crate) coming: &'a [Timed],
+    /// Some that haven't left.
+    pub(crate) staying: &'a [Timed],
+}
+
+impl<'a> Ahead<'a> {
+    /// None is known.
+    pub(crate) fn none() -> Ahead<'a>
+        ensures coming { result.coming.now ≡ [] }
+        ensures staying { result.staying.now ≡ [] }
+    {
+        Ahead {
+            coming: &[],
+            staying: &[],
+        }
     }
 }
 
@@ -74,45 +107,95 @@ pub(crate) fn segment<'a>(
     (first, second)
 }
 
-// How many of the rows a range of so many ticks, seen up to before the end, no longer reaches.
-fn rows_past(rows: Stretch<'_>, ticks: u64, end: u64) -> usize
-    requires { ticks < 2 ^ 62 }
-    ensures value { result ≡ prefix_len (λ x. nat_le (x.at + ticks + 2) end) rows.entry }
-    ensures within { result ≤ length rows.entry }
-{
-    came_before(rows, end.saturating_sub(ticks + 1))
-}
-
-// The same of all rows, where there are so many at least.
-fn past_before(content: &Chunks, unseen: &Chunks, least: usize, ticks: u64, end: u64) -> usize
-    requires short { ticks < 2 ^ 62 }
-    requires least { least ≤ prefix_len (λ x. nat_le (x.at + ticks + 2) end) (content.now ++ unseen.now) }
-    ensures { result ≡ prefix_len (λ x. nat_le (x.at + ticks + 2) end) (content.now ++ unseen.now) }
-{
-    let (first, second) = segment(content, unseen, least, content.len() + unseen.len());
-    let count = first.len();
-    let past = rows_past(first, ticks, end);
-    if past < count {
-        least + past
-    } else {
-        least + past + rows_past(second, ticks, end)
-    }
-}
-
 // How many of the rows came before the end.
-fn came_before(rows: Stretch<'_>, end: u64) -> usize
+fn came_before(rows: Part<'_>, end: u64) -> usize
+    requires { length rows < 2 ^ 64 }
     ensures { result ≡ count_before end rows.entry }
 {
     rows.take_while(|row| row.at() < end).count()
 }
 
-// How many of the rows came before the end, where so many did at least.
-#[tactic(auto, using(crate::proofs::Ends::before_le))]
-fn seen_before(rows: &Chunks, least: usize, end: u64) -> usize
-    requires { least ≤ count_before end rows.now }
-    ensures value { result ≡ count_before end rows.now }
-    ensures within { result ≤ length rows.now }
-    ensures small { result < 2 ^ 63 }
+// The same of the rows from an index on.
+fn came_from(pin: &WindowPin, from: usize, end: u64) -> usize
+    requires { from ≤ length (rows_of pin.now) }
+    ensures { result ≡ count_before end (drop from (rows_of pin.now)) }
 {
-    least + came_before(rows.range(least, rows.len()), end)
+    let to = pin.content().len() + pin.unseen().len();
+    came_before(Part::new(&[], pin, Span { from, to }), end)
+}
+
+// Rows from an index on.
+fn front_at(pin: &WindowPin, from: usize) -> &[Timed]
+    requires { from ≤ length (rows_of pin.now) }
+    ensures { IsFront from result.now (rows_of pin.now) }
+{
+    let to = pin.content().len() + pin.unseen().len();
+    if from < to { pin.near(from, to) } else { &[] }
+}
+
+// The index behind the rows from an index on that came before the end, and rows from there on, where
+// such rows are known, and more are behind them.
+fn go_beyond(pin: &WindowPin, from: usize, end: u64) -> (usize, &[Timed])
+    requires from { from ≤ length (rows_of pin.now) }
+    requires few { length (rows_of pin.now) < 2 ^ 64 }
+    ensures index { result.0 ≡ from + count_before end (drop from (rows_of pin.now)) }
+    ensures front { IsFront result.0 result.1.now (rows_of pin.now) }
+{
+    let to = from + came_from(pin, from, end);
+    (to, front_at(pin, to))
+}
+
+// The same, where some of the rows from the index on are known.
+#[inline(always)]
+fn go_on<'a>(pin: &'a WindowPin, front: &'a [Timed], from: usize, end: u64) -> (usize, &'a [Timed])
+    requires from { from ≤ length (rows_of pin.now) }
+    requires front { IsFront from front.now (rows_of pin.now) }
+    requires few { length (rows_of pin.now) < 2 ^ 64 }
+    ensures index { result.0 ≡ from + count_before end (drop from (rows_of pin.now)) }
+    ensures front { IsFront result.0 result.1.now (rows_of pin.now) }
+{
+    let count = rows_before(front, end);
+    if count < front.len() {
+        (from + count, &front[count..])
+    } else {
+        go_beyond(pin, from + count, end)
+    }
+}
+
+// How many rows a range of so many ticks, seen up to before the end, no longer reaches, where there
+// are so many at least, and rows from there on.
+fn past_before<'a>(
+    pin: &'a WindowPin,
+    front: &'a [Timed],
+    least: usize,
+    ticks: u64,
+    end: u64,
+) -> (usize, &'a [Timed])
+    requires short { ticks < 2 ^ 62 }
+    requires least { least ≤ prefix_len (λ x. nat_le (x.at + ticks + 2) end) (rows_of pin.now) }
+    requires front { IsFront least front.now (rows_of pin.now) }
+    requires few { length (rows_of pin.now) < 2 ^ 64 }
+    ensures value { result.0 ≡ prefix_len (λ x. nat_le (x.at + ticks + 2) end) (rows_of pin.now) }
+    ensures front { IsFront result.0 result.1.now (rows_of pin.now) }
+{
+    go_on(pin, front, least, end.saturating_sub(ticks + 1))
+}
+
+// How many of the unseen rows came before the end, where so many did at least, and rows from there on.
+fn seen_before<'a>(
+    pin: &'a WindowPin,
+    front: &'a [Timed],
+    least: usize,
+    end: u64,
+) -> (usize, &'a [Timed])
+    requires least { least ≤ count_before end pin.now.unseen }
+    requires front { IsFront (length pin.now.content + least) front.now (rows_of pin.now) }
+    requires few { length (rows_of pin.now) < 2 ^ 64 }
+    ensures value { result.0 ≡ count_before end pin.now.unseen }
+    ensures within { result.0 ≤ length pin.now.unseen }
+    ensures front { IsFront (length pin.now.content + result.0) result.1.now (rows_of pin.now) }
+{
+    let settled = pin.content().len();
+    let (index, front) = go_on(pin, front, settled + least, end);
+    (index - settled, front)
 }

@@ -3,9 +3,7 @@ ghost use Rattle.std.specs.Prelude.{◌≡◌, ◌++◌};
 ghost use Rattle.std.specs.Iterator.{YieldsFirstRef, item_count};
 ghost use Rattle.cql_window.specs.Span.{rows_of, rows_in, IsWithin};
 
-use crate::bounds::segment;
 use crate::window_pin::WindowPin;
-use cql_chunks::Stretch;
 use cql_value::Timed;
 use std::marker::Model;
 
@@ -41,17 +39,19 @@ pub struct Moved {
 
 /// Some rows, one after another: those of a list, and then those between two indices of a pin.
 pub struct Part<'a> {
+    // The next rows.
     near: &'a [Timed],
-    first: Stretch<'a>,
-    second: Stretch<'a>,
+    pin: &'a WindowPin,
+    // The rows behind them.
+    span: Span,
 }
 
 impl<'a> Drop for Part<'a> {
     fn drop(self) {
         let Part {
             near: _,
-            first: _,
-            second: _,
+            pin: _,
+            span: _,
         } = self;
     }
 }
@@ -59,10 +59,13 @@ impl<'a> Drop for Part<'a> {
 impl<'a> Model for Part<'a> {
     ghost use Rattle.std.specs.Prelude.{◌++◌, List};
     ghost use Rattle.cql_value.specs.Element.{Element};
+    ghost use Rattle.cql_window.specs.Span.{rows_of, rows_in, IsWithin};
 
     ghost Value = { List Element };
 
-    ghost view = { λ p. p.near.now ++ (p.first ++ p.second) };
+    ghost view = { λ p. p.near.now ++ rows_in p.span (rows_of p.pin.now) };
+
+    ghost invariant = { λ p. IsWithin p.span (rows_of p.pin.now) };
 }
 
 impl<'a> Part<'a> {
@@ -71,12 +74,7 @@ impl<'a> Part<'a> {
         requires { IsWithin span (rows_of pin.now) }
         ensures { result ≡ near.now ++ rows_in span (rows_of pin.now) }
     {
-        let (first, second) = segment(pin.content(), pin.unseen(), span.from, span.to);
-        Part {
-            near,
-            first,
-            second,
-        }
+        Part { near, pin, span }
     }
 }
 
@@ -87,14 +85,24 @@ impl<'a> Iterator for Part<'a> {
 
     ghost remaining = { item_count (λ s. s) };
 
+    #[inline(always)]
     fn next(&mut self) -> Option<&'a Timed> {
         if let Some((row, rest)) = self.near.split_first() {
             self.near = rest;
             return Some(row);
         }
-        match self.first.next() {
-            Some(row) => Some(row),
-            None => self.second.next(),
+        let Span { from, to } = self.span;
+        if from == to {
+            return None;
+        }
+        let near = self.pin.near(from, to);
+        self.span.from += near.len();
+        match near.split_first() {
+            Some((row, rest)) => {
+                self.near = rest;
+                Some(row)
+            }
+            None => unreachable!(),
         }
     }
 }

@@ -17,8 +17,17 @@ pub fn row_at(alloc: Global, row: &Row, projection: &[usize]) -> Result<Row, All
     ensures { IfOk result (λ r. r ≡ projected row.now projection.now) }
 {
     if takes_all(projection, row.len()) {
-        return row.share();
+        row.share()
+    } else {
+        picked(alloc, row, projection)
     }
+}
+
+// The same by a copy of each value. It stays a call, so that a row that is shared costs little.
+#[inline(never)]
+fn picked(alloc: Global, row: &Row, projection: &[usize]) -> Result<Row, AllocError>
+    ensures { IfOk result (λ r. r ≡ projected row.now projection.now) }
+{
     let values = copies_at(alloc, row.values(), projection)?;
     Row::new(alloc, values)
 }

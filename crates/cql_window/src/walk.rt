@@ -13,7 +13,7 @@ ghost use Rattle.cql_window.specs.Window.{content, last_of_parts};
 ghost use Rattle.cql_window.specs.Walk.{IsExchange};
 
 use crate::amount::Count;
-use crate::bounds::{Bounds, segment};
+use crate::bounds::{Ahead, Bounds, segment};
 use crate::queues::Queues;
 use crate::span::{Moved, Part, Span};
 use crate::window::Window;
@@ -29,6 +29,7 @@ pub struct Walk<'a> {
     cursor: u64,
     bounds: Bounds,
     queues: Queues,
+    ahead: Ahead<'a>,
 }
 
 impl<'a> Drop for Walk<'a> {
@@ -38,6 +39,7 @@ impl<'a> Drop for Walk<'a> {
             cursor: _,
             bounds: _,
             queues: _,
+            ahead: _,
         } = self;
     }
 }
@@ -45,13 +47,13 @@ impl<'a> Drop for Walk<'a> {
 impl<'a> Model for Walk<'a> {
     ghost use Rattle.std.specs.Prelude.{◌++◌};
     ghost use Rattle.cql_window.specs.Walk.{Walked};
-    ghost use Rattle.cql_window.specs.Bounds.{held_between, IsReached};
+    ghost use Rattle.cql_window.specs.Bounds.{held_between, IsReached, HasAhead};
 
     ghost Value = { Walked };
 
     ghost view = { λ w. record { pin = w.pin.now; cursor = w.cursor; held = held_between w.pin.now.window w.bounds (w.pin.now.content ++ w.pin.now.unseen) } };
 
-    ghost invariant = { λ w. IsReached w.pin.now w.cursor w.bounds w.queues };
+    ghost invariant = { λ w. IsReached w.pin.now w.cursor w.bounds w.queues × HasAhead w.pin.now w.bounds w.ahead.coming.now w.ahead.staying.now };
 }
 
 impl<'a> Walk<'a> {
@@ -59,11 +61,13 @@ impl<'a> Walk<'a> {
     pub fn new(alloc: Global, pin: &'a WindowPin) -> Walk<'a>
         ensures { result ≡ record { pin = pin.now; cursor = 0; held = [] } }
     {
+        let _rows = pin.content().len() + pin.unseen().len();
         Walk {
             pin,
             cursor: 0,
             bounds: Bounds::start(),
             queues: Queues::new(alloc),
+            ahead: Ahead::none(),
         }
     }
 
@@ -85,8 +89,9 @@ impl<'a> Walk<'a> {
             cursor: _,
             bounds: from,
             mut queues,
+            ahead,
         } = self;
-        let to = from.at(pin, cursor);
+        let (to, ahead) = from.at(pin, ahead, cursor);
         let moved = match pin.window() {
             Window::Parts { columns, count } => {
                 let columns = columns.as_slice();
@@ -99,6 +104,7 @@ impl<'a> Walk<'a> {
             cursor,
             bounds: to,
             queues,
+            ahead,
         };
         Ok((walk, moved))
     }

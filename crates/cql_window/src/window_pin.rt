@@ -1,10 +1,11 @@
 // The rows of a window that an answer needs.
-ghost use Rattle.std.specs.Prelude.{◌≡◌};
+ghost use Rattle.std.specs.Prelude.{◌≡◌, ◌≤◌, ◌<◌, ◌+◌, drop, length, take};
 ghost use Rattle.cql_window.specs.Pin.{IsPinned};
+ghost use Rattle.cql_window.specs.Span.{rows_of};
 
 use crate::window::Window;
 use cql_chunks::Chunks;
-use cql_value::Equals;
+use cql_value::{Equals, Timed};
 use std::marker::Model;
 
 /// A window, its content at some cursor and the rows that came after, in order of their times.
@@ -70,6 +71,23 @@ impl WindowPin {
         ensures pinned { IsPinned self.now }
     {
         &self.unseen
+    }
+
+    /// Rows from an index on that lie together: one at least, and none from another index on. An
+    /// index counts the content and then the unseen rows.
+    pub(crate) fn near(&self, from: usize, to: usize) -> &[Timed]
+        requires order { from < to }
+        requires within { to ≤ length (rows_of self.now) }
+        ensures some { 0 < length result.now }
+        ensures rows { result.now ≡ take (length result.now) (drop from (rows_of self.now)) }
+        ensures within { from + length result.now ≤ to }
+    {
+        let settled = self.content.len();
+        if from < settled {
+            self.content.near(from, to.min(settled))
+        } else {
+            self.unseen.near(from - settled, to - settled)
+        }
     }
 }
 

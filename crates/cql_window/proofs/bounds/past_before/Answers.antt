@@ -1,30 +1,18 @@
-use Rattle.std.proofs.Common.{arith, ◌+◌, nat_le, length, Fits, w64}
-use Rattle.cql_window.proofs.Walked.{past_first, past_both, prefix_le}
+use Rattle.std.proofs.Common.{◌+◌, ap, ◌∙◌, arith, nat_le, drop}
+use Rattle.std.proofs.lemmas.List.Sums.{prefix_len-le-length}
+use Rattle.cql_window.specs.Span.{rows_of}
+use Rattle.cql_window.specs.Window.{count_before}
+use Rattle.cql_window.proofs.Ends.{past_is}
+use Rattle.cql_window.proofs.Walked.{prefix_rest}
 use Rattle.cql_window.proofs.bounds.past_before.Goals as goal
 
-pub segment-first-requires-clause-order : goal.segment-first-requires-clause-order
-segment-first-requires-clause-order c =
-    omega (arith, prefix_le (λ x. nat_le (x.at + c.args.ticks + 2) c.args.end) c.args.least c.args.content.now c.args.unseen.now c.requires.least, c.len.ensures.value, c.len-2.ensures.value)
+pub go_on-requires-clause-from : goal.go_on-requires-clause-from
+go_on-requires-clause-from c =
+    omega (arith, c.requires.least, prefix_len-le-length (λ x. nat_le (x.at + c.args.ticks + 2) c.args.end) (rows_of c.args.pin.now))
 
-pub overflow_add-result : goal.overflow_add-result
-overflow_add-result c =
-    let fits : Fits w64 (length c.args.content.now + length c.args.unseen.now) = omega (arith, c.len.ensures.value, c.len-2.ensures.value, c.len.ensures.small, c.len-2.ensures.small) in
-    omega (arith, c.len.ensures.value, c.len-2.ensures.value, c.segment-first.ensures.size, c.rows_past-past.ensures.within)
-
-pub overflow_add-result-else-past-count : goal.overflow_add-result-else-past-count
-overflow_add-result-else-past-count c =
-    let fits : Fits w64 (length c.args.content.now + length c.args.unseen.now) = omega (arith, c.len.ensures.value, c.len-2.ensures.value, c.len.ensures.small, c.len-2.ensures.small) in
-    omega (arith, c.len.ensures.value, c.len-2.ensures.value, c.segment-first.ensures.size, c.rows_past-past.ensures.within)
-
-pub overflow_add-result-else-past-count-2 : goal.overflow_add-result-else-past-count-2
-overflow_add-result-else-past-count-2 c =
-    let fits : Fits w64 (length c.args.content.now + length c.args.unseen.now) = omega (arith, c.len.ensures.value, c.len-2.ensures.value, c.len.ensures.small, c.len-2.ensures.small) in
-    omega (arith, c.len.ensures.value, c.len-2.ensures.value, c.segment-first.ensures.size, c.rows_past-past.ensures.within, c.rows_past.ensures.within)
-
-pub returns-then-past-count : goal.returns-then-past-count
-returns-then-past-count c =
-    past_first (λ x. nat_le (x.at + c.args.ticks + 2) c.args.end) c.args.least c.rows_past-past.result (c.len.result + c.len-2.result) c.args.content.now c.args.unseen.now c.segment-first.result.0 c.segment-first.result.1 c.requires.least c.segment-first.ensures.rows (omega (arith, c.len.ensures.value, c.len-2.ensures.value)) c.rows_past-past.ensures.value (omega (arith, c.if-past-count.true, c.len-count.ensures))
-
-pub returns-else-past-count : goal.returns-else-past-count
-returns-else-past-count c =
-    past_both (λ x. nat_le (x.at + c.args.ticks + 2) c.args.end) c.args.least c.rows_past-past.result c.rows_past.result (c.len.result + c.len-2.result) c.args.content.now c.args.unseen.now c.segment-first.result.0 c.segment-first.result.1 c.requires.least c.segment-first.ensures.rows (omega (arith, c.len.ensures.value, c.len-2.ensures.value)) c.rows_past-past.ensures.value (omega (arith, c.if-past-count.false, c.len-count.ensures)) c.rows_past.ensures.value
+pub returns-clause-value : goal.returns-clause-value
+returns-clause-value c =
+    let rest = drop c.args.least (rows_of c.args.pin.now) in
+    c.go_on.ensures.index
+    ∙ ap (λ n. c.args.least + n) (ap (λ n. count_before n rest) c.saturating_sub.ensures ∙ past_is c.args.ticks c.args.end rest)
+    ∙ prefix_rest (λ x. nat_le (x.at + c.args.ticks + 2) c.args.end) c.args.least (rows_of c.args.pin.now) c.requires.least

@@ -1,27 +1,19 @@
-use Rattle.std.proofs.Common.{◌≡◌, ◌+◌, ◌-◌, drop, ap, sym, ◌∙◌, arith, length-drop}
-use Rattle.std.proofs.lemmas.List.{take_all}
-use Rattle.cql_window.specs.Window.{count_before}
-use Rattle.cql_window.proofs.Ends.{before_rest, before_le}
-use Rattle.cql_window.proofs.bounds.seen_before.Goals.{After-came_before}
+use Rattle.std.proofs.Common.{length, ap, ◌∙◌, arith, length-append}
+use Rattle.cql_window.proofs.Ends.{before_le}
+use Rattle.cql_window.proofs.Fronts.{seen_is}
 use Rattle.cql_window.proofs.bounds.seen_before.Goals as goal
 
-cut : (c : After-came_before) → c.came_before.result ≡ count_before c.args.end (drop c.args.least c.args.rows.now)
-cut c =
-    let rest = drop c.args.least c.args.rows.now in
-    c.came_before.ensures
-    ∙ ap (count_before c.args.end) (c.range.ensures ∙ take_all (c.len.result - c.args.least) rest (omega (arith, length-drop c.args.least c.args.rows.now, c.len.ensures.value)))
+pub overflow_add-settled : goal.overflow_add-settled
+overflow_add-settled c =
+    omega (arith, c.requires.least, before_le c.args.end c.args.pin.now.unseen, length-append c.args.pin.now.content c.args.pin.now.unseen, ap length c.content.ensures.value, c.len-settled.ensures.value, c.requires.few)
 
-whole : (c : After-came_before) → c.args.least + c.came_before.result ≡ count_before c.args.end c.args.rows.now
-whole c = ap (λ n. c.args.least + n) (cut c) ∙ sym (before_rest c.args.end c.args.least c.args.rows.now c.requires)
-
-pub overflow_add-result : goal.overflow_add-result
-overflow_add-result c = omega (arith, whole c, before_le c.args.end c.args.rows.now, c.len.ensures.value, c.len.ensures.small)
+pub go_on-index-requires-clause-from : goal.go_on-index-requires-clause-from
+go_on-index-requires-clause-from c =
+    omega (arith, c.requires.least, before_le c.args.end c.args.pin.now.unseen, length-append c.args.pin.now.content c.args.pin.now.unseen, ap length c.content.ensures.value, c.len-settled.ensures.value)
 
 pub returns-clause-value : goal.returns-clause-value
-returns-clause-value c = whole c
+returns-clause-value c =
+    seen_is c.args.end c.args.least c.len-settled.result c.go_on-index.result.0 c.args.pin.now.content c.args.pin.now.unseen (c.len-settled.ensures.value ∙ ap length c.content.ensures.value) c.go_on-index.ensures.index c.requires.least
 
 pub returns-clause-within : goal.returns-clause-within
-returns-clause-within c = omega (arith, whole c, before_le c.args.end c.args.rows.now)
-
-pub returns-clause-small : goal.returns-clause-small
-returns-clause-small c = omega (arith, whole c, before_le c.args.end c.args.rows.now, c.len.ensures.value, c.len.ensures.small)
+returns-clause-within c = omega (arith, returns-clause-value c, before_le c.args.end c.args.pin.now.unseen)

@@ -83,7 +83,7 @@ pub(crate) fn evaluate<O: Operator>(
         bench.cancellation().look()?;
         left = later;
         let until = next_of(left, end);
-        shown = change(alloc, bench, pin, shown, &mut runs, &mut rows, until)?;
+        change(alloc, bench, pin, &mut shown, &mut runs, &mut rows, until)?;
     }
     let last = remember(alloc, bench, pin, shown);
     Ok((runs.finish(), 1 + instants.len() as u64, went_on, last))
@@ -187,24 +187,23 @@ fn change<'a, O: Operator>(
     alloc: Global,
     bench: &mut BenchOf<O>,
     pin: &'a Pin,
-    shown: WalkState<'a>,
+    shown: &mut WalkState<'a>,
     runs: &mut Runs,
     rows: &mut Room,
     until: u64,
-) -> Result<WalkState<'a>, AllocError>
+) -> Result<(), AllocError>
     requires bench { IsBench O.model_of bench.old }
-    requires come { HasCome pin.now runs.old.next runs.old shown.walks.items shown.last (bench_model O.model_of bench.old) }
+    requires come { HasCome pin.now runs.old.next runs.old shown.old.walks.items shown.old.last (bench_model O.model_of bench.old) }
     requires still { IsStill pin.now (runs.old.next + 1) until }
     ensures bench { IsBench O.model_of bench.new }
-    ensures come { IfOk result (λ s. HasCome pin.now until runs.new s.walks.items s.last (bench_model O.model_of bench.new)) }
+    ensures come { OnOk result (HasCome pin.now until runs.new shown.new.walks.items shown.new.last (bench_model O.model_of bench.new)) }
 {
     let at = runs.next();
-    let (walks, last) = shown.into_parts();
-    let (walks, outcome) = reach(alloc, bench, pin, walks, at + 1)?;
-    let (last, told) = tell(alloc, pin.plan().output(), last, outcome, rows)?;
+    let walks = &mut shown.walks;
+    let outcome = reach(alloc, bench, pin, walks, at + 1, &mut rows.changes)?;
+    let told = tell(alloc, pin.plan().output(), &mut shown.last, outcome, rows)?;
     take_told(pin, runs, told, until)?;
-    hold(alloc, pin, &last, runs, until)?;
-    Ok(WalkState { walks, last })
+    hold(alloc, pin, &shown.last, runs, until)
 }
 
 // The relation before the first instant that is asked for, which stays up to a later one, and whether
@@ -233,12 +232,12 @@ fn begin<'a, O: Operator>(
             return Ok((resumed, true));
         }
     }
-    let shown = nothing_shown(alloc, bench, pin)?;
+    let mut shown = nothing_shown(alloc, bench, pin)?;
     if pin.base() < pin.from() {
-        let shown = open(alloc, bench, pin, shown, pin.from())?;
+        open(alloc, bench, pin, &mut shown, pin.from())?;
         hold(alloc, pin, &shown.last, runs, until)?;
         return Ok((shown, false));
     }
-    let shown = change(alloc, bench, pin, shown, runs, rows, until)?;
+    change(alloc, bench, pin, &mut shown, runs, rows, until)?;
     Ok((shown, false))
 }

@@ -1,5 +1,5 @@
 // Walks over windows of whole rows, seen through projections.
-ghost use Rattle.std.specs.Prelude.{◌≡◌, ◌≤◌, ◌++◌, IfOk, IsTrue};
+ghost use Rattle.std.specs.Prelude.{◌≡◌, ◌≤◌, ◌++◌, IfOk, OnOk, IsTrue};
 ghost use Rattle.std.specs.List.Sorted.{IsPermutation};
 ghost use Rattle.cql_window.specs.Projection.{projected};
 ghost use Rattle.cql_window.specs.Span.{rows_of, rows_in, IsWithin};
@@ -35,22 +35,16 @@ impl<'a> Model for ProjectedWalk<'a> {
 }
 
 impl<'a> ProjectedWalk<'a> {
-    /// The walk up to a cursor that isn't below the one that it reached, and the whole rows that came
-    /// and left on the way. Without memory the walk is gone.
-    pub(crate) fn advance(
-        self,
-        alloc: Global,
-        cursor: u64,
-    ) -> Result<(ProjectedWalk<'a>, Moved), AllocError>
-        requires { self.cursor ≤ cursor }
-        ensures pin { IfOk result (λ r. r.0.pin ≡ self.entry.pin) }
-        ensures cursor { IfOk result (λ r. r.0.cursor ≡ cursor) }
-        ensures held { IfOk result (λ r. r.0.held ≡ projected_content cursor self.entry.pin) }
-        ensures moved { IfOk result (λ r. IsMove self.entry.held r.1 r.0) }
+    /// Goes on to a cursor that isn't below the one that was reached, and gives the whole rows that came
+    /// and left on the way. Without memory the walk is before its first row again.
+    pub(crate) fn advance(&mut self, alloc: Global, cursor: u64) -> Result<Moved, AllocError>
+        requires { self.old.cursor ≤ cursor }
+        ensures pin { self.new.pin ≡ self.old.pin }
+        ensures cursor { OnOk result (self.new.cursor ≡ cursor) }
+        ensures held { OnOk result (self.new.held ≡ projected_content cursor self.old.pin) }
+        ensures moved { IfOk result (λ m. IsMove self.old.held m self.new) }
     {
-        let ProjectedWalk { walk, projection } = self;
-        let (walk, moved) = walk.advance(alloc, cursor)?;
-        Ok((ProjectedWalk { walk, projection }, moved))
+        self.walk.advance(alloc, cursor)
     }
 
     /// A list's rows, and then the whole ones between two indices of the window's pin.
@@ -78,14 +72,11 @@ impl<'a> ProjectedWalk<'a> {
     ) -> Result<ProjectedWalk<'a>, AllocError>
         ensures { IfOk result (λ r. r ≡ started cursor (record { window = window.now; projection = projection.now })) }
     {
-        let walk = Walk::new(alloc, window);
-        match cursor {
-            None => Ok(ProjectedWalk { walk, projection }),
-            Some(cursor) => {
-                let walk = walk.reach(alloc, cursor)?;
-                Ok(ProjectedWalk { walk, projection })
-            }
+        let mut walk = Walk::new(alloc, window);
+        if let Some(cursor) = cursor {
+            walk.advance(alloc, cursor)?;
         }
+        Ok(ProjectedWalk { walk, projection })
     }
 
     /// Whether both hold the same rows, in order. It may say no of windows with parts. Takes no

@@ -35,16 +35,6 @@ pub(crate) struct LastTold {
     pub(crate) fault: Option<Fault>,
 }
 
-impl LastTold {
-    // The same bag, and a relation that is this fault, or none.
-    fn with_fault(self, fault: Option<Fault>) -> LastTold
-        ensures { result ≡ record { bag = self.bag; fault = fault } }
-    {
-        let LastTold { bag, fault: _ } = self;
-        LastTold { bag, fault }
-    }
-}
-
 /// Walks over the windows, and what is kept of the relation.
 pub(crate) struct WalkState<'a> {
     pub(crate) walks: Vec<ProjectedWalk<'a>>,
@@ -87,26 +77,19 @@ pub(crate) fn nothing_shown<'a, O: Operator>(
     Ok(WalkState { walks, last })
 }
 
-// What Rstream keeps and tells after changes. Here and in what calls it `rows` is room, of which nothing
-// is said.
-fn list_changes(
-    alloc: Global,
-    last: LastTold,
-    changes: Vec<Change>,
-    rows: &mut Room,
-) -> Result<(LastTold, Output), AllocError>
-    ensures { IfOk result (λ r. (told : Counts) (before : relation) → StandsFor Rstream last told before → CanChangeBy changes.items told → StandsFor Rstream r.0 (changed_by changes.items told) (bag (changed_by changes.items told)) × (r.1 ≡ output_of Rstream before (bag (changed_by changes.items told)))) }
+// What Rstream keeps and tells after changes. Here and in what calls it they are handed over in `rows`,
+// which is else room, of which nothing is said.
+fn list_changes(alloc: Global, last: &mut LastTold, rows: &mut Room) -> Result<Output, AllocError>
+    ensures { IfOk result (λ o. (told : Counts) (before : relation) → StandsFor Rstream last.old told before → CanChangeBy rows.old.changes.items told → StandsFor Rstream last.new (changed_by rows.old.changes.items told) (bag (changed_by rows.old.changes.items told)) × (o ≡ output_of Rstream before (bag (changed_by rows.old.changes.items told)))) }
 {
     same_counts();
     put_all_counts();
     take_counts();
-    let LastTold { mut bag, fault: _ } = last;
-    parted(changes, rows)?;
-    let came = mem::replace(&mut rows.came, Vec::new(alloc));
-    add_rows(&mut bag, came)?;
-    take_rows(&mut bag, &rows.left);
-    let told = Output::Rows(bag.listing(alloc)?);
-    Ok((LastTold { bag, fault: None }, told))
+    parted(rows)?;
+    add_rows(&mut last.bag, &mut rows.came)?;
+    take_rows(&mut last.bag, &rows.left);
+    last.fault = None;
+    Ok(Output::Rows(last.bag.listing(alloc)?))
 }
 
 // What the other kinds tell of rows that came and rows that left, each ascending. A list that is told
@@ -135,19 +118,14 @@ fn told_of_rows(alloc: Global, kind: OutputKind, rows: &mut Room) -> Result<Outp
 }
 
 // What the other kinds tell of changes of a bag.
-fn difference(
-    alloc: Global,
-    kind: OutputKind,
-    changes: Vec<Change>,
-    rows: &mut Room,
-) -> Result<Output, AllocError>
-    ensures { IfOk result (λ o. kind ≢ Rstream → (before : Counts) → IsBag before → CanChangeBy changes.items before → o ≡ output_of kind (bag before) (bag (changed_by changes.items before))) }
+fn difference(alloc: Global, kind: OutputKind, rows: &mut Room) -> Result<Output, AllocError>
+    ensures { IfOk result (λ o. kind ≢ Rstream → (before : Counts) → IsBag before → CanChangeBy rows.old.changes.items before → o ≡ output_of kind (bag before) (bag (changed_by rows.old.changes.items before))) }
 {
     same_counts();
     put_all_counts();
     take_counts();
     minus_counts();
-    parted(changes, rows)?;
+    parted(rows)?;
     told_of_rows(alloc, kind, rows)
 }
 
@@ -155,112 +133,121 @@ fn difference(
 fn tell_changes(
     alloc: Global,
     kind: OutputKind,
-    last: LastTold,
-    changes: Vec<Change>,
+    last: &mut LastTold,
     rows: &mut Room,
-) -> Result<(LastTold, Output), AllocError>
-    ensures { IfOk result (λ r. kind ≢ Rstream → (told : Counts) (before : relation) → StandsFor kind last told before → CanChangeBy changes.items told → StandsFor kind r.0 (changed_by changes.items told) (bag (changed_by changes.items told)) × (r.1 ≡ output_of kind before (bag (changed_by changes.items told)))) }
+) -> Result<Output, AllocError>
+    ensures { IfOk result (λ o. kind ≢ Rstream → (told : Counts) (before : relation) → StandsFor kind last.old told before → CanChangeBy rows.old.changes.items told → StandsFor kind last.new (changed_by rows.old.changes.items told) (bag (changed_by rows.old.changes.items told)) × (o ≡ output_of kind before (bag (changed_by rows.old.changes.items told)))) }
 {
     put_all_counts();
     take_counts();
     let told = match last.fault {
-        None => difference(alloc, kind, changes, rows)?,
+        None => difference(alloc, kind, rows)?,
         Some(fault) => Output::Fault(fault),
     };
-    Ok((last.with_fault(None), told))
+    last.fault = None;
+    Ok(told)
 }
 
 // What is kept and told after changes: nothing new where there are none and there was no fault.
 fn tell_all(
     alloc: Global,
     kind: OutputKind,
-    last: LastTold,
-    changes: Vec<Change>,
+    last: &mut LastTold,
     rows: &mut Room,
-) -> Result<(LastTold, Option<Output>), AllocError>
-    ensures { IfOk result (λ r. (told : Counts) (before : relation) → StandsFor kind last told before → CanChangeBy changes.items told → StandsFor kind r.0 (changed_by changes.items told) (bag (changed_by changes.items told)) × Tells kind r.1 before (bag (changed_by changes.items told))) }
+) -> Result<Option<Output>, AllocError>
+    ensures { IfOk result (λ o. (told : Counts) (before : relation) → StandsFor kind last.old told before → CanChangeBy rows.old.changes.items told → StandsFor kind last.new (changed_by rows.old.changes.items told) (bag (changed_by rows.old.changes.items told)) × Tells kind o before (bag (changed_by rows.old.changes.items told))) }
 {
-    if changes.is_empty() && last.fault.is_none() {
-        return Ok((last, None));
+    if rows.changes.is_empty() && last.fault.is_none() {
+        return Ok(None);
     }
-    let (last, told) = match kind {
-        OutputKind::Rstream => list_changes(alloc, last, changes, rows)?,
-        _ => tell_changes(alloc, kind, last, changes, rows)?,
+    let told = match kind {
+        OutputKind::Rstream => list_changes(alloc, last, rows)?,
+        _ => tell_changes(alloc, kind, last, rows)?,
     };
-    Ok((last, Some(told)))
+    Ok(Some(told))
 }
 
 // What is kept after changes, where nothing is told.
 fn keep_changes(
     alloc: Global,
     kind: OutputKind,
-    last: LastTold,
-    changes: Vec<Change>,
-) -> Result<LastTold, AllocError>
-    ensures { IfOk result (λ r. (told : Counts) (before : relation) → StandsFor kind last told before → CanChangeBy changes.items told → StandsFor kind r (changed_by changes.items told) (bag (changed_by changes.items told))) }
+    last: &mut LastTold,
+    rows: &mut Room,
+) -> Result<(), AllocError>
+    ensures { OnOk result ((told : Counts) (before : relation) → StandsFor kind last.old told before → CanChangeBy rows.old.changes.items told → StandsFor kind last.new (changed_by rows.old.changes.items told) (bag (changed_by rows.old.changes.items told))) }
 {
     put_all_counts();
     take_counts();
     match kind {
         OutputKind::Rstream => {
-            let mut rows = Room::new(alloc);
-            let (last, _) = list_changes(alloc, last, changes, &mut rows)?;
-            Ok(last)
+            list_changes(alloc, last, rows)?;
+            Ok(())
         }
-        _ => Ok(last.with_fault(None)),
+        _ => {
+            last.fault = None;
+            Ok(())
+        }
     }
 }
 
-/// What is kept and told after a bench answered.
+/// What is kept and told after a bench answered, and put its changes into `rows`.
 pub(crate) fn tell(
     alloc: Global,
     kind: OutputKind,
-    last: LastTold,
+    last: &mut LastTold,
     outcome: Outcome,
     rows: &mut Room,
-) -> Result<(LastTold, Option<Output>), AllocError>
-    ensures { IfOk result (λ r. (told after : Counts) (before now : relation) → StandsFor kind last told before → LeadsTo outcome told after now → StandsFor kind r.0 after now × Tells kind r.1 before now) }
+) -> Result<Option<Output>, AllocError>
+    ensures { IfOk result (λ o. (told after : Counts) (before now : relation) → StandsFor kind last.old told before → LeadsTo outcome rows.old.changes.items told after now → StandsFor kind last.new after now × Tells kind o before now) }
 {
     match outcome {
-        Outcome::Changed(changes) => tell_all(alloc, kind, last, changes, rows),
-        Outcome::Held(fault) => Ok((last.with_fault(Some(fault)), Some(Output::Fault(fault)))),
-        Outcome::Faulty(fault) => Ok((
-            LastTold {
-                bag: Bag::new(alloc),
-                fault: Some(fault),
-            },
-            Some(Output::Fault(fault)),
-        )),
+        Outcome::Changed => tell_all(alloc, kind, last, rows),
+        Outcome::Held(fault) => {
+            last.fault = Some(fault);
+            Ok(Some(Output::Fault(fault)))
+        }
+        Outcome::Faulty(fault) => {
+            last.bag = Bag::new(alloc);
+            last.fault = Some(fault);
+            Ok(Some(Output::Fault(fault)))
+        }
     }
 }
 
-/// What is kept after a bench answered, where nothing is told.
+/// What is kept after a bench answered, and put its changes into `rows`, where nothing is told.
 pub(crate) fn keep(
     alloc: Global,
     kind: OutputKind,
-    last: LastTold,
+    last: &mut LastTold,
     outcome: Outcome,
-) -> Result<LastTold, AllocError>
-    ensures { IfOk result (λ r. (told after : Counts) (before now : relation) → StandsFor kind last told before → LeadsTo outcome told after now → StandsFor kind r after now) }
+    rows: &mut Room,
+) -> Result<(), AllocError>
+    ensures { OnOk result ((told after : Counts) (before now : relation) → StandsFor kind last.old told before → LeadsTo outcome rows.old.changes.items told after now → StandsFor kind last.new after now) }
 {
     match outcome {
-        Outcome::Changed(changes) => keep_changes(alloc, kind, last, changes),
-        Outcome::Held(fault) => Ok(last.with_fault(Some(fault))),
-        Outcome::Faulty(fault) => Ok(LastTold {
-            bag: Bag::new(alloc),
-            fault: Some(fault),
-        }),
+        Outcome::Changed => keep_changes(alloc, kind, last, rows),
+        Outcome::Held(fault) => {
+            last.fault = Some(fault);
+            Ok(())
+        }
+        Outcome::Faulty(fault) => {
+            last.bag = Bag::new(alloc);
+            last.fault = Some(fault);
+            Ok(())
+        }
     }
 }
 
-/// Asks the bench what it tells at a cursor that the walks have reached. Where a fault left an operator
-/// spent the bench is started anew, over what the walks hold.
+/// Asks the bench what it tells at a cursor that the walks have reached: its changes take the place of
+/// what is in the list. Where a fault left an operator spent the bench is started anew, over what the
+/// walks hold.
 pub(crate) fn ask<O: Operator>(
     alloc: Global,
     bench: &mut BenchOf<O>,
     pin: &Pin,
     walks: &[ProjectedWalk<'_>],
     cursor: u64,
+    changes: &mut Vec<Change>,
 ) -> Result<Outcome, AllocError>
     requires bench { IsBench O.model_of bench.old }
     requires based { pin.now.base < cursor }
@@ -268,9 +255,9 @@ pub(crate) fn ask<O: Operator>(
     requires bags { bags_held walks.now ≡ bags_at cursor (projected_windows pin.now) }
     ensures bench { IsBench O.model_of bench.new }
     ensures ready { OnOk result (IsReady pin.now cursor walks.now (bench_model O.model_of bench.new)) }
-    ensures leads { IfOk result (λ r. LeadsTo r (told_of pin.now.plan (bench_model O.model_of bench.old)) (told_of pin.now.plan (bench_model O.model_of bench.new)) (relation_at pin.now cursor)) }
+    ensures leads { IfOk result (λ r. LeadsTo r changes.new.items (told_of pin.now.plan (bench_model O.model_of bench.old)) (told_of pin.now.plan (bench_model O.model_of bench.new)) (relation_at pin.now cursor)) }
 {
-    let outcome = bench.emit(alloc, pin.plan(), pin.limit())?;
+    let outcome = bench.emit(pin.plan(), pin.limit(), changes)?;
     match outcome {
         Outcome::Faulty(fault) => {
             restart(alloc, bench, pin, walks)?;
@@ -280,44 +267,52 @@ pub(crate) fn ask<O: Operator>(
     }
 }
 
-/// Goes on to a cursor with every walk, and asks the bench what it tells there.
+/// Goes on to a cursor with every walk, and asks the bench what it tells there: its changes take the
+/// place of what is in the list.
 pub(crate) fn reach<'a, O: Operator>(
     alloc: Global,
     bench: &mut BenchOf<O>,
     pin: &'a Pin,
-    walks: Vec<ProjectedWalk<'a>>,
+    walks: &mut Vec<ProjectedWalk<'a>>,
     cursor: u64,
-) -> Result<(Vec<ProjectedWalk<'a>>, Outcome), AllocError>
+    changes: &mut Vec<Change>,
+) -> Result<Outcome, AllocError>
     requires bench { IsBench O.model_of bench.old }
     requires based { pin.now.base < cursor }
-    requires ready { IsReady pin.now cursor walks.items (bench_model O.model_of bench.old) }
+    requires ready { IsReady pin.now cursor walks.old.items (bench_model O.model_of bench.old) }
     ensures bench { IsBench O.model_of bench.new }
-    ensures ready { IfOk result (λ r. IsReady pin.now cursor r.0.items (bench_model O.model_of bench.new)) }
-    ensures leads { IfOk result (λ r. LeadsTo r.1 (told_of pin.now.plan (bench_model O.model_of bench.old)) (told_of pin.now.plan (bench_model O.model_of bench.new)) (relation_at pin.now cursor)) }
+    ensures ready { OnOk result (IsReady pin.now cursor walks.new.items (bench_model O.model_of bench.new)) }
+    ensures leads { IfOk result (λ r. LeadsTo r changes.new.items (told_of pin.now.plan (bench_model O.model_of bench.old)) (told_of pin.now.plan (bench_model O.model_of bench.new)) (relation_at pin.now cursor)) }
 {
-    let walks = advance(alloc, bench, pin, walks, cursor)?;
-    let outcome = ask(alloc, bench, pin, &walks, cursor)?;
-    Ok((walks, outcome))
+    advance(alloc, bench, pin, walks, cursor)?;
+    ask(alloc, bench, pin, walks, cursor, changes)
 }
 
-/// What is shown at a later cursor, where nothing is told: the opening of an answer.
+/// What is shown at a later cursor, where nothing is told: the opening of an answer. Its changes may be
+/// many, and get room that goes with them.
 pub(crate) fn open<'a, O: Operator>(
     alloc: Global,
     bench: &mut BenchOf<O>,
     pin: &'a Pin,
-    shown: WalkState<'a>,
+    shown: &mut WalkState<'a>,
     cursor: u64,
-) -> Result<WalkState<'a>, AllocError>
+) -> Result<(), AllocError>
     requires bench { IsBench O.model_of bench.old }
     requires based { pin.now.base < cursor }
-    requires shown { (c : ℕ) × (c ≤ cursor) × IsShown pin.now c shown.walks.items shown.last (bench_model O.model_of bench.old) }
+    requires shown { (c : ℕ) × (c ≤ cursor) × IsShown pin.now c shown.old.walks.items shown.old.last (bench_model O.model_of bench.old) }
     ensures bench { IsBench O.model_of bench.new }
-    ensures shown { IfOk result (λ r. IsShown pin.now cursor r.walks.items r.last (bench_model O.model_of bench.new)) }
+    ensures shown { OnOk result (IsShown pin.now cursor shown.new.walks.items shown.new.last (bench_model O.model_of bench.new)) }
 {
-    let (walks, last) = shown.into_parts();
-    let (walks, outcome) = reach(alloc, bench, pin, walks, cursor)?;
-    let last = keep(alloc, pin.plan().output(), last, outcome)?;
-    Ok(WalkState { walks, last })
+    let mut rows = Room::new(alloc);
+    let walks = &mut shown.walks;
+    let outcome = reach(alloc, bench, pin, walks, cursor, &mut rows.changes)?;
+    keep(
+        alloc,
+        pin.plan().output(),
+        &mut shown.last,
+        outcome,
+        &mut rows,
+    )
 }
 
 /// The output where nothing changed since the instant before.
@@ -333,7 +328,7 @@ pub(crate) fn same_output(
         (None, OutputKind::Rstream) => Ok(Output::Rows(last.bag.listing(alloc)?)),
         (None, _) => {
             let mut rows = Room::new(alloc);
-            difference(alloc, kind, Vec::new(alloc), &mut rows)
+            difference(alloc, kind, &mut rows)
         }
     }
 }

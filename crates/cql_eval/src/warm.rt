@@ -12,6 +12,7 @@ use crate::pin::Pin;
 use crate::projected_walk::ProjectedWalk;
 use crate::shown::{LastTold, WalkState, ask, keep};
 use crate::walks::{advance, retreat};
+use cql_bag::Room;
 use cql_ops::{BenchOf, Cancellation, Operator};
 use cql_value::Items;
 use std::alloc::{AllocError, Global};
@@ -340,8 +341,11 @@ fn go_back<O: Operator>(
         return Ok(kept.into_last());
     }
     retreat(alloc, bench, before, begins)?;
-    let outcome = ask(alloc, bench, pin, walks, begins)?;
-    keep(alloc, pin.plan().output(), kept.into_last(), outcome)
+    let mut rows = Room::new(alloc);
+    let outcome = ask(alloc, bench, pin, walks, begins, &mut rows.changes)?;
+    let mut last = kept.into_last();
+    keep(alloc, pin.plan().output(), &mut last, outcome, &mut rows)?;
+    Ok(last)
 }
 
 /// What is shown of a pin before the first instant that is asked for, where the bench stands for an
@@ -379,9 +383,9 @@ pub(crate) fn remember<O: Operator>(
     ensures bench { IsBench O.model_of bench.new }
     ensures kept { IfSome result (λ last. IsKept pin.now last (bench_model O.model_of bench.new)) }
 {
-    let (walks, last) = shown.into_parts();
-    match advance(alloc, bench, pin, walks, pin.next()) {
-        Ok(_) => Some(last),
-        Err(_) => None,
+    let (mut walks, last) = shown.into_parts();
+    match advance(alloc, bench, pin, &mut walks, pin.next()) {
+        Ok(()) => Some(last),
+        Err(AllocError) => None,
     }
 }

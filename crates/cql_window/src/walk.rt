@@ -6,7 +6,7 @@ ghost use Rattle.cql_value.specs.Element.{Element};
 ghost use Rattle.cql_window.specs.declared.window.Window.TheVariants.{Parts};
 ghost use Rattle.cql_window.specs.Laws.{between};
 ghost use Rattle.cql_window.specs.Pin.{HasColumns, IsPinned};
-ghost use Rattle.cql_window.specs.Bounds.{AreUpTo};
+ghost use Rattle.cql_window.specs.Bounds.{AreUpTo, HasQueues, held_between};
 ghost use Rattle.cql_window.specs.Queues.{AreQueued};
 ghost use Rattle.cql_window.specs.Span.{rows_of, rows_in, rows_left, IsWithin};
 ghost use Rattle.cql_window.specs.Window.{content, last_of_parts};
@@ -71,54 +71,35 @@ impl<'a> Walk<'a> {
         }
     }
 
-    /// The walk up to a cursor that isn't below the one that it reached, and the rows that came
-    /// and left on the way: the window then holds its content at the cursor. A row that came and
-    /// left on the way may be among both. Without parts no row is copied, and no memory is taken.
-    /// Without memory the walk is gone.
-    pub fn advance(self, alloc: Global, cursor: u64) -> Result<(Walk<'a>, Moved), AllocError>
-        requires { self.cursor ≤ cursor }
-        ensures pin { IfOk result (λ r. r.0.pin ≡ self.entry.pin) }
-        ensures cursor { IfOk result (λ r. r.0.cursor ≡ cursor) }
-        ensures held { IfOk result (λ r. r.0.held ≡ content self.entry.pin.window cursor self.entry.pin.content self.entry.pin.unseen) }
-        ensures moved { IfOk result (λ r. IsExchange self.entry.held (rows_in r.1.came (rows_of self.entry.pin)) (rows_left r.1 (rows_of self.entry.pin)) r.0.held) }
-        ensures came { IfOk result (λ r. IsWithin r.1.came (rows_of self.entry.pin)) }
-        ensures left { IfOk result (λ r. IsWithin r.1.left (rows_of self.entry.pin)) }
+    /// Goes on to a cursor that isn't below the one that was reached, and gives the rows that came and
+    /// left on the way: the window then holds its content at the cursor. A row that came and left on
+    /// the way may be among both. Without parts no row is copied, and no memory is taken. Without
+    /// memory the walk is before its first row again.
+    pub fn advance(&mut self, alloc: Global, cursor: u64) -> Result<Moved, AllocError>
+        requires { self.old.cursor ≤ cursor }
+        ensures pin { self.new.pin ≡ self.old.pin }
+        ensures cursor { OnOk result (self.new.cursor ≡ cursor) }
+        ensures held { OnOk result (self.new.held ≡ content self.old.pin.window cursor self.old.pin.content self.old.pin.unseen) }
+        ensures moved { IfOk result (λ m. IsExchange self.old.held (rows_in m.came (rows_of self.old.pin)) (rows_left m (rows_of self.old.pin)) self.new.held) }
+        ensures came { IfOk result (λ m. IsWithin m.came (rows_of self.old.pin)) }
+        ensures left { IfOk result (λ m. IsWithin m.left (rows_of self.old.pin)) }
     {
-        let Walk {
-            pin,
-            cursor: _,
-            bounds: from,
-            mut queues,
-            ahead,
-        } = self;
-        let (to, ahead) = from.at(pin, ahead, cursor);
-        let moved = match pin.window() {
-            Window::Parts { columns, count } => {
-                let columns = columns.as_slice();
-                come(alloc, pin, columns, *count, &mut queues, from.high, to.high)?
+        let (to, ahead) = self.bounds.at(self.pin, self.ahead, cursor);
+        match move_on(alloc, self.pin, &mut self.queues, self.bounds, to) {
+            Ok(moved) => {
+                self.cursor = cursor;
+                self.bounds = to;
+                self.ahead = ahead;
+                Ok(moved)
             }
-            _ => slide(alloc, pin, from, to),
-        };
-        let walk = Walk {
-            pin,
-            cursor,
-            bounds: to,
-            queues,
-            ahead,
-        };
-        Ok((walk, moved))
-    }
-
-    /// The walk at a cursor that isn't below the one that it reached, where nobody asks for the rows
-    /// that came and left: without parts no row is copied. Without memory the walk is gone.
-    pub fn reach(self, alloc: Global, cursor: u64) -> Result<Walk<'a>, AllocError>
-        requires { self.cursor ≤ cursor }
-        ensures pin { IfOk result (λ r. r.pin ≡ self.entry.pin) }
-        ensures cursor { IfOk result (λ r. r.cursor ≡ cursor) }
-        ensures held { IfOk result (λ r. r.held ≡ content self.entry.pin.window cursor self.entry.pin.content self.entry.pin.unseen) }
-    {
-        let (walk, _) = self.advance(alloc, cursor)?;
-        Ok(walk)
+            Err(AllocError) => {
+                self.cursor = 0;
+                self.bounds = Bounds::start();
+                self.queues = Queues::new(alloc);
+                self.ahead = Ahead::none();
+                Err(AllocError)
+            }
+        }
     }
 
     // What the window holds where it has no parts, as one part of the rows and the next.
@@ -216,6 +197,35 @@ fn rows_between(
         rows.push(row.try_clone()?)?;
     }
     Ok(rows)
+}
+
+// What comes and leaves where a window goes from some bounds to later ones: the queues of one of parts
+// are then those of the rows that came.
+fn move_on(
+    alloc: Global,
+    pin: &WindowPin,
+    queues: &mut Queues,
+    from: Bounds,
+    to: Bounds,
+) -> Result<Moved, AllocError>
+    requires rising { AreUpTo from to }
+    requires order { from.low ≤ from.high }
+    requires order_then { to.low ≤ to.high }
+    requires within { to.high ≤ length pin.now.content + length pin.now.unseen }
+    requires queued { HasQueues pin.now.window (take from.high (pin.now.content ++ pin.now.unseen)) queues.old }
+    ensures pinned { IsPinned pin.now }
+    ensures queued { OnOk result (HasQueues pin.now.window (take to.high (pin.now.content ++ pin.now.unseen)) queues.new) }
+    ensures came { IfOk result (λ m. IsWithin m.came (rows_of pin.now)) }
+    ensures left { IfOk result (λ m. IsWithin m.left (rows_of pin.now)) }
+    ensures moved { IfOk result (λ m. IsExchange (held_between pin.now.window from (rows_of pin.now)) (rows_in m.came (rows_of pin.now)) (rows_left m (rows_of pin.now)) (held_between pin.now.window to (rows_of pin.now))) }
+{
+    match pin.window() {
+        Window::Parts { columns, count } => {
+            let columns = columns.as_slice();
+            come(alloc, pin, columns, *count, queues, from.high, to.high)
+        }
+        _ => Ok(slide(alloc, pin, from, to)),
+    }
 }
 
 // What comes and leaves where a window without parts goes from some bounds to later ones.

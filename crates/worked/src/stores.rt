@@ -115,7 +115,8 @@ impl Fed {
                 changes(alloc, &pin, 0, 1)?;
             }
             Look::Walk => {
-                Walk::new(alloc, &pin).advance(alloc, GREATEST)?;
+                let mut walk = Walk::new(alloc, &pin);
+                walk.advance(alloc, GREATEST)?;
             }
         }
         Ok(())

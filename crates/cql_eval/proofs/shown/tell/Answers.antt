@@ -7,9 +7,10 @@ use Rattle.cql_eval.proofs.shown.tell.Goals as goal
 pub returns-in-Changed : goal.returns-in-Changed
 returns-in-Changed c =
     IfOk-weaker c.tell_all.result _ _
-    (λ r h told after before now stands leads.
+    (λ o h told after before now stands leads.
     let kind = c.args.kind in
-    let to = subst (λ q. LeadsTo q told after now) c.in-Changed.is leads in
-    subst (λ n. StandsFor kind r.0 after n × Tells kind r.1 before n) (sym to.2)
-    (subst (λ a. StandsFor kind r.0 a (Bag a) × Tells kind r.1 before (Bag a)) (sym to.1) (h told before stands to.0)))
+    let kept = c.tell_all.new.last in
+    let to = subst (λ q. LeadsTo q c.args.rows.now.changes.items told after now) c.in-Changed.is leads in
+    subst (λ n. StandsFor kind kept after n × Tells kind o before n) (sym to.2)
+    (subst (λ a. StandsFor kind kept a (Bag a) × Tells kind o before (Bag a)) (sym to.1) (h told before stands to.0)))
     c.tell_all.ensures

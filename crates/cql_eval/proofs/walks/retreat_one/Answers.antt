@@ -19,18 +19,18 @@ use Rattle.cql_eval.proofs.walks.retreat_one.Goals as goal
 pub push_rows-requires-clause-columns : goal.push_rows-requires-clause-columns
 push_rows-requires-clause-columns g c =
     let columns = columns_at (ports c.args.pin.now.plan) c.args.input in
-    let k : ProjectedWalkModel = c.in_ok-walk.walk in
-    let has = columns_of columns c.args.walk.pin c.args.walk.held k c.in_ok-walk.moved c.requires.walk.rows c.requires.walk.held c.in_ok-walk.ensures.pin c.in_ok-walk.ensures.moved in
-    subst (λ l. AreOf columns (projected_by k l)) (sym (left_is k c.in_ok-walk.moved c.deref.result.now c.rows-left.result c.deref.ensures.value c.rows-left.ensures)) has.left
+    let k : ProjectedWalkModel = c.advance.new.self in
+    let has = columns_of columns c.args.walk.pin c.args.walk.held k c.in_ok-moved.moved c.requires.walk.rows c.requires.walk.held c.in_ok-moved.ensures.pin c.in_ok-moved.ensures.moved in
+    subst (λ l. AreOf columns (projected_by k l)) (sym (left_is k c.in_ok-moved.moved c.deref.result.now c.rows-left.result c.deref.ensures.value c.rows-left.ensures)) has.left
 
 pub push_rows-requires-clause-there : goal.push_rows-requires-clause-there
-push_rows-requires-clause-there g c = can_come (projected_by c.in_ok-walk.walk c.rows-left.result) (port_of (contents_of c.args.pin.now.plan (bench_model g.O.Operator.model_of c.args.bench.now)) c.args.input)
+push_rows-requires-clause-there g c = can_come (projected_by c.advance.new.self c.rows-left.result) (port_of (contents_of c.args.pin.now.plan (bench_model g.O.Operator.model_of c.args.bench.now)) c.args.input)
 
 pub push_rows-requires-2-clause-columns : goal.push_rows-requires-2-clause-columns
 push_rows-requires-2-clause-columns g c =
     let columns = columns_at (ports c.args.pin.now.plan) c.args.input in
-    let k : ProjectedWalkModel = c.in_ok-walk.walk in
-    let has = columns_of columns c.args.walk.pin c.args.walk.held k c.in_ok-walk.moved c.requires.walk.rows c.requires.walk.held c.in_ok-walk.ensures.pin c.in_ok-walk.ensures.moved in
+    let k : ProjectedWalkModel = c.advance.new.self in
+    let has = columns_of columns c.args.walk.pin c.args.walk.held k c.in_ok-moved.moved c.requires.walk.rows c.requires.walk.held c.in_ok-moved.ensures.pin c.in_ok-moved.ensures.moved in
     subst (λ l. AreOf columns (projected_by k l)) (sym c.rows-came.ensures) has.came
 
 pub push_rows-requires-2-clause-there : goal.push_rows-requires-2-clause-there
@@ -38,11 +38,11 @@ push_rows-requires-2-clause-there g c =
     let p = c.args.pin.now in
     let o : BenchModel = bench_model g.O.Operator.model_of c.args.bench.now in
     let mid : BenchModel = bench_model g.O.Operator.model_of c.push_rows.new.bench in
-    let k : ProjectedWalkModel = c.in_ok-walk.walk in
-    let m : Moved = c.in_ok-walk.moved in
+    let k : ProjectedWalkModel = c.advance.new.self in
+    let m : Moved = c.in_ok-moved.moved in
     let back : Exchanged k.held (left_of k m) (came_of k m) c.args.walk.held
-    = window_moved c.same_counts.ensures c.put_all_counts.ensures c.take_counts.ensures k.held (left_of k m) (came_of k m) c.args.walk.held (backwards c.args.walk.held (came_of k m) (left_of k m) k.held c.in_ok-walk.ensures.moved.moved) in
-    let ends : k.held ≡ projected_content p.next c.args.walk.pin = c.in_ok-walk.ensures.held ∙ ap (λ n. projected_content n c.args.walk.pin) c.next.ensures.value in
+    = window_moved c.same_counts.ensures c.put_all_counts.ensures c.take_counts.ensures k.held (left_of k m) (came_of k m) c.args.walk.held (backwards c.args.walk.held (came_of k m) (left_of k m) k.held c.in_ok-moved.ensures.moved.moved) in
+    let ends : k.held ≡ projected_content p.next c.args.walk.pin = c.in_ok-moved.ensures.held ∙ ap (λ n. projected_content n c.args.walk.pin) c.next.ensures.value in
     let held : port_of (contents_of p.plan o) c.args.input ≡ bag_of (rows_of k.held) = c.requires.ended ∙ sym (ap (λ l. bag_of (rows_of l)) ends) in
     let gone = left_is k m c.deref.result.now c.rows-left.result c.deref.ensures.value c.rows-left.ensures in
     let here : port_of (contents_of p.plan mid) c.args.input ≡ changed_by (changes_of true (left_of k m)) (bag_of (rows_of k.held))
@@ -57,11 +57,11 @@ returns-clause-pushed g c =
     let o : BenchModel = bench_model g.O.Operator.model_of c.args.bench.now in
     let mid : BenchModel = bench_model g.O.Operator.model_of c.push_rows.new.bench in
     let after : BenchModel = bench_model g.O.Operator.model_of c.push_rows-2.new.bench in
-    let k : ProjectedWalkModel = c.in_ok-walk.walk in
-    let m : Moved = c.in_ok-walk.moved in
+    let k : ProjectedWalkModel = c.advance.new.self in
+    let m : Moved = c.in_ok-moved.moved in
     let back : Exchanged k.held (left_of k m) (came_of k m) c.args.walk.held
-    = window_moved c.same_counts.ensures c.put_all_counts.ensures c.take_counts.ensures k.held (left_of k m) (came_of k m) c.args.walk.held (backwards c.args.walk.held (came_of k m) (left_of k m) k.held c.in_ok-walk.ensures.moved.moved) in
-    let ends : k.held ≡ projected_content p.next c.args.walk.pin = c.in_ok-walk.ensures.held ∙ ap (λ n. projected_content n c.args.walk.pin) c.next.ensures.value in
+    = window_moved c.same_counts.ensures c.put_all_counts.ensures c.take_counts.ensures k.held (left_of k m) (came_of k m) c.args.walk.held (backwards c.args.walk.held (came_of k m) (left_of k m) k.held c.in_ok-moved.ensures.moved.moved) in
+    let ends : k.held ≡ projected_content p.next c.args.walk.pin = c.in_ok-moved.ensures.held ∙ ap (λ n. projected_content n c.args.walk.pin) c.next.ensures.value in
     let held : port_of (contents_of p.plan o) c.args.input ≡ bag_of (rows_of k.held) = c.requires.ended ∙ sym (ap (λ l. bag_of (rows_of l)) ends) in
     let gone = left_is k m c.deref.result.now c.rows-left.result c.deref.ensures.value c.rows-left.ensures in
     let here : port_of (contents_of p.plan mid) c.args.input ≡ changed_by (changes_of true (left_of k m)) (bag_of (rows_of k.held))
@@ -79,7 +79,7 @@ pub push_rows-requires-2-clause-within : goal.push_rows-requires-2-clause-within
 push_rows-requires-2-clause-within g c = within_after c.args.pin.now c.args.input _ (bench_model g.O.Operator.model_of c.args.bench.now) (bench_model g.O.Operator.model_of c.push_rows.new.bench) c.in_ok-push_rows.ensures.pushed c.requires.within
 
 pub rows-came-requires : goal.rows-came-requires
-rows-came-requires g c = c.in_ok-walk.ensures.moved.came
+rows-came-requires g c = c.in_ok-moved.ensures.moved.came
 
 pub returns-clause-bench : goal.returns-clause-bench
 returns-clause-bench g c = c.push_rows-2.ensures.bench

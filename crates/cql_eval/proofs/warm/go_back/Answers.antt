@@ -1,5 +1,4 @@
 use Rattle.std.proofs.Common.{◌≡◌, sym, ap, subst, ◌∙◌, arith}
-use Rattle.std.proofs.lemmas.Result.{IfOk-weaker}
 use Rattle.cql_ops.specs.Bench.{BenchModel, bench_model}
 use Rattle.cql_ops.specs.Running.{told_of}
 use Rattle.cql_eval.specs.Pin.{PinModel}
@@ -51,14 +50,12 @@ returns-clause-shown g c =
     = subst (λ r. IsBack r q.from o mid) c.pin-before.ensures (subst (λ n. IsBack c.pin-before.result.now n o mid) c.from-begins.ensures.value c.in_ok-retreat.ensures.back) in
     let kind : c.output.result ≡ q.plan.output = c.output.ensures ∙ ap (λ r. r.output) c.plan.ensures.value in
     let before = relation_at p p.next in
-    let stands : StandsFor c.output.result c.into_last-2.result (told_of q.plan mid) before
-    = subst (λ l. StandsFor c.output.result l (told_of q.plan mid) before) (sym c.into_last-2.ensures)
+    let stands : StandsFor c.output.result c.into_last-last.result (told_of q.plan mid) before
+    = subst (λ l. StandsFor c.output.result l (told_of q.plan mid) before) (sym c.into_last-last.ensures)
     (subst (λ k. StandsFor k c.args.kept.last (told_of q.plan mid) before) (sym kind) (met_stands c.args.kept q ks o mid c.requires.meets c.requires.walks c.requires.kept back)) in
-    let leads : LeadsTo c.in_ok-outcome.outcome (told_of q.plan mid) (told_of q.plan after) (relation_at q q.from)
-    = subst (λ n. LeadsTo c.in_ok-outcome.outcome (told_of q.plan mid) (told_of q.plan after) (relation_at q n)) c.from-begins.ensures.value c.in_ok-outcome.ensures.leads in
-    IfOk-weaker c.keep.result _ (λ last. IsShown q q.from ks last after)
-    (λ last kept. record {
+    let leads : LeadsTo c.in_ok-outcome.outcome c.ask.new.changes.items (told_of q.plan mid) (told_of q.plan after) (relation_at q q.from)
+    = subst (λ n. LeadsTo c.in_ok-outcome.outcome c.ask.new.changes.items (told_of q.plan mid) (told_of q.plan after) (relation_at q n)) c.from-begins.ensures.value c.in_ok-outcome.ensures.leads in
+    record {
       ready = subst (λ n. IsReady q n ks after) c.from-begins.ensures.value c.in_ok-outcome.ensures.ready;
-      stands = subst (λ k. StandsFor k last (told_of q.plan after) (relation_at q q.from)) kind (kept (told_of q.plan mid) (told_of q.plan after) before (relation_at q q.from) stands leads);
-    })
-    c.keep.ensures
+      stands = subst (λ k. StandsFor k c.keep.new.last (told_of q.plan after) (relation_at q q.from)) kind (c.in_ok-keep.ensures (told_of q.plan mid) (told_of q.plan after) before (relation_at q q.from) stands leads);
+    }

@@ -81,6 +81,14 @@ impl<J: Operator, S: Operator> Operator for Mixed<J, S> {
         }
     }
 
+    fn lend(&mut self) -> Option<&[Change]> {
+        match self {
+            Mixed::Join(op) => op.lend(),
+            Mixed::Shape(op) => op.lend(),
+            Mixed::Distinct(_) | Mixed::SetOp(_) => None,
+        }
+    }
+
     fn emit(&mut self, out: &mut Vec<Change>) -> Result<(), OpError> {
         match self {
             Mixed::Join(op) => op.emit(out),

@@ -11,6 +11,7 @@ pub mod Gathering
 pub mod Linked
 pub mod Saying
 pub mod Said
+pub mod Lending
 pub mod Grouping
 pub mod Lacking
 pub mod Keeping

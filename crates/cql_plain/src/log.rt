@@ -44,6 +44,10 @@ pub(crate) fn add_copy(
 }
 
 impl Log {
+    ghost use Rattle.std.specs.Borrow.{sem};
+    ghost use Rattle.std.specs.Io.BufRead.{Rests};
+    ghost use Rattle.cql_plain.specs.contracts.log.Log.{the_row};
+
     /// No change.
     pub fn new(alloc: Global) -> Log
         ensures { result ≡ record { told = []; untold = [] } }
@@ -62,18 +66,14 @@ impl Log {
         add_copy(alloc, change, &mut self.changes)
     }
 
-    /// The changes that were not told, in order.
-    pub fn untold(&self) -> &[Change]
-        ensures { result.now ≡ self.now.untold }
+    /// The changes that were not told, in order. Now all are told.
+    pub fn tell(&mut self) -> &[Change]
+        ensures* all { sem 𝓛 (Rests the_row self.entry (λ new. new ≡ told_all self.old)) }
+        ensures untold { result.now ≡ self.old.untold }
     {
-        &self.changes[self.told..]
-    }
-
-    /// Now all are told.
-    pub fn tell(&mut self)
-        ensures { self.new ≡ told_all self.old }
-    {
+        let from = self.told;
         self.told = self.changes.len();
+        &self.changes[from..]
     }
 }
 

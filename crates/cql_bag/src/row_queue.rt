@@ -113,6 +113,11 @@ impl RowQueue {
         }
     }
 
+    /// The row that came so many rows after the first of those that wait.
+    pub fn waiting(&self, index: usize) -> Option<&Row> {
+        self.waiting.get(index)
+    }
+
     /// Puts the rows that wait in order.
     pub fn settle(&mut self) -> Result<(), AllocError>
         ensures { OnOk result (self.new ≡ self.old) }

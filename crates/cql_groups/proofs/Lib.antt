@@ -6,6 +6,7 @@ pub mod Layouts
 pub mod PartLaws
 pub mod GroupKeys
 pub mod GroupingLaws
+pub mod Filed
 pub mod GroupValue
 pub mod Faults
 pub mod Crosses

@@ -1,17 +1,18 @@
 // The groups of a shape, each with what its row needs.
-ghost use Rattle.std.specs.Prelude.{◌≡◌, ◌+◌, ◌<◌, ◌≤◌, ◌^◌, ◌⊎◌, ◌++◌, [], ◌∷◌, Some, true, false, if◌then◌else◌, IfOk, IfErr, OnOk, OnErr};
-ghost use Rattle.cql_bag.specs.Changes.{changed, change_of, CanChange, Grows};
-ghost use Rattle.cql_algebra.specs.Shape.{key_of};
-ghost use Rattle.std.specs.BTreeMap.{insert_entry, Updates};
-ghost use Rattle.cql_value.specs.Order.{row_cmp};
+ghost use Rattle.std.specs.Prelude.{◌≡◌, ◌+◌, ◌<◌, ◌≤◌, ◌^◌, ◌⊎◌, ◌++◌, [], ◌∷◌, Some, true, false, if◌then◌else◌, IfOk, IfErr, OnOk, OnErr, vec_len, vec_capacity, IsSomeAnd};
+ghost use Rattle.cql_bag.specs.Changes.{changed, CanChange, Grows};
+ghost use Rattle.slab.specs.Slab.{get};
 ghost use Rattle.cql_value.specs.Schema.{HasTypes};
 ghost use Rattle.cql_groups.specs.Grouped.{IsNew, at_key, IsChangedGroup, CanChangeAt, IsChangedAt, IsDue, IsLacking, IsChangedOne, IsGrouping, IsPushed, IsSettled, IsToldOf, lacking_groups, one_if, TellsGroups, told_of};
+ghost use Rattle.cql_groups.specs.Filed.{CanChangeGroup, IsChangedSlot, IsFiled, IsSettledSlot, groups_in, keys_in};
 ghost use Rattle.cql_groups.specs.GroupLaws.{Laws};
 ghost use Rattle.cql_ops.specs.Linear.{with_change};
 ghost use Rattle.cql_ops.specs.declared.error.OpError.TheVariants.{NoMemory, Overflow};
 ghost use Rattle.cql_plain.specs.Shaped.{TellsShape, FailsToShape};
 
 use crate::accumulator::{Accumulator, AccumulatorKind, change_parts, new_parts, some_outside};
+use crate::group_key::GroupKey;
+use crate::group_map::{GroupMap, Touched, find_at, find_recent, let_go, note_slot, put_group};
 use crate::layout::{ItemSource, Layout};
 use crate::row::row_of_parts;
 use cql_algebra::law::{
@@ -23,10 +24,9 @@ use cql_algebra::pushed_law::{
 use cql_bag::law::{own_entries, put_all_counts, same_counts, take_counts};
 use cql_bag::{Change, RowQueue};
 use cql_ops::{Meter, OpError};
-use cql_plain::choose;
-use cql_value::{Row, Value};
+use cql_value::Row;
+use slab::Slab;
 use std::alloc::{AllocError, Global};
-use std::collections::BTreeMap;
 
 /// How many rows a group may have.
 const MAX_SIZE: u64 = 9_223_372_036_854_775_807;
@@ -35,7 +35,7 @@ const MAX_SIZE: u64 = 9_223_372_036_854_775_807;
 /// thing that is asked, and whether some sum is outside i64; the row that was told, and whether rows
 /// came or went since.
 pub(crate) struct Group {
-    pub key: Row,
+    pub key: GroupKey,
     pub size: u64,
     pub sample: Row,
     pub parts: Vec<Accumulator>,
@@ -87,12 +87,12 @@ impl Group {
     fn new(
         alloc: Global,
         asked: &[AccumulatorKind],
-        key: &Row,
+        key: &GroupKey,
         sample: &Row,
     ) -> Result<Group, AllocError>
         ensures { IfOk result (IsNew asked.now key.now sample.now) }
     {
-        let key = key.try_clone(alloc)?;
+        let key = key.share()?;
         let sample = sample.try_clone(alloc)?;
         let parts = new_parts(alloc, asked)?;
         Ok(Group {
@@ -153,51 +153,34 @@ impl Group {
     }
 }
 
-// Tells that a row came or went.
-fn tell_one(alloc: Global, plus: bool, row: &Row, out: &mut Vec<Change>) -> Result<(), AllocError>
-    ensures out { OnOk result (out.new.items ≡ out.old.items ++ change_of plus row.now ∷ []) }
-    ensures kept { OnErr result (Grows out.old.items out.new.items) }
+// Tells that a row came or went, where there is one. There is room for it.
+fn tell_any(plus: bool, row: Option<Row>, out: &mut Vec<Change>)
+    requires { vec_len out.old < vec_capacity out.old }
+    ensures out { out.new.items ≡ out.old.items ++ with_change plus row [] }
+    ensures room { (vec_capacity out.new ≡ vec_capacity out.old) × (vec_len out.new ≤ vec_len out.old + 1) }
 {
-    let row = row.try_clone(alloc)?;
-    out.push(Change { plus, row })?;
-    Ok(())
-}
-
-// Tells it of a row, where there is one.
-fn tell_any(
-    alloc: Global,
-    plus: bool,
-    row: &Option<Row>,
-    out: &mut Vec<Change>,
-) -> Result<(), AllocError>
-    ensures out { OnOk result (out.new.items ≡ out.old.items ++ with_change plus row.now []) }
-    ensures kept { OnErr result (Grows out.old.items out.new.items) }
-{
-    match row {
-        Some(row) => tell_one(alloc, plus, row, out),
-        None => Ok(()),
+    if let Some(row) = row {
+        out.push_reserved(Change { plus, row });
     }
 }
 
-// Puts a group at its key.
-fn put_group(
-    alloc: Global,
-    key: &Row,
-    group: Group,
-    groups: &mut BTreeMap<Row, Group>,
-) -> Result<(), AllocError>
-    ensures { OnOk result ((groups.new.entries ≡ insert_entry row_cmp groups.old.entries key.now group) × Updates row_cmp groups.old groups.new key.now (Some group)) }
+// The same row with one more holder, where there is one.
+fn shared(row: &Option<Row>) -> Result<Option<Row>, AllocError>
+    ensures { IfOk result (λ r. r ≡ row.now) }
 {
-    groups.insert(key.try_clone(alloc)?, group)?;
-    Ok(())
+    match row {
+        Some(row) => Ok(Some(row.share()?)),
+        None => Ok(None),
+    }
 }
 
-// Notes that the group was pushed.
-fn mark(alloc: Global, group: &mut Group, touched: &mut Vec<Row>) -> Result<(), AllocError>
-    ensures { OnOk result ((group.new ≡ record group.old { pushed = true }) × (touched.new.items ≡ (if group.old.pushed then touched.old.items else touched.old.items ++ group.old.key ∷ []))) }
+// Notes that the group in a slot was pushed.
+fn mark(slot: usize, group: &mut Group, touched: &mut Vec<Touched>) -> Result<(), AllocError>
+    ensures { OnOk result ((group.new ≡ record group.old { pushed = true }) × (keys_in touched.new.items ≡ (if group.old.pushed then keys_in touched.old.items else keys_in touched.old.items ++ group.old.key ∷ []))) }
 {
     if !group.pushed {
-        touched.push(group.key.try_clone(alloc)?)?;
+        let key = group.key.share()?;
+        touched.push(Touched { key, slot })?;
         group.pushed = true;
     }
     Ok(())
@@ -215,61 +198,72 @@ fn counted(lacking: u64, lacked: bool, lacks: bool) -> Result<u64, AllocError>
     }
 }
 
-// A row comes or goes, and the group's key is noted.
+// A row comes or goes in the group of a slot, and that it waits is noted.
 fn change_group(
     alloc: Global,
     change: &Change,
+    slot: usize,
     group: &mut Group,
-    touched: &mut Vec<Row>,
+    touched: &mut Vec<Touched>,
     lacking: &mut u64,
 ) -> Result<(), AllocError>
     requires few { group.old.size < 2 ^ 63 }
     requires some { change.now.plus ≡ false → 1 ≤ group.old.size }
     requires among { group.old.lacks ≡ true → 1 ≤ lacking.old }
-    ensures { OnOk result (IsChangedOne change.now group.old group.new touched.old.items touched.new.items lacking.old lacking.new) }
+    ensures { OnOk result (IsChangedOne change.now group.old group.new (keys_in touched.old.items) (keys_in touched.new.items) lacking.old lacking.new) }
 {
-    mark(alloc, group, touched)?;
+    mark(slot, group, touched)?;
     let lacked = group.lacks;
     group.change(alloc, change)?;
     *lacking = counted(*lacking, lacked, group.lacks)?;
     Ok(())
 }
 
+// The group in a slot is changed where it stands.
+fn change_slot(
+    alloc: Global,
+    change: &Change,
+    slot: usize,
+    slots: &mut Slab<Group>,
+    touched: &mut Vec<Touched>,
+    lacking: &mut u64,
+) -> Result<(), AllocError>
+    requires { IsSomeAnd (get slots.old slot) (CanChangeGroup change.now lacking.old) }
+    ensures { OnOk result (IsChangedSlot change.now slot slots.old slots.new (keys_in touched.old.items) (keys_in touched.new.items) lacking.old lacking.new) }
+{
+    match slots.get_mut(slot) {
+        Some(group) => change_group(alloc, change, slot, group, touched, lacking),
+        None => unreachable!(),
+    }
+}
+
 // The group of the row's key is changed where it stands; where there is none, one is put in.
 fn change_at(
     alloc: Global,
     asked: &[AccumulatorKind],
-    key: &Row,
+    key: &GroupKey,
     change: &Change,
-    groups: &mut BTreeMap<Row, Group>,
-    touched: &mut Vec<Row>,
+    groups: &mut GroupMap,
+    touched: &mut Vec<Touched>,
     lacking: &mut u64,
 ) -> Result<(), AllocError>
-    requires { CanChangeAt asked.now change.now key.now (at_key key.now groups.old.entries) lacking.old }
-    ensures { OnOk result (IsChangedAt asked.now change.now key.now groups.old.entries groups.new.entries touched.old.items touched.new.items lacking.old lacking.new) }
+    requires filed { IsFiled groups.old }
+    requires can { CanChangeAt asked.now change.now key.now (at_key key.now (groups_in groups.old)) lacking.old }
+    ensures changed { OnOk result (IsChangedAt asked.now change.now key.now (groups_in groups.old) (groups_in groups.new) (keys_in touched.old.items) (keys_in touched.new.items) lacking.old lacking.new) }
+    ensures filed { OnOk result (IsFiled groups.new) }
 {
-    match groups.get_mut(key) {
-        Some(group) => change_group(alloc, change, group, touched, lacking),
+    match find_recent(key, groups) {
+        Some(slot) => {
+            note_slot(key, slot, &mut groups.recent);
+            change_slot(alloc, change, slot, &mut groups.slots, touched, lacking)
+        }
         None => {
+            let slot = groups.slots.vacant_key();
             let mut group = Group::new(alloc, asked, key, &change.row)?;
-            change_group(alloc, change, &mut group, touched, lacking)?;
-            put_group(alloc, key, group, groups)
+            change_group(alloc, change, slot, &mut group, touched, lacking)?;
+            put_group(key, group, groups)
         }
     }
-}
-
-// The key of a row, in the place of another, whose room is used again where no other row shares it.
-fn key_into(
-    alloc: Global,
-    columns: &[usize],
-    row: &[Value],
-    key: &mut Row,
-) -> Result<(), AllocError>
-    ensures { OnOk result (key.new ≡ key_of columns.now row.now) }
-{
-    let mut values = key.take_room(alloc);
-    choose(alloc, columns, row, &mut values)?;
-    key.refill(alloc, values)
 }
 
 /// A row of the port comes or goes. Its key is written into `key`.
@@ -277,25 +271,22 @@ pub(crate) fn push_row(
     alloc: Global,
     layout: &Layout,
     change: &Change,
-    key: &mut Row,
+    key: &mut GroupKey,
     port: &mut RowQueue,
-    groups: &mut BTreeMap<Row, Group>,
-    touched: &mut Vec<Row>,
+    groups: &mut GroupMap,
+    touched: &mut Vec<Touched>,
     lacking: &mut u64,
 ) -> Result<(), AllocError>
-    requires held { IsGrouping layout.now port.old (told_of groups.old.entries) groups.old.entries touched.old.items }
+    requires held { IsGrouping layout.now port.old (told_of (groups_in groups.old)) (groups_in groups.old) (keys_in touched.old.items) }
+    requires filed { IsFiled groups.old }
     requires lacking { lacking.old ≡ lacking_groups layout.now.shape port.old }
     requires types { HasTypes layout.now.shape.columns change.now.row }
     requires there { CanChange change.now port.old }
-    ensures { OnOk result (IsPushed layout.now (changed change.now port.old) (told_of groups.old.entries) port.new groups.new.entries touched.new.items lacking.new) }
+    ensures pushed { OnOk result (IsPushed layout.now (changed change.now port.old) (told_of (groups_in groups.old)) port.new (groups_in groups.new) (keys_in touched.new.items) lacking.new) }
+    ensures filed { OnOk result (IsFiled groups.new) }
 {
     group_laws();
-    key_into(
-        alloc,
-        layout.shape.groups.as_slice(),
-        change.row.values(),
-        key,
-    )?;
+    key.set(alloc, layout.shape.groups.as_slice(), change.row.values())?;
     change_at(
         alloc,
         layout.asked.as_slice(),
@@ -322,12 +313,34 @@ fn settle_group(
     ensures err { IfErr result (λ e. (e ≡ NoMemory) ⊎ ((e ≡ Overflow) × IsLacking sources.now group.old)) }
 {
     let row = group.row(alloc, sources, remade)?;
-    tell_any(alloc, false, &group.told, out)?;
-    tell_any(alloc, true, &row, out)?;
+    let told = shared(&row)?;
+    out.reserve(2)?;
+    tell_any(false, group.told.take(), out);
+    tell_any(true, told, out);
     let some = row.is_some();
     group.told = row;
     group.pushed = false;
     Ok(some)
+}
+
+// The group in a slot tells its row. Whether it has one.
+fn settle_slot(
+    alloc: Global,
+    sources: &[ItemSource],
+    slot: usize,
+    slots: &mut Slab<Group>,
+    remade: &mut Meter,
+    out: &mut Vec<Change>,
+) -> Result<bool, OpError>
+    requires { IsSomeAnd (get slots.old slot) (λ g. g.size < 2 ^ 63) }
+    ensures settled { IfOk result (IsSettledSlot sources.now slot slots.old slots.new out.old.items out.new.items) }
+    ensures kept { OnErr result (Grows out.old.items out.new.items) }
+    ensures err { IfErr result (λ e. (e ≡ NoMemory) ⊎ ((e ≡ Overflow) × IsSomeAnd (get slots.old slot) (IsLacking sources.now))) }
+{
+    match slots.get_mut(slot) {
+        Some(group) => settle_group(alloc, sources, group, remade, out),
+        None => unreachable!(),
+    }
 }
 
 // The group of a key, where there is one, tells its row; without rows it goes.
@@ -335,23 +348,26 @@ fn settle_key(
     alloc: Global,
     layout: &Layout,
     port: &RowQueue,
-    key: &Row,
-    rest: &[Row],
-    groups: &mut BTreeMap<Row, Group>,
+    touched: &Touched,
+    rest: &[Touched],
+    groups: &mut GroupMap,
     remade: &mut Meter,
     out: &mut Vec<Change>,
 ) -> Result<(), OpError>
-    requires { IsGrouping layout.now port.now (told_of groups.old.entries) groups.old.entries (key.now ∷ rest.now) }
-    ensures told { OnOk result (IsToldOf layout.now port.now groups.old.entries groups.new.entries rest.now out.old.items out.new.items) }
+    requires held { IsGrouping layout.now port.now (told_of (groups_in groups.old)) (groups_in groups.old) (touched.now.key ∷ keys_in rest.now) }
+    requires filed { IsFiled groups.old }
+    ensures told { OnOk result (IsToldOf layout.now port.now (groups_in groups.old) (groups_in groups.new) (keys_in rest.now) out.old.items out.new.items) }
+    ensures filed { OnOk result (IsFiled groups.new) }
     ensures kept { OnErr result (Grows out.old.items out.new.items) }
     ensures err { IfErr result (FailsToShape layout.now.shape port.now) }
 {
     group_laws();
-    let Some(group) = groups.get_mut(key) else {
+    let Some(slot) = find_at(&touched.key, touched.slot, groups) else {
         return Ok(());
     };
-    if !settle_group(alloc, layout.sources.as_slice(), group, remade, out)? {
-        let _ = groups.remove(key);
+    let sources = layout.sources.as_slice();
+    if !settle_slot(alloc, sources, slot, &mut groups.slots, remade, out)? {
+        let_go(&touched.key, slot, groups);
     }
     Ok(())
 }
@@ -361,20 +377,22 @@ fn settle_keys(
     alloc: Global,
     layout: &Layout,
     port: &RowQueue,
-    touched: &[Row],
-    groups: &mut BTreeMap<Row, Group>,
+    touched: &[Touched],
+    groups: &mut GroupMap,
     remade: &mut Meter,
     out: &mut Vec<Change>,
 ) -> Result<(), OpError>
-    requires { IsGrouping layout.now port.now (told_of groups.old.entries) groups.old.entries touched.now }
-    ensures groups { OnOk result (IsGrouping layout.now port.now (told_of groups.new.entries) groups.new.entries []) }
-    ensures told { OnOk result (TellsGroups layout.now.shape (told_of groups.old.entries) (told_of groups.new.entries) out.old.items out.new.items) }
+    requires held { IsGrouping layout.now port.now (told_of (groups_in groups.old)) (groups_in groups.old) (keys_in touched.now) }
+    requires filed { IsFiled groups.old }
+    ensures filed { OnOk result (IsFiled groups.new) }
+    ensures groups { OnOk result (IsGrouping layout.now port.now (told_of (groups_in groups.new)) (groups_in groups.new) []) }
+    ensures told { OnOk result (TellsGroups layout.now.shape (told_of (groups_in groups.old)) (told_of (groups_in groups.new)) out.old.items out.new.items) }
     ensures kept { OnErr result (Grows out.old.items out.new.items) }
     ensures err { IfErr result (FailsToShape layout.now.shape port.now) }
 {
     let mut left = touched;
-    while let Some((key, rest)) = left.split_first() {
-        settle_key(alloc, layout, port, key, rest, groups, remade, out)?;
+    while let Some((first, rest)) = left.split_first() {
+        settle_key(alloc, layout, port, first, rest, groups, remade, out)?;
         left = rest;
     }
     Ok(())
@@ -385,20 +403,22 @@ pub(crate) fn tell_groups(
     alloc: Global,
     layout: &Layout,
     port: &RowQueue,
-    groups: &mut BTreeMap<Row, Group>,
-    touched: &mut Vec<Row>,
+    groups: &mut GroupMap,
+    touched: &mut Vec<Touched>,
     remade: &mut Meter,
     out: &mut Vec<Change>,
 ) -> Result<(), OpError>
-    requires { IsGrouping layout.now port.now (told_of groups.old.entries) groups.old.entries touched.old.items }
-    ensures held { OnOk result (IsGrouping layout.now port.now (told_of groups.new.entries) groups.new.entries touched.new.items) }
-    ensures told { OnOk result (TellsShape layout.now.shape port.now (told_of groups.old.entries) (told_of groups.new.entries) out.old.items out.new.items) }
+    requires held { IsGrouping layout.now port.now (told_of (groups_in groups.old)) (groups_in groups.old) (keys_in touched.old.items) }
+    requires filed { IsFiled groups.old }
+    ensures filed { OnOk result (IsFiled groups.new) }
+    ensures held { OnOk result (IsGrouping layout.now port.now (told_of (groups_in groups.new)) (groups_in groups.new) (keys_in touched.new.items)) }
+    ensures told { OnOk result (TellsShape layout.now.shape port.now (told_of (groups_in groups.old)) (told_of (groups_in groups.new)) out.old.items out.new.items) }
     ensures kept { OnErr result (Grows out.old.items out.new.items) }
     ensures err { IfErr result (FailsToShape layout.now.shape port.now) }
 {
     group_laws();
     settle_keys(alloc, layout, port, touched, groups, remade, out)?;
-    let _ = groups.iter();
+    let _ = groups.index.iter();
     touched.clear();
     Ok(())
 }

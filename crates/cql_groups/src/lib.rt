@@ -4,6 +4,8 @@
 
 mod accumulator;
 mod group;
+mod group_key;
+mod group_map;
 mod group_shape;
 mod keyed_shape;
 mod layout;

@@ -1,22 +1,25 @@
 -- Groups in slots, as their index finds them, when one of them is changed, put in or taken out.
-use Rattle.std.proofs.Common.{◌≡◌, ◌≢◌, ◌⊎◌, inl, inr, ℕ, List, [], ◌∷◌, Bool, true, false, cond, Option, Some, None, refl, sym, ap, ◌∙◌, subst, Less, Equal, Greater}
-use Rattle.std.specs.Prelude.{IsSomeAnd}
+use Rattle.std.proofs.Common.{◌≡◌, ◌≢◌, inl, inr, ℕ, List, [], ◌∷◌, Bool, true, false, cond, Option, Some, None, refl, sym, ap, ◌∙◌, subst, Less, Equal, Greater}
+use Rattle.std.specs.Prelude.{IsSome, slice_index_or}
 use Rattle.std.specs.List.{All, AllByRecursion}
-use Rattle.std.proofs.lemmas.List.Elements.{All-from_recursion, recursion_from_All}
+use Rattle.std.proofs.lemmas.List.Elements.{All-from_recursion}
 use Rattle.std.specs.List.Sorted.{IsStrictlySortedBy}
 use Rattle.std.specs.Map.{keys_of, set_value, remove_entry}
 use Rattle.std.specs.BTreeMap.{insert_entry}
 use Rattle.std.specs.Ordering.{is_eq, match_ordering}
 use Rattle.std.proofs.lemmas.Bool.Decides.{eqb_tells}
-use Rattle.slab.specs.Slab.{Slab, get}
+use Rattle.slab.specs.Slab.{Slab, get, with_value, Updates}
+use Rattle.slab.proofs.SlabLemmas.{Updates-with_value}
 use Rattle.cql_value.specs.Order.{row_cmp, row_cmp_exact}
 use Rattle.cql_value.specs.declared.value.Value.{Value}
 use Rattle.cql_value.proofs.Ties.{tied, ties, ties_itself}
 use Rattle.cql_bag.specs.declared.change.Change.{Change}
 use Rattle.cql_groups.specs.declared.accumulator.AccumulatorKind.{AccumulatorKind}
-use Rattle.cql_groups.specs.declared.layout.ItemSource.{ItemSource}
-use Rattle.cql_groups.specs.Grouped.{at_key, CanChangeAt, IsChangedAt, IsTaken}
-use Rattle.cql_groups.specs.Filed.{with_group, entries_in, IsAt, slot_of_key, AreFiled, CanChangeGroup, IsChangedSlot, IsSettledSlot}
+use Rattle.cql_bag.specs.Bag.{Counts}
+use Rattle.cql_groups.specs.Grouped.{at_key, IsChangedAt, IsChangedOne, IsGrouping, lacking_groups, told_of}
+use Rattle.cql_groups.specs.Layouts.{IsLayout}
+use Rattle.cql_groups.specs.declared.layout.Layout.{Layout}
+use Rattle.cql_groups.specs.Filed.{with_group, entries_in, IsAt, slot_of_key, AreFiled}
 use Rattle.cql_groups.proofs.GroupingLaws.{changed_some}
 use Rattle.cql_groups.specs.declared.group.Group.{Group}
 
@@ -288,50 +291,37 @@ module _ (index : Index) (slots now : Slab Group) (filed : AreFiled index slots)
 
 -- ---- the group in the slot of a key
 
-module _ (index : Index) (slots now : Slab Group) (filed : AreFiled index slots) (key : Row) (at : ℕ) (found : slot_of_key key index ≡ Some at) where
-  pub can_in_slot : (asked : List AccumulatorKind) (c : Change) (lacking : ℕ) → CanChangeAt asked c key (at_key key (entries_in index slots)) lacking → IsSomeAnd (get slots at) (CanChangeGroup c lacking)
-  can_in_slot asked c lacking can =
-      let is = found_at key at index slots filed found in
-      let taken : IsTaken asked key c.row (at_key key (entries_in index slots)) is.0 = subst (λ o. IsTaken asked key c.row o is.0) (sym (group_found key at index slots filed found ∙ is.1)) refl in
-      let can_it = can is.0 taken in
-      subst (λ o. IsSomeAnd o (CanChangeGroup c lacking)) (sym is.1) (record { few = can_it.0; some = can_it.1; among = can_it.2 })
+module _ (index : Index) (slots : Slab Group) (filed : AreFiled index slots) (key : Row) (at : ℕ) (found : slot_of_key key index ≡ Some at) (was : Group) (there : get slots at ≡ Some was) where
+  pub group_at : at_key key (entries_in index slots) ≡ Some was
+  group_at = group_found key at index slots filed found ∙ there
 
-  its_name : (was : Group) → get slots at ≡ Some was → was.key ≡ key
-  its_name was there =
-      let is = found_at key at index slots filed found in
-      ap (λ (x : Group). x.key) (one_group was is.0 (sym there ∙ is.1)) ∙ is.2
+  module _ (new : Group) (same : new.key ≡ was.key) where
+    abbrev now : Slab Group
+    now = with_value slots at new
 
-  module _ (c : Change) (left more : List Row) (before after : ℕ) (it : IsChangedSlot c at slots now left more before after) where
-    changed_name : it.now.key ≡ key
-    changed_name = it.change.group.key ∙ its_name it.was it.there
+    written : Updates slots now at (Some new)
+    written = Updates-with_value slots at new (subst (λ (o : Option Group). IsSome o) (sym there) refl)
 
-    pub changed_filed : AreFiled index now
-    changed_filed = set_filed index slots now filed key at it.slots.others found it.now it.slots.changed changed_name
+    name : new.key ≡ key
+    name =
+        let is = found_at key at index slots filed found in
+        same ∙ ap (λ (x : Group). x.key) (one_group was is.0 (sym there ∙ is.1)) ∙ is.2
 
-    pub changed_in_slot : (asked : List AccumulatorKind) → IsChangedAt asked c key (entries_in index slots) (entries_in index now) left more before after
-    changed_in_slot asked =
-        changed_some asked c key (entries_in index slots) (entries_in index now) left more before after it.was it.now (sym (group_found key at index slots filed found ∙ it.there)) it.change.group
-        (set_entries index slots now filed key at it.slots.others found it.now it.slots.changed changed_name)
-        (set_looks index slots now filed key at it.slots.others found it.now it.slots.changed changed_name) it.change.touched it.change.lacking
+    pub written_filed : AreFiled index now
+    written_filed = set_filed index slots now filed key at written.others found new written.changed name
 
-  module _ (sources : List ItemSource) (before out : List Change) (some : Bool) (it : IsSettledSlot sources at slots now before out some) where
-    settled_name : it.now.key ≡ key
-    settled_name = ap (λ (x : Group). x.key) it.settled.same ∙ its_name it.was it.there
+    pub written_is : IsAt now at key
+    written_is = (new, written.changed, name)
 
-    pub settled_filed : AreFiled index now
-    settled_filed = set_filed index slots now filed key at it.slots.others found it.now it.slots.changed settled_name
+    pub written_entries : entries_in index now ≡ set_value (at_test key) (entries_in index slots) new
+    written_entries = set_entries index slots now filed key at written.others found new written.changed name
 
-    pub settled_is : IsAt now at key
-    settled_is = (it.now, it.slots.changed, settled_name)
+    pub written_looks : (q : Row) → at_key q (entries_in index now) ≡ cond (at_test key q) (Some new) (at_key q (entries_in index slots))
+    written_looks = set_looks index slots now filed key at written.others found new written.changed name
 
-    pub settled_there : at_key key (entries_in index slots) ≡ Some it.was
-    settled_there = group_found key at index slots filed found ∙ it.there
-
-    pub settled_entries : entries_in index now ≡ set_value (at_test key) (entries_in index slots) it.now
-    settled_entries = set_entries index slots now filed key at it.slots.others found it.now it.slots.changed settled_name
-
-    pub settled_looks : (q : Row) → at_key q (entries_in index now) ≡ cond (at_test key q) (Some it.now) (at_key q (entries_in index slots))
-    settled_looks = set_looks index slots now filed key at it.slots.others found it.now it.slots.changed settled_name
+  pub changed_at : (new : Group) (asked : List AccumulatorKind) (c : Change) (left more : List Row) (before after : ℕ) (it : IsChangedOne c was new left more before after) → IsChangedAt asked c key (entries_in index slots) (entries_in index (with_value slots at new)) left more before after
+  changed_at new asked c left more before after it =
+      changed_some asked c key (entries_in index slots) (entries_in index (with_value slots at new)) left more before after was new (sym group_at) it.group (written_entries new it.group.key) (written_looks new it.group.key) it.touched it.lacking
 
 -- ---- all of them
 
@@ -345,10 +335,44 @@ entries_sorted index slots filed = subst (IsStrictlySortedBy row_cmp) (sym (keys
 abbrev IsFoundIn : Groups → Row × Group → Type 0
 IsFoundIn es e = at_key e.0 es ≡ Some e.1
 
-pub entries_found : (index : Index) (slots : Slab Group) → AreFiled index slots → All (λ (e : Row × ℕ). slot_of_key e.0 index ≡ Some e.1) index → All (λ (e : Row × Group). at_key e.0 (entries_in index slots) ≡ Some e.1) (entries_in index slots)
-entries_found index slots filed found = All-from_recursion (IsFoundIn (entries_in index slots)) (entries_in index slots) (each index filed.placed (recursion_from_All (λ (e : Row × ℕ). slot_of_key e.0 index ≡ Some e.1) index found))
+-- keys in order are found
+index_found : (index : Index) → IsStrictlySortedBy row_cmp (keys_of index) → AllByRecursion (λ (e : Row × ℕ). slot_of_key e.0 index ≡ Some e.1) index
+unfolding IsStrictlySortedBy
+index_found [] up = tt
+index_found (e ∷ index) up = (ap (λ b. cond b (Some e.1) (slot_of_key e.0 index)) (ties_itself e.0), behind index index up.0 (index_found index up.1))
+  where
+    apart : (q : Row) → row_cmp e.0 q ≡ Less → at_test q e.0 ≡ false
+    apart q h = elim (at_test q e.0) as (λ b. at_test q e.0 ≡ b → b ≡ false) [
+      | true ↦ λ t. sym (ties e.0 q (sym (tied q e.0 t))) ∙ ap is_eq h
+      | false ↦ λ t. refl
+    ] refl
+
+    behind : (part whole : Index) → AllByRecursion (λ y. row_cmp e.0 y ≡ Less) (keys_of part) → AllByRecursion (λ (f : Row × ℕ). slot_of_key f.0 whole ≡ Some f.1) part → AllByRecursion (λ (f : Row × ℕ). slot_of_key f.0 (e ∷ whole) ≡ Some f.1) part
+    behind [] whole up found = tt
+    behind (f ∷ part) whole up found = (ap (λ b. cond b (Some e.1) (slot_of_key f.0 whole)) (apart f.0 up.0) ∙ found.0, behind part whole up.1 found.1)
+
+pub entries_found : (index : Index) (slots : Slab Group) → AreFiled index slots → All (λ (e : Row × Group). at_key e.0 (entries_in index slots) ≡ Some e.1) (entries_in index slots)
+entries_found index slots filed = All-from_recursion (IsFoundIn (entries_in index slots)) (entries_in index slots) (each index filed.placed (index_found index filed.sorted))
   where
     each : (part : Index) → ArePlaced part slots → AllByRecursion (λ (e : Row × ℕ). slot_of_key e.0 index ≡ Some e.1) part → AllByRecursion (IsFoundIn (entries_in index slots)) (entries_in part slots)
     each [] placed all = tt
     each (e ∷ part) placed all =
         subst (λ o. AllByRecursion (IsFoundIn (entries_in index slots)) (with_group e.0 o (entries_in part slots))) (sym placed.0.1) (group_found e.0 e.1 index slots filed all.0 ∙ placed.0.1, each part placed.1 all.1)
+
+-- ---- none of them
+
+no_group : (slots : Slab Group) → slots.slots ≡ [] → (at : ℕ) → get slots at ≡ None
+no_group slots none at = ap (λ l. slice_index_or l at None) none
+
+pub nothing_kept : (layout : Layout) → IsLayout layout → (port : Counts) → port ≡ [] → (index : Index) → index ≡ [] → (slots : Slab Group) → slots.slots ≡ [] → (left : List Row) → left ≡ []
+    → IsGrouping layout port (told_of (entries_in index slots)) (entries_in index slots) left × AreFiled index slots × (0 ≡ lacking_groups layout.shape port)
+unfolding IsStrictlySortedBy
+nothing_kept layout is port no_rows index no_entries slots no_slots left none_left =
+    subst (λ p. IsGrouping layout p (told_of (entries_in index slots)) (entries_in index slots) left × AreFiled index slots × (0 ≡ lacking_groups layout.shape p)) (sym no_rows)
+    (subst (λ i. IsGrouping layout [] (told_of (entries_in i slots)) (entries_in i slots) left × AreFiled i slots × (0 ≡ lacking_groups layout.shape [])) (sym no_entries) (grouping, filed, refl))
+  where
+    grouping : IsGrouping layout [] [] [] left
+    grouping = record { layout = is; in_port = tt; port_bag = tt; told_bag = tt; held = λ key. refl; rows = λ row. refl }
+
+    filed : AreFiled [] slots
+    filed = record { placed = tt; sorted = tt; named = λ at g there. let e : None ≡ Some g = sym (no_group slots no_slots at) ∙ there in absurd cc }

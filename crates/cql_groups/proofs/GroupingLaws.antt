@@ -1,5 +1,5 @@
 -- What is kept of the groups of a bag, as rows come and go and as they are told.
-use Rattle.std.proofs.Common.{◌≡◌, ℕ, ◌+◌, ◌-◌, ◌<◌, ◌≤◌, List, [], ◌∷◌, ◌++◌, map, append_assoc, Bool, true, false, ◌||◌, cond, if◌then◌else◌, Option, Some, None, refl, sym, ap, ◌∙◌, subst, arith, Less, Equal, Greater}
+use Rattle.std.proofs.Common.{◌≡◌, ℕ, ◌+◌, ◌-◌, ◌<◌, ◌≤◌, List, [], ◌∷◌, ◌++◌, map, append_assoc, append-nil, Bool, true, false, ◌||◌, cond, if◌then◌else◌, Option, Some, None, refl, sym, ap, ◌∙◌, subst, arith, Less, Equal, Greater}
 use Rattle.std.specs.Prelude.{IfSome, Result, Ok, Err, OnOk, is_some}
 use Rattle.std.specs.Map.{remove_entry, set_value}
 use Rattle.std.specs.BTreeMap.{insert_entry}
@@ -23,7 +23,7 @@ use Rattle.cql_algebra.specs.Shape.{key_of, group_of, items_over}
 use Rattle.cql_algebra.specs.Typed.{AreOf}
 use Rattle.cql_groups.specs.Parts.{part_of}
 use Rattle.cql_ops.specs.Clauses.{AreChangesOf}
-use Rattle.cql_groups.specs.Grouped.{IsGroupOf, IsChangedGroup, IsDue, IsHeldOf, IsHeldAt, at_key, IsTaken, told_rows, told_of, IsSettled, IsNew, CanChangeAt, IsChangedAt, IsGrouping, one_if, lacking_groups, AreTold, TellsGroups}
+use Rattle.cql_groups.specs.Grouped.{IsGroupOf, IsChangedGroup, IsDue, IsHeldOf, IsHeldAt, at_key, IsTaken, told_rows, told_of, IsSettled, IsNew, CanChangeAt, IsChangedAt, IsGrouping, one_if, lacking_groups, AreTold, IsToldOf, TellsGroups}
 use Rattle.cql_groups.specs.GroupLaws.{Laws}
 use Rattle.cql_ops.specs.Linear.{with_entry, with_change}
 use Rattle.cql_ops.specs.Settle.{is_among}
@@ -346,6 +346,21 @@ module _ (laws : Laws) (typing : IsGroupTypesLaw) (layout : Layout) (port told :
       by_row : (o : Option Row) → IsDue layout.sources g o → is_some o ≡ false → IsGrouping layout port (changed_by (with_change true o []) gone) now rest
       by_row None due h = let_go now due (λ q. gone_at q ∙ ap (cond (is_eq (row_cmp key q)) None) (looks q) ∙ over (is_eq (row_cmp key q)) (Some new) (at_key q es)) (is ∙ ap (remove_entry (λ k. is_eq (row_cmp key k))) set_is ∙ remove_renewed key es new)
       by_row (Some row) due h = absurd cc
+
+-- what the groups tell then
+pub told_to : (laws : Laws) (layout : Layout) (port : Counts) (es now : Groups) (key : Row) (rest : List Row) (was : IsGrouping layout port (told_of es) es (key ∷ rest)) (g : Group) (there : at_key key es ≡ Some g) (due : Option Row) (is_due : IsDue layout.sources g due) (before out : List Change)
+    → out ≡ (before ++ with_change false g.told []) ++ with_change true due [] → IsGrouping layout port (changed_by (with_change true due []) (changed_by (with_change false g.told []) (told_of es))) now rest → IsToldOf layout port es now rest before out
+told_to laws layout port es now key rest was g there due is_due before out grown grouping = record {
+  groups = as_told laws layout port (changed_by (with_change true due []) (changed_by (with_change false g.told []) (told_of es))) now rest grouping;
+  told = subst (λ t. TellsGroups layout.shape (told_of es) t before out) (sym (told_now laws layout port (changed_by (with_change true due []) (changed_by (with_change false g.told []) (told_of es))) now rest grouping)) (tells laws laws.typing layout port (told_of es) es key rest was g there due is_due before (before ++ with_change false g.told []) out refl grown);
+}
+
+-- nothing, of a key without a group
+pub told_none : (laws : Laws) (layout : Layout) (port : Counts) (es : Groups) (key : Row) (rest : List Row) → IsGrouping layout port (told_of es) es (key ∷ rest) → at_key key es ≡ None → (out : List Change) → IsToldOf layout port es es rest out out
+told_none laws layout port es key rest was none out = record {
+  groups = passed layout port (told_of es) es es key rest was (sym none) refl;
+  told = ([], sym (append-nil out), record { there = tt; leads = refl; columns = λ _. tt });
+}
 
 -- ---- a row that comes or goes
 

@@ -6,7 +6,7 @@ use Rattle.cql_value.specs.declared.schema.ColumnType.{ColumnType}
 use Rattle.cql_plan.specs.Fit.{HasColumn}
 use Rattle.cql_bag.specs.declared.change.Change.{Change}
 use Rattle.cql_bag.specs.Bag.{Counts}
-use Rattle.cql_bag.specs.Changes.{changed_by, CanChangeBy}
+use Rattle.cql_bag.specs.Changes.{changed_by, CanChangeBy, Grows}
 use Rattle.cql_plan.specs.declared.node.Shape.{Shape}
 use Rattle.cql_algebra.specs.Shape.{shape_value}
 use Rattle.cql_groups.specs.Grouped.{TellsGroups}
@@ -35,6 +35,9 @@ told_both shape a b c before middle out (xs, e, s) (ys, f, t) = (
     columns = λ typed. types-append _ xs ys (s.columns typed) (t.columns typed);
   },
 )
+
+pub told_more : (shape : Shape) (a b : Counts) (before middle out : List Change) → TellsGroups shape a b before middle → Grows middle out → Grows before out
+told_more shape a b before middle out (xs, e, s) (ys, f) = (xs ++ ys, f ∙ ap (λ l. l ++ ys) e ∙ append_assoc before xs ys)
 
 pub tells_shape : (shape : Shape) (port told after : Counts) (before out : List Change) → shape_value shape port ≡ Some after → TellsGroups shape told after before out → TellsShape shape port told after before out
 tells_shape shape port told after before out is (cs, grown, t) = (cs, grown, record { there = t.there; leads = t.leads; value = is; columns = t.columns })

@@ -9,4 +9,5 @@ pub mod GroupingLaws
 pub mod Filed
 pub mod GroupValue
 pub mod Faults
+pub mod Steps
 pub mod Crosses

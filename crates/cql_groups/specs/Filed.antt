@@ -1,17 +1,14 @@
 -- Groups in slots, with an index of their keys.
-use Rattle.std.specs.Prelude.{◌≡◌, ◌++◌, ◌<◌, ◌≤◌, ◌^◌, ℕ, Bool, true, false, cond, List, [], ◌∷◌, Option, Some, None, map}
+use Rattle.std.specs.Prelude.{◌≡◌, ℕ, cond, List, [], ◌∷◌, Option, Some, None, map}
 use Rattle.std.specs.List.{AllByRecursion}
 use Rattle.std.specs.List.Sorted.{IsStrictlySortedBy}
 use Rattle.std.specs.BTreeMap.{insert_entry}
 use Rattle.std.specs.Map.{lookup, keys_of, remove_entry}
 use Rattle.std.specs.Ordering.{is_eq}
-use Rattle.slab.specs.Slab.{Slab, get, Updates}
+use Rattle.slab.specs.Slab.{Slab, get, HasRoomFor}
 use Rattle.cql_value.specs.Order.{row_cmp}
 use Rattle.cql_value.specs.declared.value.Value.{Value}
-use Rattle.cql_bag.specs.declared.change.Change.{Change}
-use Rattle.cql_groups.specs.Grouped.{at_key, IsChangedOne, IsSettled}
-use Rattle.cql_ops.specs.Linear.{with_change}
-use Rattle.cql_groups.specs.declared.layout.ItemSource.{ItemSource}
+use Rattle.cql_groups.specs.Grouped.{at_key}
 use Rattle.cql_groups.specs.declared.group.Group.{Group}
 use Rattle.cql_groups.specs.declared.group_map.GroupMap.{GroupMap}
 use Rattle.cql_groups.specs.declared.group_map.Touched.{Touched}
@@ -49,32 +46,20 @@ pub record IsSlotOf (key : List Value) (at : ℕ) (m : GroupMap) : Type 0 where
   pub is : IsAt m.slots at key
   pub found : slot_of_key key m.index.entries ≡ Some at
 
+-- the slot of a key, if it has a group
+abbrev pub Finds : List Value → GroupMap → Option ℕ → Type 0
+Finds key m None = at_key key (groups_in m) ≡ None
+Finds key m (Some at) = IsSlotOf key at m
+
 -- the keys that wait
 abbrev pub keys_in : List Touched → List (List Value)
 keys_in touched = map (λ t. t.key) touched
 
--- the group in a slot after one of its rows came or went
-pub record IsChangedSlot (c : Change) (at : ℕ) (old new : Slab Group) (left more : List (List Value)) (before after : ℕ) : Type 0 where
-  pub was : Group
-  pub now : Group
-  pub there : get old at ≡ Some was
-  pub slots : Updates old new at (Some now)
-  pub change : IsChangedOne c was now left more before after
-
--- the group in a slot after it told its row, and whether it has one
-pub record IsSettledSlot (sources : List ItemSource) (at : ℕ) (old new : Slab Group) (before out : List Change) (some : Bool) : Type 0 where
-  pub was : Group
-  pub now : Group
-  pub there : get old at ≡ Some was
-  pub slots : Updates old new at (Some now)
-  pub settled : IsSettled sources was now some
-  pub told : out ≡ (before ++ with_change false was.told []) ++ with_change true now.told []
-
--- a row may come or go in a group; one that lacks a value is among as many
-pub record CanChangeGroup (c : Change) (lacking : ℕ) (g : Group) : Type 0 where
-  pub few : g.size < 2 ^ 63
-  pub some : c.plus ≡ false → 1 ≤ g.size
-  pub among : g.lacks ≡ true → 1 ≤ lacking
+-- as before, with room for one group more
+pub record HasRoom (old new : GroupMap) : Type 0 where
+  pub index : new.index.entries ≡ old.index.entries
+  pub slots : (at : ℕ) → get new.slots at ≡ get old.slots at
+  pub room : HasRoomFor new.slots 1
 
 -- a group was put in, where there was none of its key
 pub record IsPut (key : List Value) (g : Group) (old new : GroupMap) : Type 0 where

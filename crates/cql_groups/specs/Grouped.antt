@@ -20,6 +20,7 @@ use Rattle.cql_groups.specs.Layouts.{IsLayout, row_of_parts}
 use Rattle.cql_ops.specs.Clauses.{AreChangesOf}
 use Rattle.cql_ops.specs.Linear.{with_entry}
 use Rattle.cql_ops.specs.Settle.{is_among}
+use Rattle.cql_plain.specs.Shaped.{TellsShape}
 use Rattle.cql_groups.specs.declared.group.Group.{Group}
 use Rattle.cql_groups.specs.declared.layout.Layout.{Layout}
 use Rattle.cql_groups.specs.declared.layout.ItemSource.{ItemSource}
@@ -155,6 +156,13 @@ IsPushed l after before now groups left many = record {
   told : told_of groups ≡ before;
   held : IsGrouping l now (told_of groups) groups left;
   lacking : many ≡ lacking_groups l.shape now;
+}
+
+-- all groups that waited are told
+abbrev pub IsToldAll : Layout → Counts → List (List Value × Group) → List (List Value × Group) → List (List Value) → List Change → List Change → Type 0
+IsToldAll l port old new left before out = record {
+  groups : IsGrouping l port (told_of new) new left;
+  told : TellsShape l.shape port (told_of old) (told_of new) before out;
 }
 
 -- the group of a key is told, and waits no more

@@ -1,14 +1,13 @@
 // The groups of a shape, each with what its row needs.
-ghost use Rattle.std.specs.Prelude.{◌≡◌, ◌+◌, ◌<◌, ◌≤◌, ◌^◌, ◌⊎◌, ◌++◌, [], ◌∷◌, Some, true, false, if◌then◌else◌, IfOk, IfErr, OnOk, OnErr, vec_len, vec_capacity, IsSomeAnd};
+ghost use Rattle.std.specs.Prelude.{◌≡◌, ◌+◌, ◌<◌, ◌≤◌, ◌^◌, ◌⊎◌, ◌++◌, [], ◌∷◌, Some, true, false, if◌then◌else◌, IfOk, IfErr, OnOk, OnErr, vec_len, vec_capacity};
 ghost use Rattle.cql_bag.specs.Changes.{changed, CanChange, Grows};
-ghost use Rattle.slab.specs.Slab.{get};
 ghost use Rattle.cql_value.specs.Schema.{HasTypes};
-ghost use Rattle.cql_groups.specs.Grouped.{IsNew, at_key, IsChangedGroup, CanChangeAt, IsChangedAt, IsDue, IsLacking, IsChangedOne, IsGrouping, IsPushed, IsSettled, IsToldOf, lacking_groups, one_if, TellsGroups, told_of};
-ghost use Rattle.cql_groups.specs.Filed.{CanChangeGroup, IsChangedSlot, IsFiled, IsSettledSlot, groups_in, keys_in};
+ghost use Rattle.cql_groups.specs.Grouped.{IsNew, at_key, IsChangedGroup, CanChangeAt, IsChangedAt, IsDue, IsLacking, IsChangedOne, IsGrouping, IsPushed, IsSettled, IsToldAll, IsToldOf, lacking_groups, one_if, told_of};
+ghost use Rattle.cql_groups.specs.Filed.{IsFiled, groups_in, keys_in};
 ghost use Rattle.cql_groups.specs.GroupLaws.{Laws};
 ghost use Rattle.cql_ops.specs.Linear.{with_change};
 ghost use Rattle.cql_ops.specs.declared.error.OpError.TheVariants.{NoMemory, Overflow};
-ghost use Rattle.cql_plain.specs.Shaped.{TellsShape, FailsToShape};
+ghost use Rattle.cql_plain.specs.Shaped.{FailsToShape};
 
 use crate::accumulator::{Accumulator, AccumulatorKind, change_parts, new_parts, some_outside};
 use crate::group_key::GroupKey;
@@ -25,7 +24,6 @@ use cql_bag::law::{own_entries, put_all_counts, same_counts, take_counts};
 use cql_bag::{Change, RowQueue};
 use cql_ops::{Meter, OpError};
 use cql_value::Row;
-use slab::Slab;
 use std::alloc::{AllocError, Global};
 
 /// How many rows a group may have.
@@ -219,24 +217,6 @@ fn change_group(
     Ok(())
 }
 
-// The group in a slot is changed where it stands.
-fn change_slot(
-    alloc: Global,
-    change: &Change,
-    slot: usize,
-    slots: &mut Slab<Group>,
-    touched: &mut Vec<Touched>,
-    lacking: &mut u64,
-) -> Result<(), AllocError>
-    requires { IsSomeAnd (get slots.old slot) (CanChangeGroup change.now lacking.old) }
-    ensures { OnOk result (IsChangedSlot change.now slot slots.old slots.new (keys_in touched.old.items) (keys_in touched.new.items) lacking.old lacking.new) }
-{
-    match slots.get_mut(slot) {
-        Some(group) => change_group(alloc, change, slot, group, touched, lacking),
-        None => unreachable!(),
-    }
-}
-
 // The group of the row's key is changed where it stands; where there is none, one is put in.
 fn change_at(
     alloc: Global,
@@ -249,13 +229,15 @@ fn change_at(
 ) -> Result<(), AllocError>
     requires filed { IsFiled groups.old }
     requires can { CanChangeAt asked.now change.now key.now (at_key key.now (groups_in groups.old)) lacking.old }
-    ensures changed { OnOk result (IsChangedAt asked.now change.now key.now (groups_in groups.old) (groups_in groups.new) (keys_in touched.old.items) (keys_in touched.new.items) lacking.old lacking.new) }
-    ensures filed { OnOk result (IsFiled groups.new) }
+    ensures { OnOk result (IsChangedAt asked.now change.now key.now (groups_in groups.old) (groups_in groups.new) (keys_in touched.old.items) (keys_in touched.new.items) lacking.old lacking.new × IsFiled groups.new) }
 {
     match find_recent(key, groups) {
         Some(slot) => {
             note_slot(key, slot, &mut groups.recent);
-            change_slot(alloc, change, slot, &mut groups.slots, touched, lacking)
+            let Some(group) = groups.slots.get_mut(slot) else {
+                unreachable!();
+            };
+            change_group(alloc, change, slot, group, touched, lacking)
         }
         None => {
             let slot = groups.slots.vacant_key();
@@ -282,8 +264,7 @@ pub(crate) fn push_row(
     requires lacking { lacking.old ≡ lacking_groups layout.now.shape port.old }
     requires types { HasTypes layout.now.shape.columns change.now.row }
     requires there { CanChange change.now port.old }
-    ensures pushed { OnOk result (IsPushed layout.now (changed change.now port.old) (told_of (groups_in groups.old)) port.new (groups_in groups.new) (keys_in touched.new.items) lacking.new) }
-    ensures filed { OnOk result (IsFiled groups.new) }
+    ensures { OnOk result (IsPushed layout.now (changed change.now port.old) (told_of (groups_in groups.old)) port.new (groups_in groups.new) (keys_in touched.new.items) lacking.new × IsFiled groups.new) }
 {
     group_laws();
     key.set(alloc, layout.shape.groups.as_slice(), change.row.values())?;
@@ -309,8 +290,7 @@ fn settle_group(
 ) -> Result<bool, OpError>
     requires { group.old.size < 2 ^ 63 }
     ensures settled { IfOk result (λ some. IsSettled sources.now group.old group.new some × (out.new.items ≡ (out.old.items ++ with_change false group.old.told []) ++ with_change true group.new.told [])) }
-    ensures kept { OnErr result (Grows out.old.items out.new.items) }
-    ensures err { IfErr result (λ e. (e ≡ NoMemory) ⊎ ((e ≡ Overflow) × IsLacking sources.now group.old)) }
+    ensures err { IfErr result (λ e. Grows out.old.items out.new.items × ((e ≡ NoMemory) ⊎ ((e ≡ Overflow) × IsLacking sources.now group.old))) }
 {
     let row = group.row(alloc, sources, remade)?;
     let told = shared(&row)?;
@@ -321,26 +301,6 @@ fn settle_group(
     group.told = row;
     group.pushed = false;
     Ok(some)
-}
-
-// The group in a slot tells its row. Whether it has one.
-fn settle_slot(
-    alloc: Global,
-    sources: &[ItemSource],
-    slot: usize,
-    slots: &mut Slab<Group>,
-    remade: &mut Meter,
-    out: &mut Vec<Change>,
-) -> Result<bool, OpError>
-    requires { IsSomeAnd (get slots.old slot) (λ g. g.size < 2 ^ 63) }
-    ensures settled { IfOk result (IsSettledSlot sources.now slot slots.old slots.new out.old.items out.new.items) }
-    ensures kept { OnErr result (Grows out.old.items out.new.items) }
-    ensures err { IfErr result (λ e. (e ≡ NoMemory) ⊎ ((e ≡ Overflow) × IsSomeAnd (get slots.old slot) (IsLacking sources.now))) }
-{
-    match slots.get_mut(slot) {
-        Some(group) => settle_group(alloc, sources, group, remade, out),
-        None => unreachable!(),
-    }
 }
 
 // The group of a key, where there is one, tells its row; without rows it goes.
@@ -356,44 +316,18 @@ fn settle_key(
 ) -> Result<(), OpError>
     requires held { IsGrouping layout.now port.now (told_of (groups_in groups.old)) (groups_in groups.old) (touched.now.key ∷ keys_in rest.now) }
     requires filed { IsFiled groups.old }
-    ensures told { OnOk result (IsToldOf layout.now port.now (groups_in groups.old) (groups_in groups.new) (keys_in rest.now) out.old.items out.new.items) }
-    ensures filed { OnOk result (IsFiled groups.new) }
-    ensures kept { OnErr result (Grows out.old.items out.new.items) }
-    ensures err { IfErr result (FailsToShape layout.now.shape port.now) }
+    ensures told { OnOk result (IsToldOf layout.now port.now (groups_in groups.old) (groups_in groups.new) (keys_in rest.now) out.old.items out.new.items × IsFiled groups.new) }
+    ensures err { IfErr result (λ e. Grows out.old.items out.new.items × FailsToShape layout.now.shape port.now e) }
 {
     group_laws();
     let Some(slot) = find_at(&touched.key, touched.slot, groups) else {
         return Ok(());
     };
-    let sources = layout.sources.as_slice();
-    if !settle_slot(alloc, sources, slot, &mut groups.slots, remade, out)? {
+    let Some(group) = groups.slots.get_mut(slot) else {
+        unreachable!();
+    };
+    if !settle_group(alloc, layout.sources.as_slice(), group, remade, out)? {
         let_go(&touched.key, slot, groups);
-    }
-    Ok(())
-}
-
-// Tells the rows of these keys, one after another.
-fn settle_keys(
-    alloc: Global,
-    layout: &Layout,
-    port: &RowQueue,
-    touched: &[Touched],
-    groups: &mut GroupMap,
-    remade: &mut Meter,
-    out: &mut Vec<Change>,
-) -> Result<(), OpError>
-    requires held { IsGrouping layout.now port.now (told_of (groups_in groups.old)) (groups_in groups.old) (keys_in touched.now) }
-    requires filed { IsFiled groups.old }
-    ensures filed { OnOk result (IsFiled groups.new) }
-    ensures groups { OnOk result (IsGrouping layout.now port.now (told_of (groups_in groups.new)) (groups_in groups.new) []) }
-    ensures told { OnOk result (TellsGroups layout.now.shape (told_of (groups_in groups.old)) (told_of (groups_in groups.new)) out.old.items out.new.items) }
-    ensures kept { OnErr result (Grows out.old.items out.new.items) }
-    ensures err { IfErr result (FailsToShape layout.now.shape port.now) }
-{
-    let mut left = touched;
-    while let Some((first, rest)) = left.split_first() {
-        settle_key(alloc, layout, port, first, rest, groups, remade, out)?;
-        left = rest;
     }
     Ok(())
 }
@@ -410,15 +344,15 @@ pub(crate) fn tell_groups(
 ) -> Result<(), OpError>
     requires held { IsGrouping layout.now port.now (told_of (groups_in groups.old)) (groups_in groups.old) (keys_in touched.old.items) }
     requires filed { IsFiled groups.old }
-    ensures filed { OnOk result (IsFiled groups.new) }
-    ensures held { OnOk result (IsGrouping layout.now port.now (told_of (groups_in groups.new)) (groups_in groups.new) (keys_in touched.new.items)) }
-    ensures told { OnOk result (TellsShape layout.now.shape port.now (told_of (groups_in groups.old)) (told_of (groups_in groups.new)) out.old.items out.new.items) }
-    ensures kept { OnErr result (Grows out.old.items out.new.items) }
-    ensures err { IfErr result (FailsToShape layout.now.shape port.now) }
+    ensures told { OnOk result (IsToldAll layout.now port.now (groups_in groups.old) (groups_in groups.new) (keys_in touched.new.items) out.old.items out.new.items × IsFiled groups.new) }
+    ensures err { IfErr result (λ e. Grows out.old.items out.new.items × FailsToShape layout.now.shape port.now e) }
 {
     group_laws();
-    settle_keys(alloc, layout, port, touched, groups, remade, out)?;
-    let _ = groups.index.iter();
+    let mut left = touched.as_slice();
+    while let Some((first, rest)) = left.split_first() {
+        settle_key(alloc, layout, port, first, rest, groups, remade, out)?;
+        left = rest;
+    }
     touched.clear();
     Ok(())
 }

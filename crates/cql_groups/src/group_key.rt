@@ -1,5 +1,5 @@
 // The key of a group: what its rows have in the grouped columns.
-ghost use Rattle.std.specs.Prelude.{◌≡◌, [], ◌∷◌, IfOk, IfSome, OnOk, refl};
+ghost use Rattle.std.specs.Prelude.{◌≡◌, ◌<◌, [], ◌∷◌, IfOk, IfSome, OnOk, refl};
 ghost use Rattle.std.specs.Ordering.{eq_by_cmp, as_partial_cmp};
 ghost use Rattle.std.specs.Cmp.{partial_equiv_from_equiv, eq_by_cmp_equiv, partial_order_from_total};
 ghost use Rattle.cql_value.specs.Order.{row_cmp, row_cmp_total};
@@ -58,28 +58,24 @@ fn number_of(columns: &[usize], row: &[Value]) -> Option<i64>
     }
 }
 
-// The key of a row, in the place of another, whose room is used again where no other row shares it.
-fn refill(alloc: Global, columns: &[usize], row: &[Value], old: &mut Row) -> Result<(), AllocError>
-    ensures { OnOk result (old.new ≡ key_of columns.now row.now) }
+// A single number and a key, as rows.
+fn number_cmp(number: i64, key: &GroupKey) -> Ordering
+    ensures { result ≡ row_cmp (Number number ∷ []) key.now }
 {
-    let mut values = old.take_room(alloc);
-    choose(alloc, columns, row, &mut values)?;
-    old.refill(alloc, values)
+    match &key.form {
+        KeyForm::Number(other) => number.cmp(other),
+        KeyForm::Row(row) => [Value::Number(number)].as_slice().cmp(row.values()),
+    }
 }
 
 // As rows, where not both are single numbers. It stands apart so that `cmp` is short.
 fn values_cmp(a: &GroupKey, b: &GroupKey) -> Ordering
     ensures { result ≡ row_cmp a.now b.now }
 {
-    match &a.form {
-        KeyForm::Number(m) => match &b.form {
-            KeyForm::Number(n) => m.cmp(n),
-            KeyForm::Row(row) => [Value::Number(*m)].as_slice().cmp(row.values()),
-        },
-        KeyForm::Row(row) => match &b.form {
-            KeyForm::Number(n) => row.values().cmp([Value::Number(*n)].as_slice()),
-            KeyForm::Row(other) => row.cmp(other),
-        },
+    match (&a.form, &b.form) {
+        (KeyForm::Number(number), _) => number_cmp(*number, b),
+        (KeyForm::Row(_), KeyForm::Number(number)) => number_cmp(*number, a).reverse(),
+        (KeyForm::Row(row), KeyForm::Row(other)) => row.cmp(other),
     }
 }
 
@@ -93,7 +89,7 @@ impl GroupKey {
         }
     }
 
-    /// Becomes the key of a row.
+    /// Becomes the key of a row, in the room of the one before where no other row shares it.
     pub fn set(&mut self, alloc: Global, columns: &[usize], row: &[Value]) -> Result<(), AllocError>
         ensures { OnOk result (self.new ≡ key_of columns.now row.now) }
     {
@@ -102,7 +98,11 @@ impl GroupKey {
             return Ok(());
         }
         match &mut self.form {
-            KeyForm::Row(old) => refill(alloc, columns, row, old),
+            KeyForm::Row(old) => {
+                let mut values = old.take_room(alloc);
+                choose(alloc, columns, row, &mut values)?;
+                old.refill(alloc, values)
+            }
             KeyForm::Number(_) => {
                 self.form = KeyForm::Row(key(alloc, columns, row)?);
                 Ok(())
@@ -112,13 +112,14 @@ impl GroupKey {
 
     /// Which of so many places is the key's, where it is a single number and there are any. Other keys
     /// may have the same.
-    pub fn place(&self, places: usize) -> Option<usize> {
+    pub fn place(&self, places: usize) -> Option<usize>
+        ensures { IfSome result (λ at. at < places) }
+    {
         match &self.form {
-            KeyForm::Number(number) => {
-                let place = number.unsigned_abs().checked_rem(places as u64)?;
-                Some(place as usize)
+            KeyForm::Number(number) if places > 0 => {
+                Some((number.unsigned_abs() % places as u64) as usize)
             }
-            KeyForm::Row(_) => None,
+            _ => None,
         }
     }
 

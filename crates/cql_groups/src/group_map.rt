@@ -1,7 +1,7 @@
 // Groups in slots, with an index of their keys.
-ghost use Rattle.std.specs.Prelude.{◌≡◌, None, IfSome, IsTrue, OnOk};
+ghost use Rattle.std.specs.Prelude.{◌≡◌, None, IsTrue, OnOk};
 ghost use Rattle.cql_groups.specs.Grouped.{at_key};
-ghost use Rattle.cql_groups.specs.Filed.{IsAt, IsFiled, IsLetGo, IsPut, IsSlotOf, groups_in};
+ghost use Rattle.cql_groups.specs.Filed.{Finds, HasRoom, IsAt, IsFiled, IsLetGo, IsPut, IsSlotOf, groups_in};
 
 use crate::group::Group;
 use crate::group_key::GroupKey;
@@ -52,8 +52,7 @@ fn is_at(slots: &Slab<Group>, slot: usize, key: &GroupKey) -> bool
 // The slot of a key, if there is a group.
 fn find(key: &GroupKey, groups: &GroupMap) -> Option<usize>
     requires { IsFiled groups.now }
-    ensures some { IfSome result (λ at. IsSlotOf key.now at groups.now) }
-    ensures none { result ≡ None → at_key key.now (groups_in groups.now) ≡ None }
+    ensures { Finds key.now groups.now result }
 {
     match groups.index.get(key) {
         Some(slot) => Some(*slot),
@@ -65,8 +64,7 @@ fn find(key: &GroupKey, groups: &GroupMap) -> Option<usize>
 /// stands there no more.
 pub(crate) fn find_at(key: &GroupKey, slot: usize, groups: &GroupMap) -> Option<usize>
     requires { IsFiled groups.now }
-    ensures some { IfSome result (λ at. IsSlotOf key.now at groups.now) }
-    ensures none { result ≡ None → at_key key.now (groups_in groups.now) ≡ None }
+    ensures { Finds key.now groups.now result }
 {
     if is_at(&groups.slots, slot, key) {
         return Some(slot);
@@ -74,38 +72,30 @@ pub(crate) fn find_at(key: &GroupKey, slot: usize, groups: &GroupMap) -> Option<
     find(key, groups)
 }
 
-// The slot that was noted last for the key's place.
-fn recent_slot(key: &GroupKey, recent: &[usize]) -> Option<usize> {
-    let slot = recent.get(key.place(recent.len())?)?;
-    Some(*slot)
-}
-
 /// The next key of its place is looked for in this slot first.
 pub(crate) fn note_slot(key: &GroupKey, slot: usize, recent: &mut Vec<usize>) {
-    let Some(place) = key.place(recent.len()) else {
-        return;
-    };
-    if let Some(last) = recent.get_mut(place) {
-        *last = slot;
+    if let Some(place) = key.place(recent.len()) {
+        recent[place] = slot;
     }
 }
 
-// There are to be as many places as there were groups at once.
-fn add_place(groups: usize, recent: &mut Vec<usize>) -> Result<(), AllocError> {
-    if recent.len() <= groups {
-        recent.push(0)?;
+// There is to be room for one group more, and as many places as there were groups at once.
+fn make_room(groups: &mut GroupMap) -> Result<(), AllocError>
+    ensures { OnOk result (HasRoom groups.old groups.new) }
+{
+    if groups.recent.len() <= groups.index.len() {
+        groups.recent.push(0)?;
     }
-    Ok(())
+    groups.slots.reserve(1)
 }
 
 /// The slot of a key, if there is a group. It is looked for where one of its place was noted last.
 pub(crate) fn find_recent(key: &GroupKey, groups: &GroupMap) -> Option<usize>
     requires { IsFiled groups.now }
-    ensures some { IfSome result (λ at. IsSlotOf key.now at groups.now) }
-    ensures none { result ≡ None → at_key key.now (groups_in groups.now) ≡ None }
+    ensures { Finds key.now groups.now result }
 {
-    match recent_slot(key, groups.recent.as_slice()) {
-        Some(slot) => find_at(key, slot, groups),
+    match key.place(groups.recent.len()) {
+        Some(place) => find_at(key, groups.recent[place], groups),
         None => find(key, groups),
     }
 }
@@ -121,9 +111,8 @@ pub(crate) fn put_group(
     requires name { group.key ≡ key.now }
     ensures { OnOk result (IsPut key.now group groups.old groups.new) }
 {
+    make_room(groups)?;
     let key = key.share()?;
-    add_place(groups.index.len(), &mut groups.recent)?;
-    groups.slots.reserve(1)?;
     let slot = groups.slots.vacant_key();
     groups.index.insert(key, slot)?;
     let _ = groups.slots.insert_reserved(group);

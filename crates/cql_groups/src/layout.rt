@@ -1,5 +1,5 @@
 // What the items of a shape ask of columns, each once, and where each item finds its value.
-ghost use Rattle.std.specs.Prelude.{◌≡◌, Some, slice_get, IfOk, IfSome, OnOk};
+ghost use Rattle.std.specs.Prelude.{◌≡◌, Some, slice_get, IfOk, IfSome};
 ghost use Rattle.std.specs.List.{AllByRecursion};
 ghost use Rattle.cql_groups.specs.Keyed.{IsKeyed};
 ghost use Rattle.cql_groups.specs.Layouts.{column_in, asks, IsOther, IsGrownBy, IsSourceOf, IsLayout};
@@ -64,8 +64,7 @@ fn found(asked: &[AccumulatorKind], one: AccumulatorKind) -> Option<usize>
 
 // Where it stands, put at the end if it isn't there.
 fn index_of(one: AccumulatorKind, asked: &mut Vec<AccumulatorKind>) -> Result<usize, AllocError>
-    ensures index { IfOk result (λ at. slice_get asked.new.items at ≡ Some one) }
-    ensures grown { OnOk result (IsGrownBy (Some one) asked.old.items asked.new.items) }
+    ensures { IfOk result (λ at. (slice_get asked.new.items at ≡ Some one) × IsGrownBy (Some one) asked.old.items asked.new.items) }
 {
     if let Some(index) = found(asked.as_slice(), one) {
         return Ok(index);
@@ -77,8 +76,7 @@ fn index_of(one: AccumulatorKind, asked: &mut Vec<AccumulatorKind>) -> Result<us
 
 // Where the item finds its value; what it asks is put at the end if it isn't there.
 fn source_of(item: &Item, asked: &mut Vec<AccumulatorKind>) -> Result<ItemSource, AllocError>
-    ensures source { IfOk result (IsSourceOf asked.new.items item.now) }
-    ensures grown { OnOk result (IsGrownBy (asks item.now) asked.old.items asked.new.items) }
+    ensures { IfOk result (λ source. IsSourceOf asked.new.items item.now source × IsGrownBy (asks item.now) asked.old.items asked.new.items) }
 {
     match item {
         Item::Value(expr) => Ok(ItemSource::Column(column_in(expr))),
@@ -99,8 +97,7 @@ impl Layout {
     /// Of a shape. What several items ask stands there once.
     pub fn new(alloc: Global, shape: &Shape) -> Result<Layout, AllocError>
         requires { IsKeyed shape.now }
-        ensures shape { IfOk result (λ l. l.shape ≡ shape.now) }
-        ensures layout { IfOk result IsLayout }
+        ensures { IfOk result (λ l. (l.shape ≡ shape.now) × IsLayout l) }
     {
         let mut asked = Vec::new(alloc);
         let mut sources = Vec::new(alloc);

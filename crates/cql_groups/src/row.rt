@@ -21,22 +21,15 @@ fn sum_in(part: Option<&Accumulator>) -> Option<Value>
     }
 }
 
-// The first of a column's values.
-fn first(values: &Bag) -> Option<&Value>
-    ensures { option_copied result ≡ first_of values.now }
-{
-    match values.first() {
-        Some(row) => at(row.values(), 0),
-        None => None,
-    }
-}
-
 // The least of the values that are kept.
 fn least(part: Option<&Accumulator>) -> Option<&Value>
     ensures { option_copied result ≡ first_of (values_in (option_copied part.entry)) }
 {
     match part {
-        Some(Accumulator::Values(_, values)) => first(values),
+        Some(Accumulator::Values(_, values)) => match values.first() {
+            Some(row) => at(row.values(), 0),
+            None => None,
+        },
         _ => None,
     }
 }
@@ -106,7 +99,7 @@ pub(crate) fn row_of_parts(
     let mut values = Vec::with_capacity(alloc, sources.len())?;
     for source in sources {
         match source.value(alloc, size, sample, parts)? {
-            Some(value) => values.push(value)?,
+            Some(value) => values.push_reserved(value),
             None => return Ok(None),
         }
     }

@@ -1,111 +1,107 @@
-use Rattle.std.proofs.lemmas.Grind.{common_steps}
-use Rattle.std.proofs.Common.{arith, ◌≡◌, ◌⊎◌, ◌++◌, [], ◌<◌, true, false, inl, inr, refl, sym, ap, subst, ◌∙◌, rules}
-use Rattle.std.specs.Prelude.{Some, IfErr, IfSome, IsSomeAnd}
-use Rattle.std.proofs.lemmas.Result.{IfErr-weaker}
-use Rattle.slab.specs.Slab.{get}
-use Rattle.cql_bag.specs.Bag.{Counts}
-use Rattle.cql_bag.specs.Changes.{changed_by}
-use Rattle.cql_groups.specs.Filed.{IsSlotOf, entries_in, groups_in, keys_in}
-use Rattle.cql_groups.specs.Grouped.{IsLacking, IsGrouping, IsSettled, TellsGroups, at_key, told_of}
+use Rattle.std.proofs.Common.{inl, inr, sym, ap, subst}
+use Rattle.std.proofs.lemmas.Result.{err_from_is_err_and}
+use Rattle.slab.specs.Slab.{with_value}
+use Rattle.cql_groups.specs.Filed.{entries_in, groups_in, keys_in}
+use Rattle.cql_groups.specs.Grouped.{IsLacking, IsSettled, told_of}
 use Rattle.cql_groups.specs.declared.group.Group.{Group}
-use Rattle.cql_ops.specs.Linear.{with_change}
-use Rattle.cql_ops.specs.declared.error.OpError.TheVariants.{NoMemory, Overflow}
-use Rattle.cql_groups.proofs.Filed.{group_found, settled_filed, settled_is, settled_there, settled_entries, settled_looks}
-use Rattle.cql_groups.proofs.GroupingLaws.{passed, held, settled_some, settled_none, tells, told_now, as_told}
+use Rattle.cql_groups.proofs.Filed.{group_at, written_filed, written_is, written_entries, written_looks}
+use Rattle.cql_groups.proofs.GroupingLaws.{held, settled_some, settled_none, told_none, told_to}
 use Rattle.cql_groups.proofs.GroupValue.{lacking}
 use Rattle.cql_groups.proofs.group.settle_key.Goals as goal
 
-pub returns-in_default-clause-told : goal.returns-in_default-clause-told
-returns-in_default-clause-told c =
-    let es = groups_in c.args.groups.now in
-    let groups = as_told c.group_laws.ensures c.args.layout.now c.args.port.now (told_of es) es (keys_in c.args.rest.now)
-    (passed c.args.layout.now c.args.port.now (told_of es) es es c.args.touched.now.key (keys_in c.args.rest.now) c.requires.held (sym (c.find_at.ensures.none (search rules))) refl) in
-    record { groups = groups; told = grind (arith, common_steps) }
+pub returns-in_default : goal.returns-in_default
+returns-in_default c = record {
+  told = (told_none c.group_laws.ensures c.args.layout.now c.args.port.now (groups_in c.args.groups.now) c.args.touched.now.key (keys_in c.args.rest.now) c.requires.held c.in_default.ensures c.args.out.now.items, c.requires.filed);
+  err = tt;
+}
 
-pub settle_slot-requires : goal.settle_slot-requires
-settle_slot-requires c =
-    let es = groups_in c.args.groups.now in
+pub returns-in_err-settle_group : goal.returns-in_err-settle_group
+returns-in_err-settle_group c =
+    let m = c.args.groups.now in
+    let es = groups_in m in
     let key = c.args.touched.now.key in
-    let at = subst (λ o. IfSome o (λ i. IsSlotOf key i c.args.groups.now)) c.in-Some.is c.find_at.ensures.some in
-    let there = group_found key c.in-Some.slot c.args.groups.now.index.entries c.args.groups.now.slots c.requires.filed at.found ∙ at.is.1 in
-    subst (λ o. IsSomeAnd o (λ (g : Group). g.size < 9223372036854775808)) (sym at.is.1)
-    (held c.group_laws.ensures c.group_laws.ensures.typing c.args.layout.now c.args.port.now (told_of es) es key (keys_in c.args.rest.now) c.requires.held at.is.0 there).group.few
+    let group = c.in-Some-get_mut.group.now in
+    let there = group_at m.index.entries m.slots c.requires.filed key c.in-Some.slot c.in-Some.ensures.found group (sym c.in-Some-get_mut.ensures.value) in
+    let p = err_from_is_err_and c.from_residual.result c.from_residual.ensures.1 in
+    rw (p.1, p.2) (record {
+      told = tt;
+      err = (
+        c.in_err-settle_group.ensures.err.0,
+        elim c.in_err-settle_group.ensures.err.1 [
+          | inl n ↦ inl n
+          | inr o ↦ inr (o.0, lacking c.group_laws.ensures c.args.layout.now c.args.port.now (told_of es) es key (keys_in c.args.rest.now) c.requires.held group there (subst (λ s. IsLacking s group) c.as_slice.ensures o.1))
+        ],
+      );
+    })
 
-pub returns-in_err-settle_slot-clause-err : goal.returns-in_err-settle_slot-clause-err
-returns-in_err-settle_slot-clause-err c =
-    let es = groups_in c.args.groups.now in
+pub settle_group-requires : goal.settle_group-requires
+settle_group-requires c =
+    let m = c.args.groups.now in
+    let es = groups_in m in
     let key = c.args.touched.now.key in
-    let at = subst (λ o. IfSome o (λ i. IsSlotOf key i c.args.groups.now)) c.in-Some.is c.find_at.ensures.some in
-    let there = group_found key c.in-Some.slot c.args.groups.now.index.entries c.args.groups.now.slots c.requires.filed at.found ∙ at.is.1 in
-    let fails : IfErr c.from_residual.result (λ e. (e ≡ NoMemory) ⊎ ((e ≡ Overflow) × IsSomeAnd (get c.args.groups.now.slots c.in-Some.slot) (IsLacking c.args.layout.now.sources))) = search rules in
-    IfErr-weaker c.from_residual.result _ _ (λ e h. elim h [
-      | inl n ↦ inl n
-      | inr o ↦ inr (o.0, lacking c.group_laws.ensures c.args.layout.now c.args.port.now (told_of es) es key (keys_in c.args.rest.now) c.requires.held at.is.0 there (subst (λ x. IsSomeAnd x (IsLacking c.args.layout.now.sources)) at.is.1 o.1))
-    ]) fails
+    let group = c.in-Some-get_mut.group.now in
+    let there = group_at m.index.entries m.slots c.requires.filed key c.in-Some.slot c.in-Some.ensures.found group (sym c.in-Some-get_mut.ensures.value) in
+    (held c.group_laws.ensures c.group_laws.ensures.typing c.args.layout.now c.args.port.now (told_of es) es key (keys_in c.args.rest.now) c.requires.held group there).group.few
 
-pub let_go-requires-clause-filed : goal.let_go-requires-clause-filed
-let_go-requires-clause-filed c =
-    let key = c.args.touched.now.key in
-    let at = subst (λ o. IfSome o (λ i. IsSlotOf key i c.args.groups.now)) c.in-Some.is c.find_at.ensures.some in
-    settled_filed c.args.groups.now.index.entries c.args.groups.now.slots c.settle_slot.new.slots c.requires.filed key c.in-Some.slot at.found _ _ _ _ c.in_ok-settle_slot.ensures.settled
+pub let_go-requires : goal.let_go-requires
+let_go-requires c =
+    let m = c.args.groups.now in
+    let at = c.in-Some.ensures.found in
+    let same = ap (λ (g : Group). g.key) c.in_ok-settle_group.ensures.settled.0.same in
+    let there = sym c.in-Some-get_mut.ensures.value in
+    record {
+      filed = written_filed m.index.entries m.slots c.requires.filed c.args.touched.now.key c.in-Some.slot at c.in-Some-get_mut.group.now there c.settle_group.new.group same;
+      there = record { is = written_is m.index.entries m.slots c.requires.filed c.args.touched.now.key c.in-Some.slot at c.in-Some-get_mut.group.now there c.settle_group.new.group same; found = at };
+    }
 
-pub let_go-requires-clause-there : goal.let_go-requires-clause-there
-let_go-requires-clause-there c =
+pub returns-then-not-branch : goal.returns-then-not-branch
+returns-then-not-branch c =
+    let m = c.args.groups.now in
+    let es = groups_in m in
     let key = c.args.touched.now.key in
-    let at = subst (λ o. IfSome o (λ i. IsSlotOf key i c.args.groups.now)) c.in-Some.is c.find_at.ensures.some in
-    record { is = settled_is c.args.groups.now.index.entries c.args.groups.now.slots c.settle_slot.new.slots c.requires.filed key c.in-Some.slot at.found _ _ _ _ c.in_ok-settle_slot.ensures.settled; found = at.found }
-
-pub returns-else-not-branch-clause-filed : goal.returns-else-not-branch-clause-filed
-returns-else-not-branch-clause-filed c =
-    let key = c.args.touched.now.key in
-    let at = subst (λ o. IfSome o (λ i. IsSlotOf key i c.args.groups.now)) c.in-Some.is c.find_at.ensures.some in
-    settled_filed c.args.groups.now.index.entries c.args.groups.now.slots c.settle_slot.new.slots c.requires.filed key c.in-Some.slot at.found _ _ _ _ c.in_ok-settle_slot.ensures.settled
-
-pub returns-then-not-branch-clause-told : goal.returns-then-not-branch-clause-told
-returns-then-not-branch-clause-told c =
-    let key = c.args.touched.now.key in
-    let index = c.args.groups.now.index.entries in
-    let slots = c.args.groups.now.slots in
-    let at = subst (λ o. IfSome o (λ i. IsSlotOf key i c.args.groups.now)) c.in-Some.is c.find_at.ensures.some in
-    let it = c.in_ok-settle_slot.ensures.settled in
-    let es = groups_in c.args.groups.now in
-    let mid = entries_in index c.settle_slot.new.slots in
+    let group = c.in-Some-get_mut.group.now in
+    let new = c.settle_group.new.group in
+    let at = c.in-Some.ensures.found in
+    let in_slot = sym c.in-Some-get_mut.ensures.value in
+    let there = group_at m.index.entries m.slots c.requires.filed key c.in-Some.slot at group in_slot in
+    let layout = c.args.layout.now in
+    let port = c.args.port.now in
+    let laws = c.group_laws.ensures in
+    let rest = keys_in c.args.rest.now in
+    let it = c.in_ok-settle_group.ensures.settled in
+    let some = c.in_ok-settle_group.field-0 in
+    let settled : IsSettled layout.sources group new some = subst (λ s. IsSettled s group new some) c.as_slice.ensures it.0 in
+    let same = ap (λ (g : Group). g.key) settled.same in
     let now = groups_in c.let_go.new.groups in
-    let layout = c.args.layout.now in
-    let port = c.args.port.now in
-    let laws = c.group_laws.ensures in
-    let rest = keys_in c.args.rest.now in
-    let before = c.args.out.now.items in
-    let some = c.in_ok-settle_slot.field-0 in
-    let there = settled_there index slots c.settle_slot.new.slots c.requires.filed key c.in-Some.slot at.found _ _ _ _ it in
-    let settled : IsSettled layout.sources it.was it.now some = subst (λ s. IsSettled s it.was it.now some) c.as_slice-sources.ensures it.settled in
-    let after : Counts = changed_by (with_change true it.now.told []) (changed_by (with_change false it.was.told []) (told_of es)) in
-    let grouping : IsGrouping layout port after now rest = settled_none laws laws.typing layout port (told_of es) es key rest c.requires.held it.was there it.now some mid now settled c.if-not-branch.true
-    (settled_entries index slots c.settle_slot.new.slots c.requires.filed key c.in-Some.slot at.found _ _ _ _ it) (settled_looks index slots c.settle_slot.new.slots c.requires.filed key c.in-Some.slot at.found _ _ _ _ it) c.let_go.ensures.entries c.let_go.ensures.looks in
-    let told = subst (λ t. TellsGroups layout.shape (told_of es) t before c.settle_slot.new.out.items) (sym (told_now laws layout port after now rest grouping))
-    (tells laws laws.typing layout port (told_of es) es key rest c.requires.held it.was there it.now.told settled.due before (before ++ with_change false it.was.told []) c.settle_slot.new.out.items refl it.told) in
-    record { groups = as_told laws layout port after now rest grouping; told = told }
+    let grouping = settled_none laws laws.typing layout port (told_of es) es key rest c.requires.held group there new some (entries_in m.index.entries (with_value m.slots c.in-Some.slot new)) now settled c.if-not-branch.true
+    (written_entries m.index.entries m.slots c.requires.filed key c.in-Some.slot at group in_slot new same) (written_looks m.index.entries m.slots c.requires.filed key c.in-Some.slot at group in_slot new same) c.let_go.ensures.entries c.let_go.ensures.looks in
+    record {
+      told = (told_to laws layout port es now key rest c.requires.held group there new.told settled.due c.args.out.now.items c.settle_group.new.out.items it.1 grouping, c.let_go.ensures.filed);
+      err = tt;
+    }
 
-pub returns-else-not-branch-clause-told : goal.returns-else-not-branch-clause-told
-returns-else-not-branch-clause-told c =
+pub returns-else-not-branch : goal.returns-else-not-branch
+returns-else-not-branch c =
+    let m = c.args.groups.now in
+    let es = groups_in m in
     let key = c.args.touched.now.key in
-    let index = c.args.groups.now.index.entries in
-    let slots = c.args.groups.now.slots in
-    let at = subst (λ o. IfSome o (λ i. IsSlotOf key i c.args.groups.now)) c.in-Some.is c.find_at.ensures.some in
-    let it = c.in_ok-settle_slot.ensures.settled in
-    let es = groups_in c.args.groups.now in
-    let now = entries_in index c.settle_slot.new.slots in
+    let group = c.in-Some-get_mut.group.now in
+    let new = c.settle_group.new.group in
+    let at = c.in-Some.ensures.found in
+    let in_slot = sym c.in-Some-get_mut.ensures.value in
+    let there = group_at m.index.entries m.slots c.requires.filed key c.in-Some.slot at group in_slot in
     let layout = c.args.layout.now in
     let port = c.args.port.now in
     let laws = c.group_laws.ensures in
     let rest = keys_in c.args.rest.now in
-    let before = c.args.out.now.items in
-    let some = c.in_ok-settle_slot.field-0 in
-    let there = settled_there index slots c.settle_slot.new.slots c.requires.filed key c.in-Some.slot at.found _ _ _ _ it in
-    let settled : IsSettled layout.sources it.was it.now some = subst (λ s. IsSettled s it.was it.now some) c.as_slice-sources.ensures it.settled in
-    let after : Counts = changed_by (with_change true it.now.told []) (changed_by (with_change false it.was.told []) (told_of es)) in
-    let grouping : IsGrouping layout port after now rest = settled_some laws laws.typing layout port (told_of es) es key rest c.requires.held it.was there it.now some now settled c.if-not-branch.false
-    (settled_entries index slots c.settle_slot.new.slots c.requires.filed key c.in-Some.slot at.found _ _ _ _ it) (settled_looks index slots c.settle_slot.new.slots c.requires.filed key c.in-Some.slot at.found _ _ _ _ it) in
-    let told = subst (λ t. TellsGroups layout.shape (told_of es) t before c.settle_slot.new.out.items) (sym (told_now laws layout port after now rest grouping))
-    (tells laws laws.typing layout port (told_of es) es key rest c.requires.held it.was there it.now.told settled.due before (before ++ with_change false it.was.told []) c.settle_slot.new.out.items refl it.told) in
-    record { groups = as_told laws layout port after now rest grouping; told = told }
+    let it = c.in_ok-settle_group.ensures.settled in
+    let some = c.in_ok-settle_group.field-0 in
+    let settled : IsSettled layout.sources group new some = subst (λ s. IsSettled s group new some) c.as_slice.ensures it.0 in
+    let same = ap (λ (g : Group). g.key) settled.same in
+    let now = entries_in m.index.entries (with_value m.slots c.in-Some.slot new) in
+    let grouping = settled_some laws laws.typing layout port (told_of es) es key rest c.requires.held group there new some now settled c.if-not-branch.false
+    (written_entries m.index.entries m.slots c.requires.filed key c.in-Some.slot at group in_slot new same) (written_looks m.index.entries m.slots c.requires.filed key c.in-Some.slot at group in_slot new same) in
+    record {
+      told = (told_to laws layout port es now key rest c.requires.held group there new.told settled.due c.args.out.now.items c.settle_group.new.out.items it.1 grouping, written_filed m.index.entries m.slots c.requires.filed key c.in-Some.slot at group in_slot new same);
+      err = tt;
+    }

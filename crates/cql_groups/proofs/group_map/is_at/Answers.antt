@@ -1,5 +1,4 @@
-use Rattle.std.proofs.Common.{◌≡◌, Some, sym, ◌∙◌, rules}
-use Rattle.slab.specs.Slab.{get}
+use Rattle.std.proofs.Common.{sym, ◌∙◌}
 use Rattle.cql_value.proofs.Ties.{tied}
 use Rattle.cql_groups.proofs.group_map.is_at.Goals as goal
 

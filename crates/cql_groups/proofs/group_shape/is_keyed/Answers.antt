@@ -1,5 +1,6 @@
 use Rattle.std.proofs.lemmas.Grind.{common_steps}
 use Rattle.std.proofs.Common.{◌<◌, length, get_or, arith}
+use Rattle.std.proofs.lemmas.Bool.{false≢true}
 use Rattle.cql_plan.specs.Fit.{HasColumn}
 use Rattle.cql_groups.proofs.Keyed.{has_column, all_next_at}
 use Rattle.cql_groups.proofs.group_shape.is_keyed.Goals as goal
@@ -14,3 +15,12 @@ loop-item-preserved c = grind (arith, common_steps)
 
 pub returns : goal.returns
 returns c = grind (arith, common_steps)
+
+pub returns-then-only_counts : goal.returns-then-only_counts
+returns-then-only_counts c = λ t. absurd (false≢true t)
+
+pub returns-then-column-columns : goal.returns-then-column-columns
+returns-then-column-columns c = λ t. absurd (false≢true t)
+
+pub returns-then-not-is_keyed_item : goal.returns-then-not-is_keyed_item
+returns-then-not-is_keyed_item c = λ t. absurd (false≢true t)

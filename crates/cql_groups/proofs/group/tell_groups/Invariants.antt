@@ -1,7 +1,7 @@
 use Rattle.std.proofs.Common.{length}
 use Rattle.cql_groups.specs.Filed.{IsFiled, groups_in, keys_in}
 use Rattle.cql_groups.specs.Grouped.{IsGrouping, TellsGroups, told_of}
-use Rattle.cql_groups.proofs.group.settle_keys.Given as goal
+use Rattle.cql_groups.proofs.group.tell_groups.Given as goal
 
 -- the keys that are left wait, and the others are told
 abbrev pub invariant-loop-first : goal.invariant-loop-first

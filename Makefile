@@ -79,6 +79,7 @@ bench: build
 	bench/rows $(RUNNER)
 	bench/rounds $(RUNNER) $(SERVER)
 	bench/joins $(SERVER)
+	bench/workloads $(SERVER)
 	@cd crates/worked && rt run > /dev/null
 	bench/stores crates/worked/out/worked
 	bench/server $(SERVER)

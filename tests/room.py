@@ -113,10 +113,10 @@ def many(program):
 FEW, MANY = 1_000, 3_000
 # A put of a row and its part in the fetch make so many requests, and a tenth more are too many.
 REQUESTS = (
-    ("a linear query", "s", "Select Istream(*) From s [Range 100]", 6.1),
-    ("a sliding group", "s", "Select Istream(g, Count(*), Sum(v)) From s [Range 100] Group By g", 10.1),
-    ("a sliding join", "sp", "Select Istream(x.v, y.g) From s [Range 100] x, p [Range 100] y Where x.v = y.v", 13.2),
-    ("distinct rows", "s", "Istream(Select Distinct v From s [Range 100])", 8.3),
+    ("a linear query", "s", "Select Istream(*) From s [Range 100]", 5.1),
+    ("a sliding group", "s", "Select Istream(g, Count(*), Sum(v)) From s [Range 100] Group By g", 9.1),
+    ("a sliding join", "sp", "Select Istream(x.v, y.g) From s [Range 100] x, p [Range 100] y Where x.v = y.v", 7.3),
+    ("distinct rows", "s", "Istream(Select Distinct v From s [Range 100])", 7.4),
 )
 MOST = 1.1
 READERS = 64

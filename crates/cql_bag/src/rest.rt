@@ -14,6 +14,7 @@ use std::cmp::Ordering;
 
 // What is left of rows that ascend behind those below the row and one that is it, and whether there
 // is one.
+#[inline(always)]
 fn strike<'a>(others: &'a [Row], row: &Row) -> (&'a [Row], bool)
     ensures rest { result.0.now ≡ (strike row.now others.now).0 }
     ensures found { result.1 ≡ (strike row.now others.now).1 }

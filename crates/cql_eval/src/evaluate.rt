@@ -1,17 +1,17 @@
 // The answer to a fetch.
-ghost use Rattle.std.specs.Prelude.{◌≡◌, ◌↔◌, ◌⊎◌, ◌≤◌, ◌<◌, ◌+◌, ◌*◌, ℕ, List, length, IfOk, IfSome, OnOk, IsTrue};
+ghost use Rattle.std.specs.Prelude.{◌≡◌, ◌↔◌, ◌⊎◌, ◌≤◌, ◌<◌, ◌+◌, ◌*◌, ℕ, length, IfOk, IfSome, OnOk, IsTrue};
 ghost use Rattle.std.specs.List.{All, Contains};
-ghost use Rattle.cql_ops.specs.Bench.{BenchModel, IsBench, bench_model};
-ghost use Rattle.cql_ops.specs.Running.{told_of};
+ghost use Rattle.cql_bag.specs.Bag.{Counts};
+ghost use Rattle.cql_ops.specs.Bench.{IsBench, bench_model};
 ghost use Rattle.cql_algebra.specs.Runs.{StandFor};
 ghost use Rattle.cql_plan.specs.declared.plan.OutputKind.TheVariants.{Rstream};
 ghost use Rattle.cql_eval.specs.Answer.{IsAnswer, rows_in};
 ghost use Rattle.cql_eval.specs.Relation.{relation_at, output_at};
-ghost use Rattle.cql_eval.specs.Projected.{ProjectedWalkModel};
-ghost use Rattle.cql_eval.specs.Shown.{StandsFor, Tells, IsReady, HasCome, IsStill, AreLeft, AreSame, first_change, next_of};
+ghost use Rattle.cql_eval.specs.Shown.{StandsFor, Tells, HasCome, IsStill, AreLeft, AreSame, first_change, next_of};
 ghost use Rattle.cql_eval.specs.Warm.{IsKept, StandsBehind};
 
 use crate::answered::Answer;
+use crate::passing::pass;
 use crate::pin::Pin;
 use crate::shown::{LastTold, WalkState, nothing_shown, open, reach, same_output, tell};
 use crate::warm::{LastAnswer, remember, resume};
@@ -28,6 +28,8 @@ use std::sync::Arc;
 /// computed at one instant and where it may change, by the rows that come into the windows and
 /// leave them there. Without memory the pin is given up, and so it is where the bench's flag is set
 /// meanwhile: it is cleared first, and looked at between two instants. Behind it the bench holds no row.
+/// Where the plan shows the rows of one window as they are, what comes and leaves is told as it is: the
+/// bench is left alone but for its flag.
 pub fn answer<O: Operator>(
     alloc: Global,
     bench: &mut BenchOf<O>,
@@ -39,6 +41,10 @@ pub fn answer<O: Operator>(
 {
     bench.cancellation().clear();
     let pin = Arc::new(alloc, pin)?;
+    if pin.is_passing() {
+        let (blocks, turns) = pass(alloc, &pin, bench.cancellation())?;
+        return Ok(Answer::new(pin, Items::from_vec(blocks), turns, true));
+    }
     let evaluated = evaluate(alloc, bench, &pin, None);
     bench.clear(alloc);
     let (blocks, turns, went_on, _) = evaluated?;
@@ -105,7 +111,7 @@ fn candidates(alloc: Global, pin: &Pin) -> Result<Vec<u64>, AllocError>
 }
 
 // The instants at which the relation may change after it was computed once.
-fn later_changes(alloc: Global, pin: &Pin) -> Result<Vec<u64>, AllocError>
+pub(crate) fn later_changes(alloc: Global, pin: &Pin) -> Result<Vec<u64>, AllocError>
     ensures few { IfOk result (λ v. length v.items ≤ 2 * rows_in pin.now.windows) }
     ensures left { IfOk result (λ v. AreLeft pin.now (first_change pin.now) v.items) }
 {
@@ -116,7 +122,7 @@ fn later_changes(alloc: Global, pin: &Pin) -> Result<Vec<u64>, AllocError>
 }
 
 // The next of some instants, or the end.
-fn next_of(left: &[u64], end: u64) -> u64
+pub(crate) fn next_of(left: &[u64], end: u64) -> u64
     ensures { result ≡ next_of left.now end }
 {
     match left.first() {
@@ -133,7 +139,7 @@ fn tells_whole(kind: OutputKind) -> bool
 }
 
 // Nothing changes before an instant. Rstream then tells what it told, with nothing made anew.
-fn hold(
+pub(crate) fn hold(
     alloc: Global,
     pin: &Pin,
     last: &LastTold,
@@ -141,7 +147,8 @@ fn hold(
     until: u64,
 ) -> Result<(), AllocError>
     requires { IsStill pin.now runs.old.next until }
-    ensures { OnOk result ((ks : List ProjectedWalkModel) (o : BenchModel) → IsReady pin.now until ks o → StandsFor pin.now.plan.output last.now (told_of pin.now.plan o) (relation_at pin.now runs.old.next) → StandFor (output_at pin.now) pin.now.from runs.old → HasCome pin.now until runs.new ks last.now o) }
+    ensures next { OnOk result (runs.new.next ≡ until) }
+    ensures stand { OnOk result ((told : Counts) → StandsFor pin.now.plan.output last.now told (relation_at pin.now runs.old.next) → StandFor (output_at pin.now) pin.now.from runs.old → StandFor (output_at pin.now) pin.now.from runs.new) }
 {
     let next = runs.next();
     let kind = pin.plan().output();

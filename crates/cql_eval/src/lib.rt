@@ -5,6 +5,7 @@
 mod answered;
 mod evaluate;
 mod evaluator;
+mod passing;
 mod pin;
 mod pool;
 mod projected_walk;

@@ -1,9 +1,11 @@
 // What an answer is made of.
-ghost use Rattle.std.specs.Prelude.{◌≡◌, ◌↔◌, ◌≤◌, ◌^◌, IsTrue};
+ghost use Rattle.std.specs.Prelude.{◌≡◌, ◌≢◌, ◌↔◌, ◌≤◌, ◌^◌, IsTrue};
 ghost use Rattle.std.specs.Arc.{arc_value};
+ghost use Rattle.cql_plan.specs.Ports.{IsPlain};
+ghost use Rattle.cql_plan.specs.declared.plan.OutputKind.TheVariants.{Rstream};
 ghost use Rattle.cql_eval.specs.Pin.{IsPin};
 
-use cql_plan::Plan;
+use cql_plan::{OutputKind, Plan};
 use cql_value::slices_equal;
 use cql_window::{Window, WindowPin};
 use std::marker::Model;
@@ -105,6 +107,14 @@ impl Pin {
             }
         }
         false
+    }
+
+    // Whether its plan tells what comes into one window and leaves it, row for row: then no bench is
+    // needed, nor anything of an earlier answer.
+    pub(crate) fn is_passing(&self) -> bool
+        ensures { IsTrue result → IsPlain self.now.plan × (self.now.plan.output ≢ Rstream) }
+    {
+        !matches!(self.plan.output(), OutputKind::Rstream) && self.plan.is_plain()
     }
 
     // Whether a cursor is from the first instant on, up to behind the last.

@@ -73,10 +73,13 @@ impl<O: Operator> Pool<O> {
     /// Takes out a bench that seems to go on with the pin; else one that seems to stand for its query,
     /// so that a query that is fetched again and again has no more than it needs; else one that stands
     /// for no query, or the one that was put back before all others, which then goes on with none. None
-    /// where all are taken out.
+    /// where all are taken out, and where the pin needs none: what is kept for others stays.
     pub fn take(&mut self, alloc: Global, pin: &Pin) -> Option<Warm<O>>
         ensures { IfSome result (IsWarm O.model_of) }
     {
+        if pin.is_passing() {
+            return None;
+        }
         let index = match self.index_of(&Wanted::GoingOn(alloc, pin)) {
             Some(index) => Some(index),
             None => self.index_of(&Wanted::StandingFor(alloc, pin)),
@@ -120,7 +123,7 @@ fn take_at<O: Operator>(benches: &mut Vec<Warm<O>>, index: usize) -> Option<Warm
 /// Who lends benches that go on, each to one answer at a time.
 pub trait Lender<O: Operator>: Drop {
     /// A bench that seems to go on with the pin, or one that then goes on with none. None where all
-    /// are lent.
+    /// are lent, or where none is needed.
     fn lend(&mut self, alloc: Global, pin: &Pin) -> Option<Warm<O>>
         ensures { IfSome result (IsWarm O.model_of) };
 

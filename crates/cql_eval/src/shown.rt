@@ -94,7 +94,11 @@ fn list_changes(alloc: Global, last: &mut LastTold, rows: &mut Room) -> Result<O
 
 // What the other kinds tell of rows that came and rows that left, each ascending. A list that is told
 // is handed over, and the other one keeps its room.
-fn told_of_rows(alloc: Global, kind: OutputKind, rows: &mut Room) -> Result<Output, AllocError>
+pub(crate) fn told_of_rows(
+    alloc: Global,
+    kind: OutputKind,
+    rows: &mut Room,
+) -> Result<Output, AllocError>
     requires came { IsSorted row_cmp rows.old.came.items }
     requires left { IsSorted row_cmp rows.old.left.items }
     ensures { IfOk result (λ o. kind ≢ Rstream → o ≡ output_of_bags kind (bag_of rows.old.left.items) (bag_of rows.old.came.items)) }

@@ -14,6 +14,7 @@ mod Qualified
 mod Ports
 mod Seen
 mod PlainPlans
+mod ShownColumns
 pub mod CrossWrittenTrees
 pub mod CrossWritten
 mod Instances

@@ -1,9 +1,12 @@
 // What is computed for a query.
-ghost use Rattle.std.specs.Prelude.{◌≡◌, ◌↔◌, IsTrue, IfSome, option_copied};
+ghost use Rattle.std.specs.Prelude.{◌≡◌, ◌↔◌, List, length, IsTrue, IfSome, option_copied};
 ghost use Rattle.cql_plan.specs.Plan as spec;
-ghost use Rattle.cql_plan.specs.Ports.{ports, HavePorts};
+ghost use Rattle.cql_plan.specs.Ports.{ports, columns_from, HavePorts, IsPlain};
+ghost use Rattle.cql_value.specs.declared.schema.ColumnType.{ColumnType};
 
-use crate::node::Node;
+use crate::condition::Condition;
+use crate::expr::Expr;
+use crate::node::{Item, Node};
 use cql_value::{Equals, Items, Name};
 use cql_window::Window;
 use std::marker::Model;
@@ -123,6 +126,27 @@ impl Drop for Plan {
     }
 }
 
+// Whether the items are so many columns, each at its index.
+fn are_columns(items: &[Item], many: usize) -> bool
+    ensures { IsTrue result → (columns : List ColumnType) → length columns ≡ many → items.now ≡ columns_from 0 columns }
+{
+    if items.len() != many {
+        return false;
+    }
+    for (index, item) in items.iter().enumerate() {
+        let Item::Value(value) = item else {
+            return false;
+        };
+        let Expr::Column(column) = value else {
+            return false;
+        };
+        if *column != index {
+            return false;
+        }
+    }
+    true
+}
+
 impl Plan {
     /// The plan that says this.
     pub fn new(planned: Planned) -> Plan
@@ -171,6 +195,33 @@ impl Plan {
         ensures { result ≡ self.now.output }
     {
         self.planned.output
+    }
+
+    /// Whether it shows all columns of all rows of one input's window, and no others. It may say no of
+    /// one that does. Takes no memory.
+    pub fn is_plain(&self) -> bool
+        ensures { IsTrue result → IsPlain self.now }
+    {
+        let Planned {
+            first,
+            combined,
+            ..
+        } = &self.planned;
+        let (Node::Join(join), Node::Shape(shape), None, None) = (
+            &first.join,
+            &first.shape,
+            &first.distinct,
+            combined,
+        ) else {
+            return false;
+        };
+        let Condition::Always = &join.condition else {
+            return false;
+        };
+        if join.ports.len() != 1 || !shape.groups.is_empty() {
+            return false;
+        }
+        are_columns(shape.items.as_slice(), shape.columns.len())
     }
 
     /// Whether both say the same. Takes no memory.

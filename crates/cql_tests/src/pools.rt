@@ -7,7 +7,7 @@ use std::alloc::{AllocError, Global};
 use std::test::Fail;
 
 const ASKED: PinRequest = PinRequest {
-    text: "Select Istream(*) From s [Range 5]",
+    text: "Select Rstream(*) From s [Range 5]",
     rows: &[(1, 1), (2, 2)],
     settled: 0,
     base: 0,

@@ -13,6 +13,7 @@ use std::alloc::{AllocError, Global};
 
 /// The row of the values in the projection's columns. Where these are all, it is the same row with
 /// one more holder, and nothing is copied.
+#[inline(always)]
 pub fn row_at(alloc: Global, row: &Row, projection: &[usize]) -> Result<Row, AllocError>
     ensures { IfOk result (λ r. r ≡ projected row.now projection.now) }
 {

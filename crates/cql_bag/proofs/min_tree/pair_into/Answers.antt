@@ -1,5 +1,5 @@
 use Rattle.std.proofs.Common.{rules, arith, ◌≡◌, ◌≤◌, length}
-use Rattle.std.proofs.lemmas.Grind.{same_number_lists, common_steps}
+use Rattle.std.proofs.lemmas.Grind.{same_number_lists}
 use Rattle.cql_bag.specs.Levels.{pair_least}
 use Rattle.cql_bag.proofs.Pairs.{length-pair_least}
 use Rattle.cql_bag.proofs.min_tree.pair_into.Goals as goal

@@ -1,7 +1,7 @@
 // The answer to a fetch whose plan shows all rows of one window, by what comes and leaves there: no
 // operator is told of them.
 ghost use Rattle.std.specs.Prelude.{◌≡◌, ◌≢◌, ◌≤◌, ◌+◌, length, IfOk, OnOk};
-ghost use Rattle.cql_bag.specs.Bag.{Counts, IsBag, bag_of};
+ghost use Rattle.cql_bag.specs.Bag.{Counts, bag_of};
 ghost use Rattle.cql_algebra.specs.ByKind.{output_of, output_of_bags};
 ghost use Rattle.cql_algebra.specs.Runs.{StandFor};
 ghost use Rattle.cql_plan.specs.Ports.{IsPlain};
@@ -201,8 +201,8 @@ fn begin<'a>(
 }
 
 /// The blocks of a pin, and at how many instants the relation was computed. No row is looked at that
-/// neither comes nor leaves: what the window holds at the first instant is only counted. Without memory
-/// the pin is given up, and where the flag is set.
+/// neither comes nor leaves: what the window holds at the first instant is only counted, and over a window
+/// of parts filed by its part. Without memory the pin is given up, and where the flag is set.
 pub(crate) fn pass(
     alloc: Global,
     pin: &Pin,

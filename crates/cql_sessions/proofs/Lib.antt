@@ -1,3 +1,4 @@
 pub mod BenchesCrosses
 pub mod Crosses
 pub mod Seating
+pub mod Taking

@@ -1,3 +1,4 @@
+pub mod Agreed
 pub mod Answering
 pub mod Request
 pub mod Seating

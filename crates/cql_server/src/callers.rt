@@ -1,0 +1,262 @@
+// Sessions of a listener's callers.
+ghost use Rattle.std.specs.Prelude.{◌≡◌, All, IfErr, true, false, Err};
+ghost use Rattle.cql_ops.specs.Bench.{IsBench};
+ghost use Rattle.cql_server.specs.declared.failure.Failure.TheVariants as failure;
+
+use crate::failure::Failure;
+use crate::sweeper::start_sweeper;
+use crate::workers::{clerk, start, start_all, workers};
+use cql_connections::{Door, Floor, House, Hub, Limits};
+use cql_core::{BenchOf, Operator, TenantTable};
+use cql_hall::{Bare, Gate, Hall, Journal, Kept};
+use cql_sessions::{Answers, Audited, Ending, Guest, SharedPool, audit_sessions, borrowing};
+use crossbeam_channel::Receiver;
+use std::alloc::Global;
+use std::io::Write;
+use std::sync::Wait;
+use std::thread;
+use std::thread::{JoinHandle, Scope, Threads};
+use std::time::Clock;
+
+/// The benches of a server: one for each thread, and those that all threads borrow, of which each
+/// goes on with the query that it answered last.
+#[derive(Drop)]
+pub struct Benches<O: Operator> {
+    pub own: Vec<BenchOf<O>>,
+    pub shared: Vec<BenchOf<O>>,
+}
+
+/// Serves the callers of a listener: so many sessions, or for ever where that is 0; a connection
+/// that can't be had counts as a session too. As many callers are connected at once as the limits
+/// allow, and further ones as others leave. This thread waits for what they send, and a thread for
+/// each bench of its own gives one caller after another a turn, as does one more that computes no
+/// answers. Callers are tenants of the table, over one core. An answer is made by a shared bench, or
+/// where all are lent by the thread's own; what a shared one keeps of a query is let go of once
+/// nobody has used it for a minute.
+///
+/// A session ends, as at a read or write that fails, where its caller takes longer than the limits
+/// allow: where the login line isn't whole in time, whatever has come of it; and where a read, or
+/// a write of which nothing is taken, has waited for too long.
+///
+/// An answer that takes longer than the limits allow is given up, and its fetch is told `NoMemory`
+/// (70), as where a request for memory is refused.
+///
+/// Under `audit` each call and what it was told is kept. At the end the calls that the seats have
+/// counted have to be those of the journal, and all that was told has to agree with it: then the
+/// line `audit: E entries, R receipts, agreed` is written, of the entries of the journal and the
+/// receipts that have a place in it; else the failure is `Audit` (7). Without a number
+/// of sessions an audit is refused (`NoSessions`, 2).
+///
+/// The gate is told what is done, and each second that has passed.
+///
+/// Where there is no memory, the clock can't be read or a thread can't be made, no session is
+/// served (`NoMemory`, 5).
+pub fn serve<R, W, G, O>(
+    rt: &R,
+    alloc: Global,
+    hub: Hub<'_>,
+    limits: Limits,
+    out: &mut W,
+    table: &TenantTable,
+    benches: Benches<O>,
+    sessions: u16,
+    audit: bool,
+    gate: &G,
+) -> Result<(), Failure>
+where
+    R: Threads + Wait + Clock + Sync,
+    W: Write,
+    G: Gate,
+    O: Operator + Send,
+    requires own { All (IsBench O.model_of) benches.own.items }
+    requires shared { All (IsBench O.model_of) benches.shared.items }
+    ensures ends { audit ≡ true → sessions ≡ 0 → result ≡ Err failure.NoSessions }
+    ensures bare { audit ≡ false → IfErr result (λ f. f ≡ failure.NoMemory) }
+{
+    if audit && sessions == 0 {
+        return Err(Failure::NoSessions);
+    }
+    let Benches { own, shared } = benches;
+    let answers = Answers::new(alloc, limits.answer, own.len())?;
+    let pool = SharedPool::new(rt, alloc, shared, answers)?;
+    if audit {
+        serve_kept(
+            rt, alloc, hub, limits, out, table, own, &pool, sessions, gate,
+        )
+    } else {
+        serve_bare(rt, alloc, hub, limits, table, own, &pool, sessions, gate)
+    }
+}
+
+fn serve_bare<R, G, O>(
+    rt: &R,
+    alloc: Global,
+    hub: Hub<'_>,
+    limits: Limits,
+    table: &TenantTable,
+    own: Vec<BenchOf<O>>,
+    pool: &SharedPool<O>,
+    sessions: u16,
+    gate: &G,
+) -> Result<(), Failure>
+where
+    R: Threads + Wait + Clock + Sync,
+    G: Gate,
+    O: Operator + Send,
+    requires { All (IsBench O.model_of) own.items }
+    ensures { IfErr result (λ f. f ≡ failure.NoMemory) }
+{
+    let copy = table.try_clone(alloc)?;
+    let hall: Hall<Bare> = Hall::new(alloc, copy)?;
+    serve_hall(
+        rt, alloc, hub, limits, &hall, table, own, pool, sessions, 0, gate,
+    )?;
+    Ok(())
+}
+
+fn serve_kept<R, W, G, O>(
+    rt: &R,
+    alloc: Global,
+    hub: Hub<'_>,
+    limits: Limits,
+    out: &mut W,
+    table: &TenantTable,
+    own: Vec<BenchOf<O>>,
+    pool: &SharedPool<O>,
+    sessions: u16,
+    gate: &G,
+) -> Result<(), Failure>
+where
+    R: Threads + Wait + Clock + Sync,
+    W: Write,
+    G: Gate,
+    O: Operator + Send,
+    requires { All (IsBench O.model_of) own.items }
+{
+    let copy = table.try_clone(alloc)?;
+    let hall: Hall<Kept> = Hall::new(alloc, copy)?;
+    let room = usize::from(sessions);
+    let ends = serve_hall(
+        rt, alloc, hub, limits, &hall, table, own, pool, sessions, room, gate,
+    )?;
+    tell_audited(out, audit_sessions(alloc, table, hall, ends)?)
+}
+
+fn tell_audited<W: Write>(out: &mut W, audited: Audited) -> Result<(), Failure> {
+    let Audited { entries, receipts } = audited;
+    let told = writeln!(out, "audit: {entries} entries, {receipts} receipts, agreed");
+    if told.is_ok() && out.flush().is_ok() {
+        Ok(())
+    } else {
+        Err(Failure::Writing)
+    }
+}
+
+// Serves the sessions by a thread for each bench, fed by this one, and gives their ends, for so many
+// of which there is room.
+fn serve_hall<R, J, G, O>(
+    rt: &R,
+    alloc: Global,
+    hub: Hub<'_>,
+    limits: Limits,
+    hall: &Hall<J>,
+    table: &TenantTable,
+    own: Vec<BenchOf<O>>,
+    pool: &SharedPool<O>,
+    sessions: u16,
+    room: usize,
+    gate: &G,
+) -> Result<Vec<Ending>, Failure>
+where
+    R: Threads + Wait + Clock + Sync,
+    J: Journal + Send,
+    G: Gate,
+    O: Operator + Send,
+    requires { All (IsBench O.model_of) own.items }
+    ensures { IfErr result (λ f. f ≡ failure.NoMemory) }
+{
+    let owners = table.tenants().len().saturating_add(1);
+    let floor: Floor<Guest, Ending> = Floor::new(alloc, limits, owners, own.len(), room)?;
+    let (door, wires) = hub.into_parts();
+    let house = House::new(alloc, J::is_kept(), floor, wires);
+    serve_house(
+        rt, alloc, door, &house, hall, table, own, pool, sessions, gate,
+    )?;
+    Ok(house.into_ends()?)
+}
+
+// Starts the workers, lets callers in, and returns once all have left.
+fn serve_house<R, J, G, O>(
+    rt: &R,
+    alloc: Global,
+    door: Door<'_>,
+    house: &House<Guest, Ending>,
+    hall: &Hall<J>,
+    table: &TenantTable,
+    own: Vec<BenchOf<O>>,
+    pool: &SharedPool<O>,
+    sessions: u16,
+    gate: &G,
+) -> Result<(), Failure>
+where
+    R: Threads + Wait + Clock + Sync,
+    J: Journal + Send,
+    G: Gate,
+    O: Operator + Send,
+    requires { All (IsBench O.model_of) own.items }
+    ensures { IfErr result (λ f. f ≡ failure.NoMemory) }
+{
+    let (stop, stopped) = crossbeam_channel::bounded(alloc, 1)?;
+    thread::scope(
+        thread::scope_env(),
+        rt,
+        move |scope| -> Result<(), Failure>
+            requires { All (IsBench O.model_of) own.items }
+            ensures { IfErr result (λ f. f ≡ failure.NoMemory) }
+        {
+            start_sweeper(scope, rt, pool, hall, table, gate, stopped)?;
+            let started = start_borrowing(scope, rt, alloc, house, hall, table, own, pool, gate);
+            let handles = match started {
+                Ok(handles) => handles,
+                Err(failure) => {
+                    house.close(rt);
+                    return Err(failure);
+                }
+            };
+            door.attend(rt, house, gate, sessions);
+            for handle in handles {
+                handle.join(rt);
+            }
+            drop(stop);
+            Ok(())
+        },
+    )
+}
+
+// Starts a thread for each bench, which borrows those of the pool, and one that computes no answers.
+fn start_borrowing<'s, T, R, J, G, O>(
+    scope: &Scope<'s, T>,
+    rt: &'s R,
+    alloc: Global,
+    house: &'s House<Guest, Ending>,
+    hall: &'s Hall<J>,
+    table: &'s TenantTable,
+    own: Vec<BenchOf<O>>,
+    pool: &'s SharedPool<O>,
+    gate: &'s G,
+) -> Result<Vec<JoinHandle<()>>, Failure>
+where
+    R: Wait + Clock + Sync + 's,
+    J: Journal + Send + 's,
+    G: Gate + 's,
+    O: Operator + Send + 's,
+    requires { All (IsBench O.model_of) own.items }
+    ensures { IfErr result (λ f. f ≡ failure.NoMemory) }
+{
+    let clerk = clerk(alloc)?;
+    let workers = workers(alloc, borrowing(rt, alloc, own, pool)?)?;
+    let mut handles = start_all(scope, rt, alloc, house, hall, table, workers, gate)?;
+    let last = start(scope, rt, alloc, house, hall, table, clerk, gate)?;
+    handles.push(last)?;
+    Ok(handles)
+}

@@ -1,0 +1,167 @@
+// What `cqld` does.
+ghost use Rattle.std.specs.Prelude.{All};
+ghost use Rattle.cql_ops.specs.Bench.{IsBench};
+
+use crate::callers::{Benches, serve};
+use crate::failure::Failure;
+use crate::files::callers_with_files;
+use crate::forms::{keyed_lists, plain_lists};
+use cql_connections::{Hub, Limits, Watch};
+use cql_core::{Operator, TenantTable};
+use cql_sessions::benches_of;
+use cql_wire::{Config, JoinForm, NoConfig, Watched, config_of, given_table};
+use std::alloc::Global;
+use std::env::Env;
+use std::io;
+use std::net::{Ipv4Addr, Net, TcpListener, TcpStream};
+use std::sync::Wait;
+use std::thread::Threads;
+use std::time::Clock;
+
+/// The program `cqld`: reads its words, and the tenants line on standard input; and tells that this is
+/// right, or serves callers on 127.0.0.1 as the words say. What is wrong is told on standard error.
+///
+/// Gives the status: 0 where all is well or the words ask for help, 2 where the words are wrong, else
+/// that of the failure.
+pub fn program<R>(rt: &R) -> u8
+where
+    R: Env
+        + Alloc<A = Global>
+        + Threads
+        + Wait
+        + Clock
+        + Net<Listener = TcpListener, Stream = TcpStream>
+        + Input
+        + Print
+        + Eprint
+        + Sync,
+{
+    let config = match config_of(rt) {
+        Ok(config) => config,
+        Err(NoConfig::NoMemory) => return told(rt, Failure::NoMemory),
+        Err(NoConfig::Told(status)) => return status,
+    };
+    match run(rt, rt.alloc(), config) {
+        Ok(()) => 0,
+        Err(failure) => told(rt, failure),
+    }
+}
+
+// Tells a failure, and gives its status.
+fn told(rt: &impl Eprint, failure: Failure) -> u8 {
+    let _ = eprintln!(rt; "cqld: {failure}");
+    failure.status()
+}
+
+// Reads the tenants, and serves them, or tells that they are right.
+fn run<R>(rt: &R, alloc: Global, config: Config) -> Result<(), Failure>
+where
+    R: Threads
+        + Wait
+        + Clock
+        + Net<Listener = TcpListener, Stream = TcpStream>
+        + Input
+        + Print
+        + Eprint
+        + Sync,
+{
+    if config.audit && config.sessions == 0 {
+        return Err(Failure::NoSessions);
+    }
+    let table = given_table(alloc, &mut Watched::new(rt.reader()))?;
+    if config.check {
+        return tell_checked(rt, &table);
+    }
+    outcome(rt, alloc, config, &table)
+}
+
+// Tells that the tenants are right.
+fn tell_checked(rt: &impl Print, table: &TenantTable) -> Result<(), Failure> {
+    let many = table.tenants().len();
+    if println!(rt; "the tenants line is right, tenants: {many}").is_err() {
+        return Err(Failure::Writing);
+    }
+    Ok(())
+}
+
+// Makes a bench for each worker and those that they borrow, listens, and serves.
+fn outcome<R>(rt: &R, alloc: Global, config: Config, table: &TenantTable) -> Result<(), Failure>
+where
+    R: Threads
+        + Wait
+        + Clock
+        + Net<Listener = TcpListener, Stream = TcpStream>
+        + Print
+        + Eprint
+        + Sync,
+{
+    let workers = u16::from(config.workers);
+    // Operators of the caller's own may stand in the place of these.
+    match config.join {
+        JoinForm::Plain => {
+            let own = benches_of(alloc, plain_lists(alloc, workers)?)?;
+            let shared = benches_of(alloc, plain_lists(alloc, config.warm)?)?;
+            listen(rt, alloc, config, table, Benches { own, shared })
+        }
+        JoinForm::Keyed => {
+            let own = benches_of(alloc, keyed_lists(alloc, workers)?)?;
+            let shared = benches_of(alloc, keyed_lists(alloc, config.warm)?)?;
+            listen(rt, alloc, config, table, Benches { own, shared })
+        }
+    }
+}
+
+// Tells the port that it listens on, and before it where fewer callers than were asked for have files;
+// and serves.
+fn listen<R, O>(
+    rt: &R,
+    alloc: Global,
+    config: Config,
+    table: &TenantTable,
+    benches: Benches<O>,
+) -> Result<(), Failure>
+where
+    O: Operator + Send,
+    R: Threads
+        + Wait
+        + Clock
+        + Net<Listener = TcpListener, Stream = TcpStream>
+        + Print
+        + Eprint
+        + Sync,
+    requires own { All (IsBench O.model_of) benches.own.items }
+    requires shared { All (IsBench O.model_of) benches.shared.items }
+{
+    let Ok(listener) = TcpListener::bind(rt, (Ipv4Addr::LOCALHOST, config.port)) else {
+        return Err(Failure::Listening);
+    };
+    // made before the port is told, so that what it takes of the system is taken by then
+    let Ok(hub) = Hub::new(rt, alloc, &listener) else {
+        return Err(Failure::Listening);
+    };
+    let Some(watch) = Watch::new(rt, alloc, table, config.log) else {
+        return Err(Failure::NoMemory);
+    };
+    let Ok(addr) = listener.local_addr() else {
+        return Err(Failure::Listening);
+    };
+    let port = addr.port();
+    let callers = callers_with_files(rt, config.callers.max(1));
+    if println!(rt; "listening on 127.0.0.1:{port}").is_err() {
+        return Err(Failure::Writing);
+    }
+    serve(
+        rt,
+        alloc,
+        hub,
+        Limits::of_seconds(config.login, config.idle)
+            .with_callers(callers)
+            .with_answer(config.answer),
+        &mut io::writer(rt),
+        table,
+        benches,
+        config.sessions,
+        config.audit,
+        &watch,
+    )
+}

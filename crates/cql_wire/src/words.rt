@@ -1,0 +1,277 @@
+//! What the words of `cqld`'s command line say.
+ghost use Rattle.std.specs.Prelude.{◌≤◌, IfOk};
+
+use clap::builder::ValueParser;
+use clap::error::ErrorKind;
+use clap::{Arg, ArgAction, ArgMatches, Command, Error, value_parser};
+use std::alloc::Global;
+use std::env::{self, Env};
+use std::io;
+
+/// The version, which is that of the top entry of CHANGELOG.md that has a number.
+pub const VERSION: &str = "0.1.0";
+
+const JOIN_FORMS: &[&str] = &["plain", "keyed"];
+
+/// The operators by which joins and groups are computed.
+#[derive(Clone, Copy)]
+pub enum JoinForm {
+    /// All rows anew at each instant.
+    Plain,
+    /// What the changes of an instant change, by look-ups of equal values.
+    Keyed,
+}
+
+/// What is served, and how.
+#[derive(Clone, Copy)]
+pub struct Config {
+    /// The port of 127.0.0.1; at 0 the system chooses one.
+    pub port: u16,
+    /// How many threads serve callers, 1 to 64.
+    pub workers: u8,
+    /// How many callers are connected at once, 1 to 65,536; further ones wait to be accepted.
+    pub callers: u32,
+    /// How many sessions are served in all; at 0 there is no end.
+    pub sessions: u16,
+    /// By how many seconds of a session its login line has to be whole, up to 3,600; at 0 it need
+    /// never be.
+    pub login: u16,
+    /// For how many seconds a session waits for its caller, up to 86,400; at 0 there is no end.
+    pub idle: u32,
+    /// For how many seconds an answer is computed before it is given up, up to 86,400; at 0 there is
+    /// no end.
+    pub answer: u32,
+    /// How joins and groups are computed.
+    pub join: JoinForm,
+    /// How many benches go on with the queries that they answered last, up to 1,024; at 0 each
+    /// answer begins anew.
+    pub warm: u16,
+    /// Every how many seconds what was done is told, up to 86,400; at 0 never.
+    pub log: u32,
+    /// Whether each call is kept, and checked after the last session.
+    pub audit: bool,
+    /// Whether the tenants are looked at, and nobody is served.
+    pub check: bool,
+}
+
+/// Why the words ask for no serving.
+#[derive(Clone, Copy)]
+pub enum NoConfig {
+    /// There was no memory to read them.
+    NoMemory,
+    /// Their fault was told on standard error (2), or the help or the version that they ask for on
+    /// standard output (0): the program's status.
+    Told(u8),
+}
+
+/// What the words of the program's command line ask for. Their fault, the help and the version are told.
+pub fn config_of<R>(rt: &R) -> Result<Config, NoConfig>
+where
+    R: Env + Alloc<A = Global> + Print + Eprint,
+    ensures workers { IfOk result (λ c. (1 ≤ c.workers) × (c.workers ≤ 64)) }
+    ensures callers { IfOk result (λ c. (1 ≤ c.callers) × (c.callers ≤ 65536)) }
+    ensures login { IfOk result (λ c. c.login ≤ 3600) }
+    ensures idle { IfOk result (λ c. c.idle ≤ 86400) }
+    ensures answer { IfOk result (λ c. c.answer ≤ 86400) }
+    ensures warm { IfOk result (λ c. c.warm ≤ 1024) }
+    ensures log { IfOk result (λ c. c.log ≤ 86400) }
+{
+    let words = match words_of(rt) {
+        Ok(words) => words,
+        Err(error) if error.kind() == io::ErrorKind::OutOfMemory => {
+            return Err(NoConfig::NoMemory);
+        }
+        Err(_) => {
+            let _ = rt.eprintln("cqld: a word is no text");
+            return Err(NoConfig::Told(2));
+        }
+    };
+    match read_words(rt.alloc(), words.as_slice()) {
+        Ok(config) => Ok(config),
+        Err(error) if error.kind() == ErrorKind::OutOfMemory => Err(NoConfig::NoMemory),
+        Err(error) => {
+            let _ = error.print(rt);
+            Err(NoConfig::Told(if error.use_stderr() { 2 } else { 0 }))
+        }
+    }
+}
+
+// The words, of which the first is the program's name.
+fn words_of<R: Env + Alloc<A = Global>>(rt: &R) -> io::Result<Vec<String>> {
+    let words = env::args(rt)?.collect::<Vec<String>>(rt.alloc())?;
+    Ok(words)
+}
+
+// Reads the words, of which the first is the program's name.
+fn read_words(alloc: Global, words: &[String]) -> Result<Config, Error>
+    ensures workers { IfOk result (λ c. (1 ≤ c.workers) × (c.workers ≤ 64)) }
+    ensures callers { IfOk result (λ c. (1 ≤ c.callers) × (c.callers ≤ 65536)) }
+    ensures login { IfOk result (λ c. c.login ≤ 3600) }
+    ensures idle { IfOk result (λ c. c.idle ≤ 86400) }
+    ensures answer { IfOk result (λ c. c.answer ≤ 86400) }
+    ensures warm { IfOk result (λ c. c.warm ≤ 1024) }
+    ensures log { IfOk result (λ c. c.log ≤ 86400) }
+{
+    let matches = command(alloc)?.try_get_matches_from(words)?;
+    Ok(Config {
+        port: number(&matches, "port", 0, 65_535) as u16,
+        workers: number(&matches, "workers", 1, 64) as u8,
+        callers: number(&matches, "callers", 1, 65_536),
+        sessions: number(&matches, "sessions", 0, 65_535) as u16,
+        login: number(&matches, "login", 0, 3600) as u16,
+        idle: number(&matches, "idle", 0, 86_400),
+        answer: number(&matches, "answer", 0, 86_400),
+        join: join_form(matches.get_str("join")),
+        warm: number(&matches, "warm", 0, 1024) as u16,
+        log: number(&matches, "log", 0, 86_400),
+        audit: matches.get_flag("audit"),
+        check: matches.get_flag("check"),
+    })
+}
+
+// The number of a word, which lies between these by its parser.
+fn number(matches: &ArgMatches, word: &str, least: u32, most: u32) -> u32
+    requires { least ≤ most }
+    ensures least { least ≤ result }
+    ensures most { result ≤ most }
+{
+    matches
+        .get_one::<u32>(word)
+        .unwrap_or(least)
+        .clamp(least, most)
+}
+
+// The form of that name; keyed where none is named.
+fn join_form(name: Option<&str>) -> JoinForm {
+    match name {
+        Some("plain") => JoinForm::Plain,
+        _ => JoinForm::Keyed,
+    }
+}
+
+// What stands behind a word.
+#[derive(Clone, Copy)]
+enum Takes {
+    // A number: what it is where none is given, the least and the most.
+    Count(&'static str, i64, i64),
+    // A number of seconds: what it is where none is given, and the most.
+    Seconds(&'static str, i64),
+    // A form of joins.
+    Form,
+    Nothing,
+}
+
+// A word: its name, what it takes, and what the help says of it.
+struct Word(&'static str, Takes, &'static str);
+
+const WORDS: &[Word] = &[
+    Word(
+        "port",
+        Takes::Count("0", 0, 65_535),
+        "The port of 127.0.0.1, or 0 for one that the system chooses",
+    ),
+    Word(
+        "workers",
+        Takes::Count("4", 1, 64),
+        "How many threads serve callers, 1 to 64",
+    ),
+    Word(
+        "callers",
+        Takes::Count("1024", 1, 65_536),
+        "How many callers are connected at once, 1 to 65536; further ones wait",
+    ),
+    Word(
+        "sessions",
+        Takes::Count("0", 0, 65_535),
+        "How many sessions are served in all, or 0 for no end",
+    ),
+    Word(
+        "login",
+        Takes::Seconds("10", 3600),
+        "By when a session's login line has to be whole, or 0 for never",
+    ),
+    Word(
+        "idle",
+        Takes::Seconds("0", 86_400),
+        "How long a session waits for its caller, or 0 for no end",
+    ),
+    Word(
+        "answer",
+        Takes::Seconds("60", 86_400),
+        "How long an answer is computed before it is given up, or 0 for no end",
+    ),
+    Word(
+        "join",
+        Takes::Form,
+        "How joins and groups are computed: plain, all rows anew, or keyed, what changes",
+    ),
+    Word(
+        "warm",
+        Takes::Count("64", 0, 1024),
+        "How many answers are kept to go on from, or 0 for none",
+    ),
+    Word(
+        "log",
+        Takes::Seconds("0", 86_400),
+        "How often counts are told on standard error, with who comes and leaves, or 0 for nothing",
+    ),
+    Word(
+        "audit",
+        Takes::Nothing,
+        "Keep each call, and check them after the last session",
+    ),
+    Word(
+        "check",
+        Takes::Nothing,
+        "Tell whether the tenants are right, and serve nobody",
+    ),
+];
+
+fn command<'a>(alloc: Global) -> Result<Command<'a>, Error> {
+    let mut words = Vec::with_capacity(alloc, WORDS.len())?;
+    for word in WORDS {
+        words.push(argument(alloc, word))?;
+    }
+    let command = Command::new(alloc, "cqld").version(VERSION).about(
+        "Serves continuous queries to the tenants that standard input names",
+    );
+    Ok(command.args(words)?)
+}
+
+fn argument<'a>(alloc: Global, word: &'static Word) -> Arg<'a> {
+    let Word(name, takes, help) = word;
+    let argument = Arg::new(alloc, *name).long(*name).help(*help);
+    match *takes {
+        Takes::Count(default, least, most) => {
+            valued(
+                argument,
+                "N",
+                default,
+                value_parser!(u32).range(least..=most),
+            )
+        }
+        Takes::Seconds(default, most) => {
+            valued(
+                argument,
+                "SECONDS",
+                default,
+                value_parser!(u32).range(0..=most),
+            )
+        }
+        Takes::Form => valued(argument, "FORM", "keyed", JOIN_FORMS.into()),
+        Takes::Nothing => argument.action(ArgAction::SetTrue),
+    }
+}
+
+// One that takes a value: what the value is called, what it is where none is given, and how it is read.
+fn valued<'a>(
+    argument: Arg<'a>,
+    called: &'a str,
+    default: &'a str,
+    parser: ValueParser<'a>,
+) -> Arg<'a> {
+    argument
+        .value_name(called)
+        .default_value(default)
+        .value_parser(parser)
+}

@@ -33,7 +33,7 @@ fn open_files() -> Option<u64> {
 }
 
 /// How many of so many callers may be connected at once. Where that is fewer, it is told.
-pub fn callers_with_files(rt: &impl Eprint, callers: u32) -> u32
+pub(crate) fn callers_with_files(rt: &impl Eprint, callers: u32) -> u32
     requires { 1 ≤ callers }
     ensures least { 1 ≤ result }
     ensures most { result ≤ callers }

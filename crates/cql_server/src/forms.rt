@@ -6,7 +6,7 @@ use cql_plain::{PlainJoin, PlainOperator, PlainShape};
 use std::alloc::{AllocError, Global};
 
 /// One of the operators that compute what changes.
-pub type KeyedOperator = Mixed<KeyedJoin, GroupShape>;
+pub(crate) type KeyedOperator = Mixed<KeyedJoin, GroupShape>;
 
 // The operators of a bench, in its order. Operators of the caller's own may stand in the place of these.
 fn operators<J: Drop, S: Drop>(
@@ -28,7 +28,10 @@ fn operators<J: Drop, S: Drop>(
 }
 
 /// The operators of so many benches, which compute all rows anew.
-pub fn plain_lists(alloc: Global, count: u16) -> Result<Vec<Vec<PlainOperator>>, AllocError> {
+pub(crate) fn plain_lists(
+    alloc: Global,
+    count: u16,
+) -> Result<Vec<Vec<PlainOperator>>, AllocError> {
     let mut lists = Vec::with_capacity(alloc, usize::from(count))?;
     for _ in 0..count {
         let joins = (PlainJoin::new(alloc), PlainJoin::new(alloc));
@@ -39,7 +42,10 @@ pub fn plain_lists(alloc: Global, count: u16) -> Result<Vec<Vec<PlainOperator>>,
 }
 
 /// The operators of so many benches, which compute what changes.
-pub fn keyed_lists(alloc: Global, count: u16) -> Result<Vec<Vec<KeyedOperator>>, AllocError> {
+pub(crate) fn keyed_lists(
+    alloc: Global,
+    count: u16,
+) -> Result<Vec<Vec<KeyedOperator>>, AllocError> {
     let mut lists = Vec::with_capacity(alloc, usize::from(count))?;
     for _ in 0..count {
         let joins = (KeyedJoin::new(alloc), KeyedJoin::new(alloc));

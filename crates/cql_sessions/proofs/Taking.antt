@@ -32,16 +32,15 @@ counted_more : (o : Option Seat) (ss : List Seat) → sum_by (λ s. s.count) (co
 counted_more None ss = sym (zero-add (sum_by (λ s. s.count) ss))
 counted_more (Some s) ss = sum_by-cons (λ s. s.count) s ss
 
--- as many receipts have a place as the seats have counted
-placed_counted : (caller : ℕ) (ends : List Ending) → placed_heard (in_order caller (map (λ e. e.receipts.items) ends)) ≡ sum_by (λ s. s.count) (filter_map (λ e. e.seat) ends)
-placed_counted caller [] = refl
-placed_counted caller (e ∷ es) =
+-- receipts with a place are those of the lists
+placed_heard_in : (caller : ℕ) (ends : List Ending) → placed_heard (in_order caller (map (λ e. e.receipts.items) ends)) ≡ sum_by (λ e. placed e.receipts.items) ends
+placed_heard_in caller [] = refl
+placed_heard_in caller (e ∷ es) =
     let rest = in_order (caller + 1) (map (λ e. e.receipts.items) es) in
     let list = placed_list caller e.receipts.items rest in
-    let more = placed_counted (caller + 1) es in
-    let seats = counted_more e.seat (filter_map (λ e. e.seat) es) in
-    let one = e.counted in
-    omega (arith, list, more, seats, one)
+    let more = placed_heard_in (caller + 1) es in
+    let one = sum_by-cons (λ e. placed e.receipts.items) e es in
+    omega (arith, list, more, one)
 
 -- receipts with a place, counted list by list
 pub placed_in_lists : (ends : List Ending) → sum_by (λ list. placed list.items) (map (λ e. e.receipts) ends) ≡ sum_by (λ e. placed e.receipts.items) ends
@@ -70,5 +69,5 @@ pub agreed_once : (table : List Tenant) (ends : List Ending) (lists : List (List
 agreed_once table ends lists seats many same from agreed counted =
     let hs = in_order 0 (map (λ e. e.receipts.items) ends) in
     let a = subst (λ l. Agreed table (in_order 0 l) many) same agreed in
-    let all = placed_counted 0 ends ∙ ap (sum_by (λ s. s.count)) (sym from) ∙ counted ∙ sym a.entries in
+    let all = placed_heard_in 0 ends ∙ placed_as_counted ends ∙ ap (sum_by (λ s. s.count)) (sym from) ∙ counted ∙ sym a.entries in
     record { journal = a.journal; opens = a.opens; legal = a.legal; agree = a.agree; once = has_each_call_once a.journal hs a.legal a.agree all }

@@ -42,6 +42,10 @@ pub enum AuditFailure {
 }
 
 impl From<AllocError> for AuditFailure {
+    ghost use Rattle.cql_sessions.specs.declared.auditing.AuditFailure.TheVariants.{NoMemory};
+
+    ghost from_gives = { λ _ e. e ≡ NoMemory };
+
     fn from(_error: AllocError) -> AuditFailure {
         AuditFailure::NoMemory
     }

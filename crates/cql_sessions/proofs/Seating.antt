@@ -1,5 +1,5 @@
 -- Lemmas on whose seat a session has, and of which lines its receipts are.
-use Rattle.std.proofs.Common.{◌≡◌, ℕ, ◌-◌, arith, Bool, true, false, ◌||◌, not, ◌&&◌, is_none, is_some, List, [], ◌∷◌, ◌++◌, length, length-drop, take, drop, take-append-drop, Option, Some, None, Result, Ok, Err, OnOk, OnErr, is_ok, refl, ap, sym, ◌∙◌, subst, append_assoc, append-nil, ◌⊎◌, inl, inr}
+use Rattle.std.proofs.Common.{◌≡◌, ℕ, arith, Bool, true, false, ◌||◌, not, ◌&&◌, is_none, is_some, List, [], ◌∷◌, ◌++◌, length, take, drop, take-append-drop, Option, Some, None, Result, Ok, Err, OnOk, OnErr, is_ok, refl, ap, sym, ◌∙◌, subst, append_assoc, append-nil, ◌⊎◌, inl, inr}
 use Rattle.std.proofs.lemmas.Bool.{eqb-true}
 use Rattle.std.proofs.lemmas.List.{take_all, take-append-le}
 use Rattle.std.specs.Arc.{arc_value}

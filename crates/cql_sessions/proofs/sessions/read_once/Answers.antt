@@ -1,3 +1,4 @@
+use Rattle.std.proofs.lemmas.Grind.{common_steps}
 use Rattle.std.proofs.Common.{◌<◌, [], length, take, true, subst, rules, arith}
 use Rattle.std.specs.Io.KnownBytes.{Consumes, IsAtEnd}
 use Rattle.std.proofs.KnownBytes.{Keeps-refl}
@@ -22,3 +23,9 @@ pub returns-clause-reads : goal.returns-clause-reads
 returns-clause-reads g c = λ going.
     lines_read c.args.service.now.table.now c.args.visit.now c.take_lines.new.visit _ _ _ _ c.take_lines.result c.requires.going c.take_lines.ensures.input c.take_lines.ensures.served c.take_lines.ensures.seats
     going c.in_ok-count.ensures.bytes.0 (chunk_read _ c.in_ok-count.count _ _ _ c.deref.ensures.value (first_of (search rules, grind arith)))
+
+pub returns-in_err-count-clause-reads : goal.returns-in_err-count-clause-reads
+returns-in_err-count-clause-reads g c = grind (arith, common_steps)
+
+pub returns-in_err-end-clause-reads : goal.returns-in_err-end-clause-reads
+returns-in_err-end-clause-reads g c = grind (arith, common_steps)

@@ -313,7 +313,7 @@ impl<T: Connected<End = D>, D: Drop> Floor<T, D> {
             return self.push(turn);
         }
         if let Some(all) = self.held.get_mut(turn.owner()) {
-            let held = turn.guest.held();
+            let held = turn.guest.link().held();
             if needs == WaitsFor::Room && *all > MOST_HELD {
                 return Err(turn);
             }

@@ -118,9 +118,9 @@ impl<T: Connected<End = D>, D: Drop> House<T, D> {
         gate: &G,
         stream: TcpStream,
     ) -> io::Result<()> {
-        let guest = Box::new(self.alloc, T::new(self.alloc, stream, self.is_kept)?)?;
         let since = Instant::now(rt)?;
-        let fd = guest.raw_fd();
+        let guest = Box::new(self.alloc, T::new(self.alloc, stream, self.is_kept)?)?;
+        let fd = guest.link().raw_fd();
         let key = self.floor.lock(rt).enter(guest, since)?;
         let told = self
             .registry
@@ -212,7 +212,7 @@ impl<T: Connected<End = D>, D: Drop> House<T, D> {
     /// From now on it isn't told what comes for the guest.
     pub fn unlist(&self, turn: &mut Turn<T>) {
         if turn.is_listed {
-            let fd = turn.guest.raw_fd();
+            let fd = turn.guest.link().raw_fd();
             turn.is_listed = self.registry.deregister(&mut SourceFd(&fd)).is_err();
         }
     }
@@ -229,7 +229,7 @@ impl<T: Connected<End = D>, D: Drop> House<T, D> {
         } else {
             Interest::READABLE
         };
-        let fd = turn.guest.raw_fd();
+        let fd = turn.guest.link().raw_fd();
         let mut source = SourceFd(&fd);
         // it may be listed for room, or not at all
         let _ = self.registry.deregister(&mut source);

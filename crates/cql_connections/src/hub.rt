@@ -83,12 +83,12 @@ impl<'a> Hub<'a> {
     /// error where there is no more of that.
     pub fn new<N: Net>(net: &N, alloc: Global, listener: &'a TcpListener) -> io::Result<Hub<'a>> {
         listener.set_nonblocking(true)?;
+        let events = Events::with_capacity(alloc, EVENTS)?;
         let poll = Poll::new(net)?;
         let fd = listener.as_raw_fd();
         poll.registry()
             .register(&mut SourceFd(&fd), LISTENER, Interest::READABLE)?;
         let wires = Wires::new(net, alloc, poll.registry())?;
-        let events = Events::with_capacity(alloc, EVENTS)?;
         Ok(Hub {
             listener,
             poll,

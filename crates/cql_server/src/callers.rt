@@ -5,17 +5,17 @@ ghost use Rattle.cql_server.specs.declared.failure.Failure.TheVariants as failur
 
 use crate::failure::Failure;
 use crate::sweeper::start_sweeper;
-use crate::workers::{clerk, start, start_all, workers};
+use crate::workers::start_all;
 use cql_connections::{Door, Floor, House, Hub, Limits};
 use cql_core::{BenchOf, Operator, TenantTable};
 use cql_hall::{Bare, Gate, Hall, Journal, Kept};
-use cql_sessions::{Answers, Audited, Ending, Guest, SharedPool, audit_sessions, borrowing};
+use cql_sessions::{Answers, Audited, Ending, Guest, SharedPool, audit_sessions};
 use crossbeam_channel::Receiver;
 use std::alloc::Global;
 use std::io::Write;
 use std::sync::Wait;
 use std::thread;
-use std::thread::{JoinHandle, Scope, Threads};
+use std::thread::Threads;
 use std::time::Clock;
 
 /// The benches of a server: one for each thread, and those that all threads borrow, of which each
@@ -215,7 +215,7 @@ where
             ensures { IfErr result (λ f. f ≡ failure.NoMemory) }
         {
             start_sweeper(scope, rt, pool, hall, table, gate, stopped)?;
-            let started = start_borrowing(scope, rt, alloc, house, hall, table, own, pool, gate);
+            let started = start_all(scope, rt, alloc, house, hall, table, own, pool, gate);
             let handles = match started {
                 Ok(handles) => handles,
                 Err(failure) => {
@@ -231,32 +231,4 @@ where
             Ok(())
         },
     )
-}
-
-// Starts a thread for each bench, which borrows those of the pool, and one that computes no answers.
-fn start_borrowing<'s, T, R, J, G, O>(
-    scope: &Scope<'s, T>,
-    rt: &'s R,
-    alloc: Global,
-    house: &'s House<Guest, Ending>,
-    hall: &'s Hall<J>,
-    table: &'s TenantTable,
-    own: Vec<BenchOf<O>>,
-    pool: &'s SharedPool<O>,
-    gate: &'s G,
-) -> Result<Vec<JoinHandle<()>>, Failure>
-where
-    R: Wait + Clock + Sync + 's,
-    J: Journal + Send + 's,
-    G: Gate + 's,
-    O: Operator + Send + 's,
-    requires { All (IsBench O.model_of) own.items }
-    ensures { IfErr result (λ f. f ≡ failure.NoMemory) }
-{
-    let clerk = clerk(alloc)?;
-    let workers = workers(alloc, borrowing(rt, alloc, own, pool)?)?;
-    let mut handles = start_all(scope, rt, alloc, house, hall, table, workers, gate)?;
-    let last = start(scope, rt, alloc, house, hall, table, clerk, gate)?;
-    handles.push(last)?;
-    Ok(handles)
 }

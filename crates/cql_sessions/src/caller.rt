@@ -34,7 +34,7 @@ pub(crate) enum LineOutcome {
 
 /// A seat, and the receipts of its calls where calls are kept.
 pub(crate) struct Caller {
-    seat: Seat,
+    pub seat: Seat,
     receipts: Vec<Receipt>,
     is_kept: bool,
     ghost tallies: { Tallies is_kept seat receipts.items },
@@ -73,13 +73,6 @@ impl Caller {
             receipts: Vec::new(alloc),
             is_kept,
         }
-    }
-
-    /// Whose calls it makes.
-    pub(crate) fn tenant(&self) -> TenantId
-        ensures { result ≡ self.now.seat.tenant }
-    {
-        self.seat.tenant()
     }
 
     /// How its session ends.
@@ -163,16 +156,16 @@ impl Caller {
                 return Ok(LineOutcome::Short);
             }
         };
-        if request.kind != Kind::Fetch {
-            self.call(service, bench, request, buffer, writer)?;
-            return Ok(LineOutcome::Short);
-        }
-        if !may_fetch {
-            return Ok(LineOutcome::Held);
-        }
-        buffer.flush(writer)?;
+        let outcome = match request.kind {
+            Kind::Fetch if !may_fetch => return Ok(LineOutcome::Held),
+            Kind::Fetch => {
+                buffer.flush(writer)?;
+                LineOutcome::Fetch
+            }
+            _ => LineOutcome::Short,
+        };
         self.call(service, bench, request, buffer, writer)?;
-        Ok(LineOutcome::Fetch)
+        Ok(outcome)
     }
 }
 

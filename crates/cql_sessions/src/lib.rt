@@ -22,6 +22,7 @@ pub use answers::Answers;
 pub use auditing::{AuditFailure, Audited, audit_sessions};
 pub use benches::benches_of;
 pub use caller::Service;
+pub use connection::Connection;
 pub use ending::Ending;
 pub use guest::{Connected, Guest, May, WaitsFor};
 pub use session_buffers::SessionBuffers;

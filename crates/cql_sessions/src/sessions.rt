@@ -10,6 +10,7 @@ use crate::session_buffers::SessionBuffers;
 use crate::visit::Visit;
 use cql_core::{Evaluator, TenantTable};
 use cql_hall::{Gate, Hall, Journal, Receipt, Seat};
+use cql_lines::Intake;
 use cql_wire::{LineFault, ReplyBuffer, Scratch, ScriptError, Watched, write_fault};
 use std::alloc::Global;
 use std::io::{Read, Write};
@@ -95,11 +96,11 @@ fn attend<H: Wait, J: Journal, E: Evaluator, G: Gate, R: Read, W: Write>(
     ensures kept { visit.new.is_kept ≡ visit.old.is_kept }
     ensures served { IsNew visit.old → ServedOf service.now.table.now (R.remaining (inner_of reader.old)) (account_of visit.new.caller) }
 {
-    visit.make_room(service.alloc)?;
+    visit.intake = Intake::with_room(service.alloc)?;
     let mut buffers = SessionBuffers::new(service.alloc)?;
     for _ in 0..MAX_READS {
         read_once(service, bench, visit, &mut buffers, reader, writer)?;
-        if visit.is_over() {
+        if visit.is_over {
             buffers.buffer.flush(writer)?;
             return Ok(());
         }
@@ -171,7 +172,7 @@ fn take_lines<H: Wait, J: Journal, E: Evaluator, G: Gate, W: Write>(
         → Visits service.now.table.now came visit.old → Visits service.now.table.now (came ++ bytes.now) visit.new) }
 {
     let mut rest = bytes;
-    while !rest.is_empty() && !visit.is_over() {
+    while !rest.is_empty() && !visit.is_over {
         let step = visit.take_line(service, bench, rest, true, buffer, scratch, writer)?;
         rest = &rest[step.count..];
     }

@@ -123,24 +123,27 @@ fn with_flags<O: Operator>(
     requires { All (IsBench O.model_of) benches.items }
     ensures { IfOk result (λ v. All (IsBench O.model_of) v.items) }
 {
-    if !answers.are_limited() {
-        return Ok(benches);
-    }
     let mut all = Vec::with_capacity(alloc, benches.len())?;
     for bench in benches {
-        let one = with_flag(alloc, bench)?;
+        let one = with_flag(alloc, bench, answers)?;
         all.push(one)?;
     }
     Ok(all)
 }
 
-// The bench, which heeds a flag of its own.
-fn with_flag<O: Operator>(alloc: Global, bench: BenchOf<O>) -> Result<BenchOf<O>, AllocError>
+// The bench, which heeds a flag of its own where answers may take only so long.
+fn with_flag<O: Operator>(
+    alloc: Global,
+    bench: BenchOf<O>,
+    answers: &Answers,
+) -> Result<BenchOf<O>, AllocError>
     requires { IsBench O.model_of bench }
     ensures { IfOk result (IsBench O.model_of) }
 {
     let mut bench = bench;
-    bench.heed(Cancellation::new(alloc)?)?;
+    if answers.are_limited() {
+        bench.heed(Cancellation::new(alloc)?)?;
+    }
     Ok(bench)
 }
 
@@ -190,41 +193,21 @@ impl<'a, R: Wait + Clock, O: Operator> Lender<O> for Borrower<'a, R, O> {
 /// What answers in a thread: a bench of its own, and those of a shared pool.
 pub type Borrowing<'a, R, O> = Pooled<O, Borrower<'a, R, O>>;
 
-/// One for each bench.
+/// The one of the thread of this index, whose own bench this is.
 pub fn borrowing<'a, R, O>(
     rt: &'a R,
     alloc: Global,
-    own: Vec<BenchOf<O>>,
-    shared: &'a SharedPool<O>,
-) -> Result<Vec<Borrowing<'a, R, O>>, AllocError>
-where
-    R: Wait + Clock,
-    O: Operator,
-    requires { All (IsBench O.model_of) own.items }
-    ensures { IfOk result (λ v. All (λ p. IsBench O.model_of p.cold) v.items) }
-{
-    let benches = with_flags(alloc, own, &shared.answers)?;
-    let mut all = Vec::with_capacity(alloc, benches.len())?;
-    for bench in benches {
-        let one = borrowing_of(rt, bench, shared, all.len())?;
-        all.push(one)?;
-    }
-    Ok(all)
-}
-
-// The one of the thread of this index.
-fn borrowing_of<'a, R, O>(
-    rt: &'a R,
-    bench: BenchOf<O>,
+    own: BenchOf<O>,
     shared: &'a SharedPool<O>,
     thread: usize,
 ) -> Result<Borrowing<'a, R, O>, AllocError>
 where
     R: Wait + Clock,
     O: Operator,
-    requires { IsBench O.model_of bench }
+    requires { IsBench O.model_of own }
     ensures { IfOk result (λ p. IsBench O.model_of p.cold) }
 {
+    let bench = with_flag(alloc, own, &shared.answers)?;
     let own = bench.cancellation().share()?;
     Ok(Pooled::new(
         bench,

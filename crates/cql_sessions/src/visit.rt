@@ -10,22 +10,23 @@ use cql_core::{Evaluator, TenantId};
 use cql_hall::{Gate, Journal, Point};
 use cql_lines::Intake;
 use cql_wire::{ReplyBuffer, Scratch, ScriptError, Watched};
-use std::alloc::{AllocError, Global};
+use std::alloc::Global;
 use std::io::Write;
 use std::sync::Wait;
 
 /// A session as far as its input has come: who has logged in, and the line that isn't answered
 /// yet.
 pub(crate) struct Visit {
-    caller: Option<Caller>,
-    intake: Intake,
-    is_kept: bool,
-    // whether the line is whole: a fetch that waits
-    is_held: bool,
-    // whether nothing more comes
-    is_ended: bool,
-    // whether no more is answered
-    is_over: bool,
+    pub caller: Option<Caller>,
+    pub intake: Intake,
+    /// Whether its calls are kept.
+    pub is_kept: bool,
+    /// Whether the line is whole: a fetch that waits to be answered. No bytes are taken before it is.
+    pub is_held: bool,
+    /// Whether nothing more comes.
+    pub is_ended: bool,
+    /// Whether no more is answered.
+    pub is_over: bool,
     ghost same: { ForSome caller (λ c. c.is_kept ≡ is_kept) },
 }
 
@@ -40,6 +41,15 @@ impl Drop for Visit {
             is_over: _,
         } = self;
     }
+}
+
+/// How far a session is.
+#[derive(Clone, Copy)]
+pub(crate) struct Stage {
+    /// Whether a fetch waits to be answered.
+    pub is_held: bool,
+    /// Whether no more is answered.
+    pub is_over: bool,
 }
 
 /// What was done with some bytes.
@@ -70,40 +80,12 @@ impl Visit {
         }
     }
 
-    /// Takes room for the longest line, where nothing has come yet.
-    pub(crate) fn make_room(&mut self, alloc: Global) -> Result<(), AllocError>
-        ensures kept { self.new.is_kept ≡ self.old.is_kept }
-        ensures going { self.new.is_held ≡ self.old.is_held }
-        ensures begins { IsNew self.old → IsNew self.new }
-    {
-        self.intake = Intake::with_room(alloc)?;
-        Ok(())
-    }
-
-    /// Whether its calls are kept.
-    pub(crate) fn is_kept(&self) -> bool
-        ensures { result ≡ self.now.is_kept }
-    {
-        self.is_kept
-    }
-
-    /// Whether a fetch waits to be answered. No bytes are taken before it is.
-    pub(crate) fn is_held(&self) -> bool
-        ensures { result ≡ self.now.is_held }
-    {
-        self.is_held
-    }
-
-    /// Whether no more is answered.
-    pub(crate) fn is_over(&self) -> bool
-        ensures { result ≡ self.now.is_over }
-    {
-        self.is_over
-    }
-
-    /// Whether it is over since its login was refused, and not since nothing more came.
-    pub(crate) fn is_refused(&self) -> bool {
-        self.is_over && !self.is_ended && self.caller.is_none()
+    /// How far it is.
+    pub(crate) fn stage(&self) -> Stage {
+        Stage {
+            is_held: self.is_held,
+            is_over: self.is_over,
+        }
     }
 
     /// Whose calls it makes, once its caller has logged in.
@@ -111,16 +93,9 @@ impl Visit {
         ensures { result ≡ option_map (λ caller. caller.seat.tenant) self.now.caller }
     {
         match &self.caller {
-            Some(caller) => Some(caller.tenant()),
+            Some(caller) => Some(caller.seat.tenant()),
             None => None,
         }
-    }
-
-    /// Gives the memory of the line back, where nothing of it has come.
-    pub(crate) fn rest(&mut self)
-        ensures { self.new ≡ self.old }
-    {
-        self.intake.rest();
     }
 
     /// Takes bytes up to and with the first line feed, or all where there is none, and answers the

@@ -1,4 +1,5 @@
-use Rattle.std.proofs.Common.{arith, sym, ◌∙◌, refl}
+use Rattle.std.proofs.lemmas.Grind.{common_steps}
+use Rattle.std.proofs.Common.{arith, ◌∙◌, refl}
 use Rattle.cql_sessions.proofs.Seating.{begins, nobody_yet, reads_on, reads_served, going_served}
 use Rattle.cql_sessions.proofs.sessions.attend.Goals as goal
 
@@ -6,9 +7,9 @@ pub loop-init : goal.loop-init
 loop-init g c = record {
   bench = c.requires.bench;
   kept = refl;
-  going = c.in_ok-make_room.ensures.going ∙ c.requires.going;
+  going = c.requires.going;
   room = omega (arith, c.in_ok-buffers.ensures.room);
-  so_far = λ new. begins c.args.service.now.table.now c.make_room.new.self _ (c.in_ok-make_room.ensures.begins new);
+  so_far = λ new. begins c.args.service.now.table.now _ _ (record { caller = new.caller; line = c.in_ok-visit.ensures; held = new.held; ended = new.ended; over = new.over });
 }
 
 pub returns-in_err-read_once-clause-served : goal.returns-in_err-read_once-clause-served
@@ -19,8 +20,8 @@ pub returns-in_err-flush-clause-served : goal.returns-in_err-flush-clause-served
 returns-in_err-flush-clause-served g c = λ new.
     reads_served c.args.service.now.table.now c.loop.visit c.read_once.new.visit _ _ _ _ c.in_ok-read_once.ensures.reads (c.loop.invariant.so_far new)
 
-pub returns-then-is_over-clause-served : goal.returns-then-is_over-clause-served
-returns-then-is_over-clause-served g c = λ new.
+pub returns-then-visit-clause-served : goal.returns-then-visit-clause-served
+returns-then-visit-clause-served g c = λ new.
     reads_served c.args.service.now.table.now c.loop.visit c.read_once.new.visit _ _ _ _ c.in_ok-read_once.ensures.reads (c.loop.invariant.so_far new)
 
 pub loop-preserved : goal.loop-preserved
@@ -30,15 +31,45 @@ loop-preserved g c = record {
   going = c.in_ok-read_once.ensures.going;
   room = omega (arith, c.in_ok-read_once.ensures.room, c.loop.invariant.room);
   so_far = λ new.
-      reads_on c.args.service.now.table.now c.loop.visit c.read_once.new.visit _ _ _ c.in_ok-read_once.ensures.going (sym c.is_over.ensures ∙ c.if-is_over.false) c.in_ok-read_once.ensures.reads
+      reads_on c.args.service.now.table.now c.loop.visit c.read_once.new.visit _ _ _ c.in_ok-read_once.ensures.going c.if-visit.false c.in_ok-read_once.ensures.reads
       (c.loop.invariant.so_far new);
 }
 
-pub returns-in_err-make_room-clause-served : goal.returns-in_err-make_room-clause-served
-returns-in_err-make_room-clause-served g c = λ new. nobody_yet c.args.service.now.table.now c.make_room.new.self _ (c.in_err-make_room.ensures.begins new)
+pub returns-in_err-visit-clause-served : goal.returns-in_err-visit-clause-served
+returns-in_err-visit-clause-served g c = λ new. nobody_yet c.args.service.now.table.now c.args.visit.now _ new
 
 pub returns-in_err-buffers-clause-served : goal.returns-in_err-buffers-clause-served
-returns-in_err-buffers-clause-served g c = λ new. nobody_yet c.args.service.now.table.now c.make_room.new.self _ (c.in_ok-make_room.ensures.begins new)
+returns-in_err-buffers-clause-served g c = λ new. nobody_yet c.args.service.now.table.now c.args.visit.now _ new
 
 pub returns-clause-served : goal.returns-clause-served
 returns-clause-served g c = λ new. going_served c.args.service.now.table.now c.loop.visit _ _ (c.loop.invariant.so_far new)
+
+pub returns-in_err-flush-clause-kept : goal.returns-in_err-flush-clause-kept
+returns-in_err-flush-clause-kept g c = grind (arith, common_steps)
+
+pub returns-then-visit-clause-kept : goal.returns-then-visit-clause-kept
+returns-then-visit-clause-kept g c = grind (arith, common_steps)
+
+pub returns-then-visit-clause-bench : goal.returns-then-visit-clause-bench
+returns-then-visit-clause-bench g c = grind (arith, common_steps)
+
+pub returns-in_err-read_once-clause-kept : goal.returns-in_err-read_once-clause-kept
+returns-in_err-read_once-clause-kept g c = grind (arith, common_steps)
+
+pub returns-clause-kept : goal.returns-clause-kept
+returns-clause-kept g c = grind (arith, common_steps)
+
+pub read_once-requires-clause-room : goal.read_once-requires-clause-room
+read_once-requires-clause-room g c = grind (arith, common_steps)
+
+pub returns-in_err-buffers-clause-bench : goal.returns-in_err-buffers-clause-bench
+returns-in_err-buffers-clause-bench g c = grind (arith, common_steps)
+
+pub returns-in_err-flush-clause-bench : goal.returns-in_err-flush-clause-bench
+returns-in_err-flush-clause-bench g c = grind (arith, common_steps)
+
+pub returns-in_err-read_once-clause-bench : goal.returns-in_err-read_once-clause-bench
+returns-in_err-read_once-clause-bench g c = grind (arith, common_steps)
+
+pub returns-clause-bench : goal.returns-clause-bench
+returns-clause-bench g c = grind (arith, common_steps)

@@ -1,0 +1,15 @@
+use Rattle.std.proofs.lemmas.Grind.{common_steps}
+use Rattle.std.proofs.Common.{arith}
+use Rattle.cql_sessions.proofs.guest.answer_some.Goals as goal
+
+pub loop-preserved : goal.loop-preserved
+loop-preserved g c = grind (arith, common_steps)
+
+pub returns-then-ne-clause-bench : goal.returns-then-ne-clause-bench
+returns-then-ne-clause-bench g c = grind (arith, common_steps)
+
+pub overflow_add-used : goal.overflow_add-used
+overflow_add-used g c = grind (arith, common_steps)
+
+pub returns-then-ne-clause-within : goal.returns-then-ne-clause-within
+returns-then-ne-clause-within g c = grind (arith, common_steps)

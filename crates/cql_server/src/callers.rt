@@ -8,8 +8,10 @@ use crate::sweeper::start_sweeper;
 use crate::workers::start_all;
 use cql_connections::{Door, Floor, House, Hub, Limits};
 use cql_core::{BenchOf, Operator, TenantTable};
-use cql_hall::{Bare, Gate, Hall, Journal, Kept};
-use cql_sessions::{Answers, Audited, Ending, Guest, SharedPool, audit_sessions};
+use cql_hall::{Bare, Gate, Hall, Kept};
+use cql_sessions::{
+    Answers, Audited, Callable, Ending, Guest, Service, SharedPool, audit_sessions,
+};
 use crossbeam_channel::Receiver;
 use std::alloc::Global;
 use std::io::Write;
@@ -66,7 +68,7 @@ pub fn serve<R, W, G, O>(
 where
     R: Threads + Wait + Clock + Sync,
     W: Write,
-    G: Gate,
+    G: Gate + Sync,
     O: Operator + Send,
     requires own { All (IsBench O.model_of) benches.own.items }
     requires shared { All (IsBench O.model_of) benches.shared.items }
@@ -101,16 +103,21 @@ fn serve_bare<R, G, O>(
 ) -> Result<(), Failure>
 where
     R: Threads + Wait + Clock + Sync,
-    G: Gate,
+    G: Gate + Sync,
     O: Operator + Send,
     requires { All (IsBench O.model_of) own.items }
     ensures { IfErr result (λ f. f ≡ failure.NoMemory) }
 {
     let copy = table.try_clone(alloc)?;
     let hall: Hall<Bare> = Hall::new(alloc, copy)?;
-    serve_hall(
-        rt, alloc, hub, limits, &hall, table, own, pool, sessions, 0, gate,
-    )?;
+    let service = Service {
+        rt,
+        alloc,
+        hall: &hall,
+        table,
+        gate,
+    };
+    serve_hall(service, hub, limits, own, pool, sessions, false)?;
     Ok(())
 }
 
@@ -129,16 +136,20 @@ fn serve_kept<R, W, G, O>(
 where
     R: Threads + Wait + Clock + Sync,
     W: Write,
-    G: Gate,
+    G: Gate + Sync,
     O: Operator + Send,
     requires { All (IsBench O.model_of) own.items }
 {
     let copy = table.try_clone(alloc)?;
     let hall: Hall<Kept> = Hall::new(alloc, copy)?;
-    let room = usize::from(sessions);
-    let ends = serve_hall(
-        rt, alloc, hub, limits, &hall, table, own, pool, sessions, room, gate,
-    )?;
+    let service = Service {
+        rt,
+        alloc,
+        hall: &hall,
+        table,
+        gate,
+    };
+    let ends = serve_hall(service, hub, limits, own, pool, sessions, true)?;
     tell_audited(out, audit_sessions(alloc, table, hall, ends)?)
 }
 
@@ -152,61 +163,54 @@ fn tell_audited<W: Write>(out: &mut W, audited: Audited) -> Result<(), Failure> 
     }
 }
 
-// Serves the sessions by a thread for each bench, fed by this one, and gives their ends, for so many
-// of which there is room.
-fn serve_hall<R, J, G, O>(
-    rt: &R,
-    alloc: Global,
+// Serves the sessions by a thread for each bench, fed by this one, and gives their ends, for which
+// there is room where calls are kept.
+fn serve_hall<R, C, G, O>(
+    service: Service<'_, R, C, G>,
     hub: Hub<'_>,
     limits: Limits,
-    hall: &Hall<J>,
-    table: &TenantTable,
     own: Vec<BenchOf<O>>,
     pool: &SharedPool<O>,
     sessions: u16,
-    room: usize,
-    gate: &G,
+    is_kept: bool,
 ) -> Result<Vec<Ending>, Failure>
 where
     R: Threads + Wait + Clock + Sync,
-    J: Journal + Send,
-    G: Gate,
+    C: Callable<R, G> + Sync,
+    G: Gate + Sync,
     O: Operator + Send,
     requires { All (IsBench O.model_of) own.items }
     ensures { IfErr result (λ f. f ≡ failure.NoMemory) }
 {
-    let owners = table.tenants().len().saturating_add(1);
+    let alloc = service.alloc;
+    let owners = service.table.tenants().len().saturating_add(1);
+    let room = if is_kept { usize::from(sessions) } else { 0 };
     let floor: Floor<Guest, Ending> = Floor::new(alloc, limits, owners, own.len(), room)?;
     let (door, wires) = hub.into_parts();
-    let house = House::new(alloc, J::is_kept(), floor, wires);
-    serve_house(
-        rt, alloc, door, &house, hall, table, own, pool, sessions, gate,
-    )?;
+    let house = House::new(alloc, is_kept, floor, wires);
+    serve_house(&service, door, &house, own, pool, sessions)?;
     Ok(house.into_ends()?)
 }
 
 // Starts the workers, lets callers in, and returns once all have left.
-fn serve_house<R, J, G, O>(
-    rt: &R,
-    alloc: Global,
+fn serve_house<R, C, G, O>(
+    service: &Service<'_, R, C, G>,
     door: Door<'_>,
     house: &House<Guest, Ending>,
-    hall: &Hall<J>,
-    table: &TenantTable,
     own: Vec<BenchOf<O>>,
     pool: &SharedPool<O>,
     sessions: u16,
-    gate: &G,
 ) -> Result<(), Failure>
 where
     R: Threads + Wait + Clock + Sync,
-    J: Journal + Send,
-    G: Gate,
+    C: Callable<R, G> + Sync,
+    G: Gate + Sync,
     O: Operator + Send,
     requires { All (IsBench O.model_of) own.items }
     ensures { IfErr result (λ f. f ≡ failure.NoMemory) }
 {
-    let (stop, stopped) = crossbeam_channel::bounded(alloc, 1)?;
+    let rt = service.rt;
+    let (stop, stopped) = crossbeam_channel::bounded(service.alloc, 1)?;
     thread::scope(
         thread::scope_env(),
         rt,
@@ -214,16 +218,15 @@ where
             requires { All (IsBench O.model_of) own.items }
             ensures { IfErr result (λ f. f ≡ failure.NoMemory) }
         {
-            start_sweeper(scope, rt, pool, hall, table, gate, stopped)?;
-            let started = start_all(scope, rt, alloc, house, hall, table, own, pool, gate);
-            let handles = match started {
+            start_sweeper(scope, service, pool, stopped)?;
+            let handles = match start_all(scope, service, house, own, pool) {
                 Ok(handles) => handles,
                 Err(failure) => {
                     house.close(rt);
                     return Err(failure);
                 }
             };
-            door.attend(rt, house, gate, sessions);
+            door.attend(rt, house, service.gate, sessions);
             for handle in handles {
                 handle.join(rt);
             }

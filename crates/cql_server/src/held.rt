@@ -1,22 +1,17 @@
 // Of which streams rows are held.
-use cql_core::TenantTable;
-use cql_hall::{Gate, Hall, Journal};
+use cql_hall::Gate;
+use cql_sessions::{Callable, Service};
 use std::sync::Wait;
 
 /// Tells the gate of which streams rows are held, for one tenant after another, of whom the hall has
 /// those of the table.
-pub(crate) fn tell_held<R: Wait, J: Journal, G: Gate>(
-    rt: &R,
-    hall: &Hall<J>,
-    table: &TenantTable,
-    gate: &G,
-) {
-    for tenant in table.tenants() {
-        if let Some(id) = table.find(tenant.name.as_str())
-            && let Ok(streams) = hall.held_streams(rt, id)
+pub(crate) fn tell_held<R: Wait, C: Callable<R, G>, G: Gate>(service: &Service<'_, R, C, G>) {
+    for tenant in service.table.tenants() {
+        if let Some(id) = service.table.find(tenant.name.as_str())
+            && let Ok(streams) = service.hall.held_streams(service.rt, id)
             && !streams.is_empty()
         {
-            gate.held(id, streams.as_slice());
+            service.gate.held(id, streams.as_slice());
         }
     }
 }

@@ -2,21 +2,23 @@
 ghost use Rattle.std.specs.Prelude.{◌≡◌, ◌≢◌, [], true, Some, Ok, IfOk};
 ghost use Rattle.cql_sessions.specs.Tallies.{Tallies};
 
+use crate::callable::Callable;
 use crate::request::{Request, prepared_of};
 use crate::sessions::SessionEnd;
 use cql_core::{Evaluator, Reply, TenantId, TenantTable};
-use cql_hall::{Gate, Hall, Journal, Kind, Point, Receipt, Seat};
+use cql_hall::{Gate, Kind, Point, Receipt, Seat};
 use cql_wire::{Line, LineFault, ReplyBuffer, Scratch, ScriptError, Watched, WriteFault};
 use std::alloc::Global;
 use std::io::Write;
 use std::sync::Wait;
 
-/// What sessions are served by: a hall, what that is called with, and whose logins are known.
+/// What sessions are served by: a hall, what that is called with, and whose logins are known. What is
+/// proved of sessions is over any such hall.
 #[derive(Drop)]
-pub struct Service<'a, H, J: Journal, G> {
+pub struct Service<'a, H, C, G> {
     pub rt: &'a H,
     pub alloc: Global,
-    pub hall: &'a Hall<J>,
+    pub hall: &'a C,
     pub table: &'a TenantTable,
     pub gate: &'a G,
 }
@@ -58,9 +60,8 @@ impl Caller {
     ghost use Rattle.cql_sessions.specs.Seating.{of_caller};
 
     /// A caller of the tenant, who has made no call.
-    pub(crate) fn new<J: Journal>(
-        alloc: Global,
-        hall: &Hall<J>,
+    pub(crate) fn new<H: Wait, C: Callable<H, G>, G: Gate>(
+        service: &Service<'_, H, C, G>,
         tenant: TenantId,
         is_kept: bool,
     ) -> Caller
@@ -69,8 +70,8 @@ impl Caller {
         ensures none { result.receipts.items ≡ [] }
     {
         Caller {
-            seat: hall.seat(tenant),
-            receipts: Vec::new(alloc),
+            seat: service.hall.seat(tenant),
+            receipts: Vec::new(service.alloc),
             is_kept,
         }
     }
@@ -94,9 +95,9 @@ impl Caller {
 
     // Makes a call, buffers its reply, and keeps its receipt where calls are kept. Without room
     // for the receipt no call is made, and the line is told so (70).
-    fn call<H: Wait, J: Journal, E: Evaluator, G: Gate, W: Write>(
+    fn call<H: Wait, C: Callable<H, G>, E: Evaluator, G: Gate, W: Write>(
         &mut self,
-        service: &Service<'_, H, J, G>,
+        service: &Service<'_, H, C, G>,
         bench: &mut E,
         request: Request,
         buffer: &mut ReplyBuffer,
@@ -131,9 +132,9 @@ impl Caller {
     /// Answers one line. One that gives no command makes no call. All that is buffered is written
     /// before a fetch, so that no more is computed for a caller who has left. Where no fetch may
     /// be answered now, nothing is done with one.
-    pub(crate) fn answer<H: Wait, J: Journal, E: Evaluator, G: Gate, W: Write>(
+    pub(crate) fn answer<H: Wait, C: Callable<H, G>, E: Evaluator, G: Gate, W: Write>(
         &mut self,
-        service: &Service<'_, H, J, G>,
+        service: &Service<'_, H, C, G>,
         bench: &mut E,
         line: Line<'_>,
         may_fetch: bool,

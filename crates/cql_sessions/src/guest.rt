@@ -1,13 +1,14 @@
 // A caller's connection that never waits for long, and its session.
 ghost use Rattle.std.specs.Prelude.{◌≡◌, ◌≤◌, [], length, IfOk};
 
+use crate::callable::Callable;
 use crate::caller::{LineOutcome, Service};
 use crate::connection::{Came, Connection, Outbox, next_bytes};
 use crate::ending::Ending;
 use crate::session_buffers::SessionBuffers;
 use crate::visit::Visit;
 use cql_core::{Evaluator, TenantId};
-use cql_hall::{Gate, Journal};
+use cql_hall::Gate;
 use cql_wire::{ReplyBuffer, Scratch, ScriptError, Watched};
 use std::alloc::Global;
 use std::io;
@@ -118,9 +119,9 @@ impl Guest {
     /// Serves its session for a while: writes what is held back, or reads once and answers lines
     /// up to a fetch. A caller who doesn't take what is written is not read from. Nothing of its
     /// replies stays in the buffers.
-    pub fn turn<H: Wait, J: Journal, E: Evaluator, G: Gate>(
+    pub fn turn<H: Wait, C: Callable<H, G>, E: Evaluator, G: Gate>(
         &mut self,
-        service: &Service<'_, H, J, G>,
+        service: &Service<'_, H, C, G>,
         bench: &mut E,
         buffers: &mut SessionBuffers,
         may: May,
@@ -143,9 +144,9 @@ impl Guest {
         needs
     }
 
-    fn serve<H: Wait, J: Journal, E: Evaluator, G: Gate>(
+    fn serve<H: Wait, C: Callable<H, G>, E: Evaluator, G: Gate>(
         &mut self,
-        service: &Service<'_, H, J, G>,
+        service: &Service<'_, H, C, G>,
         bench: &mut E,
         buffers: &mut SessionBuffers,
         may: May,
@@ -181,8 +182,8 @@ impl Guest {
 
 // Answers the fetch that is held, or else lines of what isn't used yet, or else of what one read
 // gives. Gives what isn't used now; or nothing has come.
-fn answer_next<H: Wait, J: Journal, E: Evaluator, G: Gate>(
-    service: &Service<'_, H, J, G>,
+fn answer_next<H: Wait, C: Callable<H, G>, E: Evaluator, G: Gate>(
+    service: &Service<'_, H, C, G>,
     bench: &mut E,
     visit: &mut Visit,
     unread: &[u8],
@@ -218,8 +219,8 @@ fn answer_next<H: Wait, J: Journal, E: Evaluator, G: Gate>(
 
 // Answers lines that are whole in the bytes, up to a fetch, or as long as all is written. Gives
 // how many bytes were used.
-fn answer_some<H: Wait, J: Journal, E: Evaluator, G: Gate>(
-    service: &Service<'_, H, J, G>,
+fn answer_some<H: Wait, C: Callable<H, G>, E: Evaluator, G: Gate>(
+    service: &Service<'_, H, C, G>,
     bench: &mut E,
     visit: &mut Visit,
     bytes: &[u8],

@@ -6,6 +6,7 @@
 mod answers;
 mod auditing;
 mod benches;
+mod callable;
 mod caller;
 mod connection;
 mod ending;
@@ -21,6 +22,7 @@ mod visit;
 pub use answers::Answers;
 pub use auditing::{AuditFailure, Audited, audit_sessions};
 pub use benches::benches_of;
+pub use callable::Callable;
 pub use caller::Service;
 pub use connection::Connection;
 pub use ending::Ending;

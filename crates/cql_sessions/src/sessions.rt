@@ -5,6 +5,7 @@ ghost use Rattle.cql_lines.specs.Watched.{inner_of};
 ghost use Rattle.cql_sessions.specs.Seating.{login_among, behind_login, Asks, Served, ServedOf, IsNew, Visits, Reads, account_of};
 ghost use Rattle.cql_sessions.specs.Tallies.{placed};
 
+use crate::callable::Callable;
 use crate::caller::Service;
 use crate::session_buffers::SessionBuffers;
 use crate::visit::Visit;
@@ -83,8 +84,8 @@ where
 }
 
 // Serves a caller of whom nothing has come.
-fn attend<H: Wait, J: Journal, E: Evaluator, G: Gate, R: Read, W: Write>(
-    service: &Service<'_, H, J, G>,
+fn attend<H: Wait, C: Callable<H, G>, E: Evaluator, G: Gate, R: Read, W: Write>(
+    service: &Service<'_, H, C, G>,
     bench: &mut E,
     visit: &mut Visit,
     reader: &mut Watched<R>,
@@ -110,8 +111,8 @@ fn attend<H: Wait, J: Journal, E: Evaluator, G: Gate, R: Read, W: Write>(
 
 // Writes all that is buffered, reads once, and answers what came: at the end of the input the line
 // that no line feed has ended.
-fn read_once<H: Wait, J: Journal, E: Evaluator, G: Gate, R: Read, W: Write>(
-    service: &Service<'_, H, J, G>,
+fn read_once<H: Wait, C: Callable<H, G>, E: Evaluator, G: Gate, R: Read, W: Write>(
+    service: &Service<'_, H, C, G>,
     bench: &mut E,
     visit: &mut Visit,
     buffers: &mut SessionBuffers,
@@ -151,8 +152,8 @@ fn read_once<H: Wait, J: Journal, E: Evaluator, G: Gate, R: Read, W: Write>(
 }
 
 // Answers each line that is whole in the bytes.
-fn take_lines<H: Wait, J: Journal, E: Evaluator, G: Gate, W: Write>(
-    service: &Service<'_, H, J, G>,
+fn take_lines<H: Wait, C: Callable<H, G>, E: Evaluator, G: Gate, W: Write>(
+    service: &Service<'_, H, C, G>,
     bench: &mut E,
     visit: &mut Visit,
     bytes: &[u8],

@@ -3,11 +3,12 @@ ghost use Rattle.std.specs.Prelude.{◌≡◌, ◌≢◌, ◌≤◌, ◌++◌, �
 ghost use Rattle.std.specs.Option.{ForSome};
 ghost use Rattle.cql_sessions.specs.Tallies.{Tallies};
 
+use crate::callable::Callable;
 use crate::caller::{Caller, LineOutcome, Service};
 use crate::login::{answer_login, named_in};
 use crate::sessions::SessionEnd;
 use cql_core::{Evaluator, TenantId};
-use cql_hall::{Gate, Journal, Point};
+use cql_hall::{Gate, Point};
 use cql_lines::Intake;
 use cql_wire::{ReplyBuffer, Scratch, ScriptError, Watched};
 use std::alloc::Global;
@@ -101,9 +102,9 @@ impl Visit {
     /// Takes bytes up to and with the first line feed, or all where there is none, and answers the
     /// line if it is whole and isn't blank: the first by the login's answer, each later one by one
     /// line. Where no fetch may be answered now, one is held.
-    pub(crate) fn take_line<H: Wait, J: Journal, E: Evaluator, G: Gate, W: Write>(
+    pub(crate) fn take_line<H: Wait, C: Callable<H, G>, E: Evaluator, G: Gate, W: Write>(
         &mut self,
-        service: &Service<'_, H, J, G>,
+        service: &Service<'_, H, C, G>,
         bench: &mut E,
         bytes: &[u8],
         may_fetch: bool,
@@ -140,9 +141,9 @@ impl Visit {
 
     /// Nothing more comes: answers the line that no line feed has ended, if it isn't blank. Where
     /// no fetch may be answered now, one is held.
-    pub(crate) fn end<H: Wait, J: Journal, E: Evaluator, G: Gate, W: Write>(
+    pub(crate) fn end<H: Wait, C: Callable<H, G>, E: Evaluator, G: Gate, W: Write>(
         &mut self,
-        service: &Service<'_, H, J, G>,
+        service: &Service<'_, H, C, G>,
         bench: &mut E,
         may_fetch: bool,
         buffer: &mut ReplyBuffer,
@@ -165,9 +166,9 @@ impl Visit {
 
     /// Answers the line that is whole, if it isn't blank, and goes to the next one. Where no fetch
     /// may be answered now, one is held.
-    pub(crate) fn answer_whole<H: Wait, J: Journal, E: Evaluator, G: Gate, W: Write>(
+    pub(crate) fn answer_whole<H: Wait, C: Callable<H, G>, E: Evaluator, G: Gate, W: Write>(
         &mut self,
-        service: &Service<'_, H, J, G>,
+        service: &Service<'_, H, C, G>,
         bench: &mut E,
         may_fetch: bool,
         buffer: &mut ReplyBuffer,
@@ -211,9 +212,9 @@ impl Visit {
     }
 
     // Answers the line, by its caller's seat or as the login.
-    fn answer<H: Wait, J: Journal, E: Evaluator, G: Gate, W: Write>(
+    fn answer<H: Wait, C: Callable<H, G>, E: Evaluator, G: Gate, W: Write>(
         &mut self,
-        service: &Service<'_, H, J, G>,
+        service: &Service<'_, H, C, G>,
         bench: &mut E,
         may_fetch: bool,
         buffer: &mut ReplyBuffer,
@@ -241,7 +242,7 @@ impl Visit {
         match answer_login(alloc, service.table, line, buffer, writer)? {
             Some(tenant) => {
                 service.gate.at(Point::LoggedIn(tenant));
-                self.caller = Some(Caller::new(alloc, service.hall, tenant, self.is_kept));
+                self.caller = Some(Caller::new(service, tenant, self.is_kept));
             }
             None => {
                 let named = named_in(alloc, service.table, line);

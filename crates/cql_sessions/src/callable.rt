@@ -6,8 +6,8 @@ use cql_hall::{Gate, Hall, Journal, Pending, Seat};
 use std::alloc::{AllocError, Global};
 use std::sync::{Arc, Wait};
 
-/// What takes the calls of seats, as a hall does, whatever that keeps of them: called with what waits
-/// and with a gate.
+/// What takes the calls of seats, as a hall does, whatever that keeps of them. `H` is what a call may
+/// wait by, and `G` is told how far it is.
 pub trait Callable<H: Wait, G: Gate> {
     /// A seat that has counted nothing. Waits for nobody.
     fn seat(&self, tenant: TenantId) -> Seat

@@ -233,13 +233,14 @@ impl<T: Connected<End = D>, D: Drop> Floor<T, D> {
         }
     }
 
-    /// The session of a key has ended.
+    /// Nobody is connected any more under this key.
     pub(crate) fn forget(&mut self, key: usize) {
         let _ = self.slots.try_remove(key);
     }
 
-    /// Keeps how a session ended.
-    pub(crate) fn note(&mut self, end: Option<D>) {
+    /// The session of a key has ended, and how is kept.
+    pub(crate) fn leave(&mut self, key: usize, end: Option<D>) {
+        self.forget(key);
         if let Some(end) = end
             && self.ends.push(end).is_err()
         {

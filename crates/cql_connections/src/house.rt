@@ -5,7 +5,7 @@ use crate::hub::Wires;
 use crate::lookout::Lookout;
 use crate::turns::Task;
 use cql_hall::{EndReason, Gate, Point};
-use cql_sessions::{Connected, WaitsFor};
+use cql_sessions::{Connected, May, WaitsFor};
 use cql_wire::ScriptError;
 use mio::unix::SourceFd;
 use mio::{Interest, Registry, Token, Waker};
@@ -99,8 +99,8 @@ impl<T: Connected<End = D>, D: Drop> House<T, D> {
         self.floor.lock(rt).is_full()
     }
 
-    /// Whether something waits for a worker.
-    pub fn is_waited_for(&self) -> bool {
+    // Whether something waits for a worker.
+    fn is_waited_for(&self) -> bool {
         self.waiting.load(Ordering::SeqCst) > 0
     }
 
@@ -197,20 +197,50 @@ impl<T: Connected<End = D>, D: Drop> House<T, D> {
         floor
     }
 
-    /// Begins an answer for the owner, if it needn't wait.
-    pub fn begin_answer<R: Wait>(&self, rt: &R, owner: usize) -> bool {
-        self.floor.lock(rt).begin_answer(owner)
+    /// What a worker may do next for a guest who has had a turn, if it goes on with the guest. An
+    /// answer that it computed has ended.
+    pub fn goes_on<R: Wait>(
+        &self,
+        rt: &R,
+        turn: &mut Turn<T>,
+        needs: WaitsFor,
+        last: May,
+        computes: bool,
+    ) -> Option<May> {
+        if last.fetch {
+            self.end_answer(rt, turn.owner());
+        }
+        match needs {
+            WaitsFor::Answer if computes && self.floor.lock(rt).begin_answer(turn.owner()) => {
+                Some(May {
+                    fetch: true,
+                    wait: false,
+                })
+            }
+            WaitsFor::Worker if !self.is_waited_for() => Some(May {
+                fetch: false,
+                wait: last.wait,
+            }),
+            WaitsFor::Bytes if turn.guest.link().is_quick() && !self.is_waited_for() => {
+                self.unlist(turn);
+                Some(May {
+                    fetch: false,
+                    wait: true,
+                })
+            }
+            _ => None,
+        }
     }
 
-    /// An answer for the owner has ended.
-    pub fn end_answer<R: Wait>(&self, rt: &R, owner: usize) {
+    // An answer for the owner has ended.
+    fn end_answer<R: Wait>(&self, rt: &R, owner: usize) {
         let mut floor = self.floor.lock(rt);
         floor.end_answer(owner);
         self.waiting.store(floor.waiting(), Ordering::SeqCst);
     }
 
-    /// From now on it isn't told what comes for the guest.
-    pub fn unlist(&self, turn: &mut Turn<T>) {
+    // From now on it isn't told what comes for the guest.
+    fn unlist(&self, turn: &mut Turn<T>) {
         if turn.is_listed {
             let fd = turn.guest.link().raw_fd();
             turn.is_listed = self.registry.deregister(&mut SourceFd(&fd)).is_err();
@@ -304,15 +334,9 @@ impl<T: Connected<End = D>, D: Drop> House<T, D> {
         } = turn;
         let tenant = guest.tenant();
         let end = Box::into_inner(guest).leave(self.alloc, fault);
-        self.leave(rt, key, end);
+        self.floor.lock(rt).leave(key, end);
         gate.at(Point::Closed(tenant, reason));
         let _ = self.waker.wake();
-    }
-
-    fn leave<R: Wait>(&self, rt: &R, key: usize, end: Option<D>) {
-        let mut floor = self.floor.lock(rt);
-        floor.forget(key);
-        floor.note(end);
     }
 
     /// Ends the sessions of some of those whose time has passed.

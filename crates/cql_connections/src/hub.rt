@@ -31,12 +31,16 @@ const LISTENER: Token = Token(0);
 
 const WAKER: Token = Token(1);
 
-/// A listener that doesn't wait, and what is needed to wait at it and at connections.
+/// What is needed to wait at a listener and at connections.
 pub struct Hub<'a> {
-    listener: &'a TcpListener,
-    poll: Poll,
-    events: Events,
+    door: Door<'a>,
     wires: Wires,
+}
+
+impl Drop for Hub<'_> {
+    fn drop(self) {
+        let Hub { door: _, wires: _ } = self;
+    }
 }
 
 /// What tells of those who send, and by what others are woken.
@@ -67,17 +71,6 @@ impl Wires {
     }
 }
 
-impl Drop for Hub<'_> {
-    fn drop(self) {
-        let Hub {
-            listener: _,
-            poll: _,
-            events: _,
-            wires: _,
-        } = self;
-    }
-}
-
 impl<'a> Hub<'a> {
     /// Has the listener wait no more, and takes what of the system's is needed to wait at it. An
     /// error where there is no more of that.
@@ -89,22 +82,6 @@ impl<'a> Hub<'a> {
         poll.registry()
             .register(&mut SourceFd(&fd), LISTENER, Interest::READABLE)?;
         let wires = Wires::new(net, alloc, poll.registry())?;
-        Ok(Hub {
-            listener,
-            poll,
-            events,
-            wires,
-        })
-    }
-
-    /// What the accepting thread waits by, and the rest.
-    pub fn into_parts(self) -> (Door<'a>, Wires) {
-        let Hub {
-            listener,
-            poll,
-            events,
-            wires,
-        } = self;
         let door = Door {
             listener,
             poll,
@@ -113,6 +90,12 @@ impl<'a> Hub<'a> {
             failed: None,
             looked: None,
         };
+        Ok(Hub { door, wires })
+    }
+
+    /// What the accepting thread waits by, and the rest.
+    pub fn into_parts(self) -> (Door<'a>, Wires) {
+        let Hub { door, wires } = self;
         (door, wires)
     }
 }

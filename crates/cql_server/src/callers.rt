@@ -117,7 +117,7 @@ where
         table,
         gate,
     };
-    serve_hall(service, hub, limits, own, pool, sessions, false)?;
+    serve_hall(&service, hub, limits, own, pool, sessions, false)?;
     Ok(())
 }
 
@@ -149,7 +149,7 @@ where
         table,
         gate,
     };
-    let ends = serve_hall(service, hub, limits, own, pool, sessions, true)?;
+    let ends = serve_hall(&service, hub, limits, own, pool, sessions, true)?;
     tell_audited(out, audit_sessions(alloc, table, hall, ends)?)
 }
 
@@ -163,10 +163,10 @@ fn tell_audited<W: Write>(out: &mut W, audited: Audited) -> Result<(), Failure> 
     }
 }
 
-// Serves the sessions by a thread for each bench, fed by this one, and gives their ends, for which
-// there is room where calls are kept.
+// Serves the sessions by a thread for each bench while this one lets callers in. Gives their ends once
+// all have left, for which there is room where calls are kept.
 fn serve_hall<R, C, G, O>(
-    service: Service<'_, R, C, G>,
+    service: &Service<'_, R, C, G>,
     hub: Hub<'_>,
     limits: Limits,
     own: Vec<BenchOf<O>>,
@@ -186,31 +186,11 @@ where
     let owners = service.table.tenants().len().saturating_add(1);
     let room = if is_kept { usize::from(sessions) } else { 0 };
     let floor: Floor<Guest, Ending> = Floor::new(alloc, limits, owners, own.len(), room)?;
+    let (stop, stopped) = crossbeam_channel::bounded(alloc, 1)?;
     let (door, wires) = hub.into_parts();
     let house = House::new(alloc, is_kept, floor, wires);
-    serve_house(&service, door, &house, own, pool, sessions)?;
-    Ok(house.into_ends()?)
-}
-
-// Starts the workers, lets callers in, and returns once all have left.
-fn serve_house<R, C, G, O>(
-    service: &Service<'_, R, C, G>,
-    door: Door<'_>,
-    house: &House<Guest, Ending>,
-    own: Vec<BenchOf<O>>,
-    pool: &SharedPool<O>,
-    sessions: u16,
-) -> Result<(), Failure>
-where
-    R: Threads + Wait + Clock + Sync,
-    C: Callable<R, G> + Sync,
-    G: Gate + Sync,
-    O: Operator + Send,
-    requires { All (IsBench O.model_of) own.items }
-    ensures { IfErr result (λ f. f ≡ failure.NoMemory) }
-{
+    let shared = &house;
     let rt = service.rt;
-    let (stop, stopped) = crossbeam_channel::bounded(service.alloc, 1)?;
     thread::scope(
         thread::scope_env(),
         rt,
@@ -219,19 +199,14 @@ where
             ensures { IfErr result (λ f. f ≡ failure.NoMemory) }
         {
             start_sweeper(scope, service, pool, stopped)?;
-            let handles = match start_all(scope, service, house, own, pool) {
-                Ok(handles) => handles,
-                Err(failure) => {
-                    house.close(rt);
-                    return Err(failure);
-                }
-            };
-            door.attend(rt, house, service.gate, sessions);
-            for handle in handles {
-                handle.join(rt);
+            if let Err(failure) = start_all(scope, service, shared, own, pool) {
+                shared.close(rt);
+                return Err(failure);
             }
+            door.attend(rt, shared, service.gate, sessions);
             drop(stop);
             Ok(())
         },
-    )
+    )?;
+    Ok(house.into_ends()?)
 }

@@ -1,6 +1,4 @@
 // What `cqld` does.
-ghost use Rattle.std.specs.Prelude.{All};
-ghost use Rattle.cql_ops.specs.Bench.{IsBench};
 
 use crate::callers::{Benches, serve};
 use crate::failure::Failure;
@@ -84,7 +82,7 @@ fn tell_checked(rt: &impl Print, table: &TenantTable) -> Result<(), Failure> {
     Ok(())
 }
 
-// Makes a bench for each worker and those that they borrow, listens, and serves.
+// Makes the operators of a bench for each worker and of those that they borrow, and serves by them.
 fn outcome<R>(rt: &R, alloc: Global, config: Config, table: &TenantTable) -> Result<(), Failure>
 where
     R: Threads
@@ -99,26 +97,27 @@ where
     // Operators of the caller's own may stand in the place of these.
     match config.join {
         JoinForm::Plain => {
-            let own = benches_of(alloc, plain_lists(alloc, workers)?)?;
-            let shared = benches_of(alloc, plain_lists(alloc, config.warm)?)?;
-            listen(rt, alloc, config, table, Benches { own, shared })
+            let own = plain_lists(alloc, workers)?;
+            let shared = plain_lists(alloc, config.warm)?;
+            listen(rt, alloc, config, table, own, shared)
         }
         JoinForm::Keyed => {
-            let own = benches_of(alloc, keyed_lists(alloc, workers)?)?;
-            let shared = benches_of(alloc, keyed_lists(alloc, config.warm)?)?;
-            listen(rt, alloc, config, table, Benches { own, shared })
+            let own = keyed_lists(alloc, workers)?;
+            let shared = keyed_lists(alloc, config.warm)?;
+            listen(rt, alloc, config, table, own, shared)
         }
     }
 }
 
-// Tells the port that it listens on, and before it where fewer callers than were asked for have files;
-// and serves.
+// Makes a bench of each list of operators; tells the port that it listens on, and before it where fewer
+// callers than were asked for have files; and serves.
 fn listen<R, O>(
     rt: &R,
     alloc: Global,
     config: Config,
     table: &TenantTable,
-    benches: Benches<O>,
+    own: Vec<Vec<O>>,
+    shared: Vec<Vec<O>>,
 ) -> Result<(), Failure>
 where
     O: Operator + Send,
@@ -129,9 +128,10 @@ where
         + Print
         + Eprint
         + Sync,
-    requires own { All (IsBench O.model_of) benches.own.items }
-    requires shared { All (IsBench O.model_of) benches.shared.items }
 {
+    let own = benches_of(alloc, own)?;
+    let shared = benches_of(alloc, shared)?;
+    let benches = Benches { own, shared };
     let Ok(listener) = TcpListener::bind(rt, (Ipv4Addr::LOCALHOST, config.port)) else {
         return Err(Failure::Listening);
     };

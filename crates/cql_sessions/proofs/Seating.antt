@@ -1,5 +1,5 @@
 -- Lemmas on whose seat a session has, and of which lines its receipts are.
-use Rattle.std.proofs.Common.{◌≡◌, ℕ, arith, Bool, true, false, ◌||◌, not, ◌&&◌, is_none, is_some, List, [], ◌∷◌, ◌++◌, length, take, drop, take-append-drop, Option, Some, None, Result, Ok, Err, OnOk, OnErr, is_ok, refl, ap, sym, ◌∙◌, subst, append_assoc, append-nil, ◌⊎◌, inl, inr}
+use Rattle.std.proofs.Common.{◌≡◌, ℕ, arith, Bool, true, false, ◌||◌, not, ◌&&◌, is_none, is_some, List, [], ◌∷◌, ◌++◌, length, take, drop, take-append-drop, Option, Some, None, Result, Ok, Err, OnOk, is_ok, refl, ap, sym, ◌∙◌, subst, append_assoc, append-nil, ◌⊎◌, inl, inr}
 use Rattle.std.proofs.lemmas.Bool.{eqb-true}
 use Rattle.std.proofs.lemmas.List.{take_all, take-append-le}
 use Rattle.std.specs.Arc.{arc_value}
@@ -56,14 +56,6 @@ not_is_false false e = cc
 
 none_is_some : {A B : Type 0} (x : A) → Some x ≡ None → B
 none_is_some x e = absurd (cc)
-
-pub on_ok_map : {T E : Type 0} (r : Result T E) (P Q : Type 0) → (P → Q) → OnOk r P → OnOk r Q
-on_ok_map (Ok x) P Q f p = f p
-on_ok_map (Err e) P Q f p = tt
-
-pub on_err_map : {T E : Type 0} (r : Result T E) (P Q : Type 0) → (P → Q) → OnErr r P → OnErr r Q
-on_err_map (Ok x) P Q f p = tt
-on_err_map (Err e) P Q f p = f p
 
 on_ok_true : {T E : Type 0} (r : Result T E) (P : Type 0) → OnOk r P → is_ok r ≡ true → P
 on_ok_true (Ok x) P p well = p
@@ -357,6 +349,17 @@ end_reads table old new input to_come well consumed at_end seats = record {
       let v = seats came visits in
       subst (λ l. Served table new.is_ended l (account_of new.caller)) (sym (append-nil came)) (record { lines = v.lines; first = v.first; serves = v.serves });
   going = λ well going came visits. subst (λ l. Visits table l new) (sym (append-nil came)) (seats came visits);
+}
+
+-- the end of the input was read, and its line met a fault
+pub end_stops : (table : List Tenant) (old new : Visit) (input to_come : Option (List ℕ)) (well : Bool) → well ≡ false → Consumes input to_come [] → IsAtEnd to_come
+    → ((came : List ℕ) → Visits table came old → Served table new.is_ended came (account_of new.caller)) → Reads table old new input to_come well
+end_stops table old new input to_come well failed consumed at_end stops = record {
+  bytes = [];
+  consumed = consumed;
+  at_end = λ unended ended. at_end;
+  served = λ came visits. subst (λ l. Served table new.is_ended l (account_of new.caller)) (sym (append-nil came)) (stops came visits);
+  going = λ well. clash _ well failed;
 }
 
 -- a chunk after a read: what was read, and behind it what stood there

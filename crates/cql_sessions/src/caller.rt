@@ -146,8 +146,8 @@ impl Caller {
         ensures bench { E.is_ready bench.new }
         ensures kept { self.new.is_kept ≡ self.old.is_kept }
         ensures calls { Calls (request_of (text_of line.entry)) (of_caller self.old) (of_caller self.new) }
-        ensures waits { IfOk result (λ outcome. outcome ≡ LineOutcome.Held → of_caller self.new ≡ of_caller self.old) }
-        ensures held { may_fetch ≡ true → IfOk result (λ outcome. outcome ≢ LineOutcome.Held) }
+        ensures waits { IfOk result (λ outcome. (may_fetch ≡ true → outcome ≢ LineOutcome.Held)
+            × (outcome ≡ LineOutcome.Held → of_caller self.new ≡ of_caller self.old)) }
     {
         let request = match prepared_of(service.alloc, line, scratch) {
             Ok(request) => request,

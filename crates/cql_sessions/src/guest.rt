@@ -199,22 +199,21 @@ fn answer_next<H: Wait, C: Callable<H, G>, E: Evaluator, G: Gate>(
         scratch,
         buffer,
     } = buffers;
-    if visit.is_held {
-        visit.answer_whole(service, bench, may_fetch, buffer, scratch, outbox)?;
-        return Ok(Came::Unused);
+    if !visit.is_held {
+        let Some(bytes) = next_bytes(outbox.inner().stream, unread, chunk)? else {
+            return Ok(Came::Nothing);
+        };
+        if !bytes.is_empty() {
+            let used = answer_some(
+                service, bench, visit, bytes, may_fetch, buffer, scratch, outbox,
+            )?;
+            let rest = Vec::from_slice(service.alloc, &bytes[used..])?;
+            return Ok(Came::Rest(rest));
+        }
+        visit.is_ended = true;
     }
-    let Some(bytes) = next_bytes(outbox.inner().stream, unread, chunk)? else {
-        return Ok(Came::Nothing);
-    };
-    if bytes.is_empty() {
-        visit.end(service, bench, may_fetch, buffer, scratch, outbox)?;
-        return Ok(Came::Unused);
-    }
-    let used = answer_some(
-        service, bench, visit, bytes, may_fetch, buffer, scratch, outbox,
-    )?;
-    let rest = Vec::from_slice(service.alloc, &bytes[used..])?;
-    Ok(Came::Rest(rest))
+    visit.answer_whole(service, bench, may_fetch, buffer, scratch, outbox)?;
+    Ok(Came::Unused)
 }
 
 // Answers lines that are whole in the bytes, up to a fetch, or as long as all is written. Gives

@@ -137,7 +137,8 @@ fn read_once<H: Wait, C: Callable<H, G>, E: Evaluator, G: Gate, R: Read, W: Writ
     buffer.flush(writer)?;
     let count = reader.read(chunk)?;
     if count == 0 {
-        visit.end(service, bench, true, buffer, scratch, writer)?;
+        visit.is_ended = true;
+        visit.answer_whole(service, bench, true, buffer, scratch, writer)?;
         return Ok(());
     }
     take_lines(
@@ -164,9 +165,8 @@ fn take_lines<H: Wait, C: Callable<H, G>, E: Evaluator, G: Gate, W: Write>(
     requires bench { E.is_ready bench.old }
     requires going { visit.old.is_held ≡ false }
     ensures bench { E.is_ready bench.new }
-    ensures kept { visit.new.is_kept ≡ visit.old.is_kept }
+    ensures same { (visit.new.is_kept ≡ visit.old.is_kept) × (visit.new.is_ended ≡ visit.old.is_ended) }
     ensures going { OnOk result (visit.new.is_held ≡ false) }
-    ensures input { visit.new.is_ended ≡ visit.old.is_ended }
     ensures served { visit.old.is_ended ≡ false → (came : List ℕ) → Visits service.now.table.now came visit.old
         → Served service.now.table.now false (came ++ bytes.now) (account_of visit.new.caller) }
     ensures seats { OnOk result (visit.new.is_over ≡ false → (came : List ℕ)

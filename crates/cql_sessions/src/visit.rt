@@ -115,15 +115,13 @@ impl Visit {
         requires bench { E.is_ready bench.old }
         requires going { self.old.is_held ≡ false }
         ensures bench { E.is_ready bench.new }
-        ensures kept { self.new.is_kept ≡ self.old.is_kept }
+        ensures same { (self.new.is_kept ≡ self.old.is_kept) × (self.new.is_ended ≡ self.old.is_ended) }
         ensures going { may_fetch ≡ true → OnOk result (self.new.is_held ≡ false) }
-        ensures input { self.new.is_ended ≡ self.old.is_ended }
         ensures seats { IfOk result (λ step. self.old.is_over ≡ false → (came : List ℕ)
             → Visits service.now.table.now came self.old → Visits service.now.table.now (came ++ take step.count bytes.now) self.new) }
         ensures stops { OnErr result (self.old.is_over ≡ false → (came : List ℕ)
             → Visits service.now.table.now came self.old → Served service.now.table.now false (came ++ bytes.now) (account_of self.new.caller)) }
-        ensures within { IfOk result (λ step. step.count ≤ length bytes.now) }
-        ensures some { IfOk result (λ step. min 1 (length bytes.now) ≤ step.count) }
+        ensures within { IfOk result (λ step. (min 1 (length bytes.now) ≤ step.count) × (step.count ≤ length bytes.now)) }
     {
         let taken = self.intake.take(bytes)?;
         if !taken.is_whole {
@@ -139,33 +137,8 @@ impl Visit {
         })
     }
 
-    /// Nothing more comes: answers the line that no line feed has ended, if it isn't blank. Where
-    /// no fetch may be answered now, one is held.
-    pub(crate) fn end<H: Wait, C: Callable<H, G>, E: Evaluator, G: Gate, W: Write>(
-        &mut self,
-        service: &Service<'_, H, C, G>,
-        bench: &mut E,
-        may_fetch: bool,
-        buffer: &mut ReplyBuffer,
-        scratch: &mut Scratch,
-        writer: &mut Watched<W>,
-    ) -> Result<LineOutcome, ScriptError>
-        requires bench { E.is_ready bench.old }
-        ensures bench { E.is_ready bench.new }
-        ensures kept { self.new.is_kept ≡ self.old.is_kept }
-        ensures going { may_fetch ≡ true → OnOk result (self.new.is_held ≡ false) }
-        ensures ended { self.new.is_ended ≡ true }
-        ensures seats { OnOk result (self.old.is_held ≡ false → self.old.is_over ≡ false → (came : List ℕ)
-            → Visits service.now.table.now came self.old → Visits service.now.table.now came self.new) }
-        ensures stops { OnErr result (self.old.is_held ≡ false → self.old.is_over ≡ false → (came : List ℕ)
-            → Visits service.now.table.now came self.old → Served service.now.table.now true came (account_of self.new.caller)) }
-    {
-        self.is_ended = true;
-        self.answer_whole(service, bench, may_fetch, buffer, scratch, writer)
-    }
-
-    /// Answers the line that is whole, if it isn't blank, and goes to the next one. Where no fetch
-    /// may be answered now, one is held.
+    /// Answers the line that is whole, or that no line feed has ended where nothing more comes, if it
+    /// isn't blank, and goes to the next one. Where no fetch may be answered now, one is held.
     pub(crate) fn answer_whole<H: Wait, C: Callable<H, G>, E: Evaluator, G: Gate, W: Write>(
         &mut self,
         service: &Service<'_, H, C, G>,
@@ -177,9 +150,8 @@ impl Visit {
     ) -> Result<LineOutcome, ScriptError>
         requires bench { E.is_ready bench.old }
         ensures bench { E.is_ready bench.new }
-        ensures kept { self.new.is_kept ≡ self.old.is_kept }
+        ensures same { (self.new.is_kept ≡ self.old.is_kept) × (self.new.is_ended ≡ self.old.is_ended) }
         ensures going { may_fetch ≡ true → OnOk result (self.new.is_held ≡ false) }
-        ensures input { self.new.is_ended ≡ self.old.is_ended }
         ensures seats { OnOk result (self.old.is_over ≡ false → (came : List ℕ)
             → Faces service.now.table.now came self.old → Visits service.now.table.now came self.new) }
         ensures stops { OnErr result (self.old.is_over ≡ false → (came : List ℕ)
@@ -201,7 +173,6 @@ impl Visit {
     // Goes to the next line, where one may come.
     fn go_on(&mut self)
         ensures kept { self.new.is_kept ≡ self.old.is_kept }
-        ensures held { self.new.is_held ≡ false }
         ensures gone { HasGoneOn self.old self.new }
     {
         self.intake.clear();
@@ -223,12 +194,10 @@ impl Visit {
     ) -> Result<LineOutcome, ScriptError>
         requires bench { E.is_ready bench.old }
         ensures bench { E.is_ready bench.new }
-        ensures kept { self.new.is_kept ≡ self.old.is_kept }
-        ensures held { IfOk result (λ outcome. may_fetch ≡ true → outcome ≢ LineOutcome.Held) }
-        ensures line { (self.new.intake ≡ self.old.intake) × (self.new.is_held ≡ self.old.is_held) × (self.new.is_ended ≡ self.old.is_ended) }
-        ensures answers { IfOk result (λ outcome. outcome ≢ LineOutcome.Held
-            → Answers service.now.table.now (shown_line self.old.intake) (account_of self.old.caller) (account_of self.new.caller)) }
-        ensures waits { IfOk result (λ outcome. outcome ≡ LineOutcome.Held → account_of self.new.caller ≡ account_of self.old.caller) }
+        ensures same { (self.new.is_kept ≡ self.old.is_kept) × (self.new.intake ≡ self.old.intake) × (self.new.is_held ≡ self.old.is_held) × (self.new.is_ended ≡ self.old.is_ended) }
+        ensures answers { IfOk result (λ outcome. (may_fetch ≡ true → outcome ≢ LineOutcome.Held)
+            × (outcome ≡ LineOutcome.Held → account_of self.new.caller ≡ account_of self.old.caller)
+            × (outcome ≢ LineOutcome.Held → Answers service.now.table.now (shown_line self.old.intake) (account_of self.old.caller) (account_of self.new.caller))) }
         ensures over { OnOk result (self.new.is_over ≡ (is_none self.new.caller || self.old.is_over)) }
         ensures stops { OnErr result ((account_of self.new.caller ≡ account_of self.old.caller)
             ⊎ Answers service.now.table.now (shown_line self.old.intake) (account_of self.old.caller) (account_of self.new.caller)) }

@@ -19,9 +19,9 @@ loop-rest-preserved g c =
     let count = c.in_ok-step.step.count in
     record {
       bench = c.in_ok-step.ensures.bench;
-      kept = c.in_ok-step.ensures.kept ∙ c.loop-rest.invariant.kept;
+      kept = c.in_ok-step.ensures.same.0 ∙ c.loop-rest.invariant.kept;
       going = c.in_ok-step.ensures.going refl;
-      input = c.in_ok-step.ensures.input ∙ c.loop-rest.invariant.input;
+      input = c.in_ok-step.ensures.same.1 ∙ c.loop-rest.invariant.input;
       seats = (
         used ++ take count rest,
         moves_front c.args.bytes.now used rest count is,

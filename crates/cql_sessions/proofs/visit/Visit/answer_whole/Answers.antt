@@ -14,14 +14,14 @@ pub returns-in_err-outcome-clause-stops : goal.returns-in_err-outcome-clause-sto
 returns-in_err-outcome-clause-stops g c =
     on_err_always c.from_residual.result
     (λ going came faces.
-    answered_stops c.args.service.now.table.now came c.args.self.now c.answer.new.self (sym c.counts.ensures ∙ c.if-not-counts.false) c.in_err-outcome.ensures.line going faces c.in_err-outcome.ensures.stops)
+    answered_stops c.args.service.now.table.now came c.args.self.now c.answer.new.self (sym c.counts.ensures ∙ c.if-not-counts.false) (c.in_err-outcome.ensures.same.1, c.in_err-outcome.ensures.same.2, c.in_err-outcome.ensures.same.3) going faces c.in_err-outcome.ensures.stops)
 
 pub returns-then-eq-clause-seats : goal.returns-then-eq-clause-seats
 returns-then-eq-clause-seats g c = λ going came faces.
-    held_visits c.args.service.now.table.now came c.args.self.now c.answer.new.self (sym c.counts.ensures ∙ c.if-not-counts.false) c.in_ok-outcome.ensures.line going faces
-    (c.in_ok-outcome.ensures.waits (same_true the_type (search rules) c.in_ok-outcome.outcome Held (sym c.if-eq.ensures))) c.in_ok-outcome.ensures.over
+    held_visits c.args.service.now.table.now came c.args.self.now c.answer.new.self (sym c.counts.ensures ∙ c.if-not-counts.false) (c.in_ok-outcome.ensures.same.1, c.in_ok-outcome.ensures.same.2, c.in_ok-outcome.ensures.same.3) going faces
+    (c.in_ok-outcome.ensures.answers.1 (same_true the_type (search rules) c.in_ok-outcome.outcome Held (sym c.if-eq.ensures))) c.in_ok-outcome.ensures.over
 
 pub returns-else-eq-clause-seats : goal.returns-else-eq-clause-seats
 returns-else-eq-clause-seats g c = λ going came faces.
-    answered_visits c.args.service.now.table.now came c.args.self.now c.answer.new.self (sym c.counts.ensures ∙ c.if-not-counts.false) c.in_ok-outcome.ensures.line going faces c.go_on-else-eq.new.self
-    (c.in_ok-outcome.ensures.answers (λ e. clash c.eq.result (c.eq.ensures ∙ ap (λ o. sameb the_type o Held) e) c.if-eq.false)) c.in_ok-outcome.ensures.over c.go_on-else-eq.ensures.gone
+    answered_visits c.args.service.now.table.now came c.args.self.now c.answer.new.self (sym c.counts.ensures ∙ c.if-not-counts.false) (c.in_ok-outcome.ensures.same.1, c.in_ok-outcome.ensures.same.2, c.in_ok-outcome.ensures.same.3) going faces c.go_on-else-eq.new.self
+    (c.in_ok-outcome.ensures.answers.2 (λ e. clash c.eq.result (c.eq.ensures ∙ ap (λ o. sameb the_type o Held) e) c.if-eq.false)) c.in_ok-outcome.ensures.over c.go_on-else-eq.ensures.gone

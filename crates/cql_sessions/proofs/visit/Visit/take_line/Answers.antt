@@ -15,7 +15,7 @@ pub returns-in_err-outcome-clause-stops : goal.returns-in_err-outcome-clause-sto
 returns-in_err-outcome-clause-stops g c =
     on_err_always c.from_residual-in_err-outcome.result
     (λ going came visits.
-    whole_stops c.args.service.now.table.now came c.args.bytes.now c.in_ok-taken.taken.count _ _ (c.in_err-outcome.ensures.input ∙ visit_unended c.args.service.now.table.now came c.args.self.now c.requires.going going visits)
+    whole_stops c.args.service.now.table.now came c.args.bytes.now c.in_ok-taken.taken.count _ _ (c.in_err-outcome.ensures.same.1 ∙ visit_unended c.args.service.now.table.now came c.args.self.now c.requires.going going visits)
     (c.in_err-outcome.ensures.stops going (came ++ take c.in_ok-taken.taken.count c.args.bytes.now)
     (whole_faces c.args.service.now.table.now came c.args.bytes.now c.args.self.now _ c.in_ok-taken.taken c.requires.going c.in_ok-taken.ensures.ok (not_is_false _ c.if-not-taken.false) going visits)))
 

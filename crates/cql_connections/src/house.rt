@@ -1,4 +1,5 @@
 // What the accepting thread and the workers share.
+ghost use Rattle.std.specs.Prelude.{◌≡◌, ◌⊎◌, true, false, IfSome};
 
 use crate::floor::{Floor, LATE, Next, Turn};
 use crate::hub::Wires;
@@ -197,8 +198,9 @@ impl<T: Connected<End = D>, D: Drop> House<T, D> {
         floor
     }
 
-    /// What a worker may do next for a guest who has had a turn, if it goes on with the guest. An
-    /// answer that it computed has ended.
+    /// What a worker may do next for a guest who has had a turn, if it goes on with the guest: answer
+    /// the fetch that waits, where it computes answers; or lines, of one who needs a worker or bytes.
+    /// An answer that it computed has ended.
     pub fn goes_on<R: Wait>(
         &self,
         rt: &R,
@@ -206,7 +208,11 @@ impl<T: Connected<End = D>, D: Drop> House<T, D> {
         needs: WaitsFor,
         last: May,
         computes: bool,
-    ) -> Option<May> {
+    ) -> Option<May>
+        ensures guest { (turn.new.key ≡ turn.old.key) × (turn.new.guest ≡ turn.old.guest) }
+        ensures fetch { IfSome result (λ may. may.fetch ≡ true → (computes ≡ true) × (needs ≡ WaitsFor.Answer)) }
+        ensures short { IfSome result (λ may. may.fetch ≡ false → (needs ≡ WaitsFor.Worker) ⊎ (needs ≡ WaitsFor.Bytes)) }
+    {
         if last.fetch {
             self.end_answer(rt, turn.owner());
         }
@@ -240,7 +246,9 @@ impl<T: Connected<End = D>, D: Drop> House<T, D> {
     }
 
     // From now on it isn't told what comes for the guest.
-    fn unlist(&self, turn: &mut Turn<T>) {
+    fn unlist(&self, turn: &mut Turn<T>)
+        ensures guest { (turn.new.key ≡ turn.old.key) × (turn.new.guest ≡ turn.old.guest) }
+    {
         if turn.is_listed {
             let fd = turn.guest.link().raw_fd();
             turn.is_listed = self.registry.deregister(&mut SourceFd(&fd)).is_err();

@@ -3,7 +3,7 @@ pub mod CrossQueries
 mod Finding
 mod Bounds
 mod Each
-mod Few
+pub mod Few
 mod Meant
 mod Firsts
 mod FitExpressions

@@ -1,7 +1,7 @@
 -- The inputs of a plan beside the ports of its joins.
-use Rattle.std.proofs.Common.{◌≡◌, ℕ, zero, suc, ◌<◌, List, [], ◌∷◌, ◌++◌, length, refl, sym, ap, ◌∙◌, subst}
+use Rattle.std.proofs.Common.{◌≡◌, ℕ, zero, suc, ◌<◌, nat_eq, Bool, true, false, if◌then◌else◌, List, [], ◌∷◌, ◌++◌, length, refl, sym, ap, ◌∙◌, subst}
 use Rattle.std.specs.Prelude.{Option, Some, None, Ok, slice_get}
-use Rattle.std.specs.List.{AllByRecursion, AllZip, Contains, cons_option}
+use Rattle.std.specs.List.{AllByRecursion, AllZip, Contains, cons_option, list_any}
 use Rattle.std.proofs.lemmas.List.{append-nil, length-map}
 use Rattle.std.proofs.lemmas.Option.{slice_get_within}
 use Rattle.cql_value.specs.declared.schema.Column.{Column}
@@ -17,6 +17,7 @@ use Rattle.cql_window.specs.declared.window.Window.{Window}
 use Rattle.cql_window.specs.declared.window.Window.TheVariants.{Range, Rows, All as all, Parts}
 use Rattle.cql_window.specs.Projection.{projected}
 use Rattle.cql_window.specs.Through.{wide_window, PartsWithin}
+use Rattle.cql_window.specs.Once.{once, once_from}
 use Rattle.cql_plan.specs.declared.plan.Input.{Input}
 use Rattle.cql_plan.specs.declared.plan.OutputKind.{OutputKind}
 use Rattle.cql_plan.specs.declared.plan.Planned.{Planned}
@@ -60,6 +61,19 @@ columns_below fields [] (p ∷ columns) zip = absurd zip
 columns_below fields (n ∷ names) [] zip = absurd zip
 columns_below fields (n ∷ names) (p ∷ columns) zip = (column_below fields n p zip.0, columns_below fields names columns zip.1)
 
+all_of : (P : ℕ → Type 0) (kept : List ℕ) (i : ℕ) → AllByRecursion P kept → P i → AllByRecursion P (kept ++ i ∷ [])
+all_of P [] i held here = (here, tt)
+all_of P (j ∷ js) i held here = (held.0, all_of P js i held.1 here)
+
+-- what holds of all columns holds of each once
+all_once : (P : ℕ → Type 0) (kept is : List ℕ) → AllByRecursion P kept → AllByRecursion P is → AllByRecursion P (once_from kept is)
+all_once P kept [] held rest = held
+all_once P kept (i ∷ is) held rest = by (λ c. all_once P c is) (list_any (λ j. nat_eq j i) kept)
+  where
+    by : ((c : List ℕ) → AllByRecursion P c → AllByRecursion P is → AllByRecursion P (once_from c is)) → (t : Bool) → AllByRecursion P (if t then once_from kept is else once_from (kept ++ i ∷ []) is)
+    by more true = more kept held rest.1
+    by more false = more (kept ++ i ∷ []) (all_of P kept i held rest.0) rest.1
+
 abbrev Within : List Field → Window → Type 0
 Within fields window = PartsWithin window (length (kinds_of fields))
 
@@ -69,8 +83,8 @@ fields_within fields (written.Range len slide) w h = subst (Within fields) (ok_i
 fields_within fields (written.Rows count slide) w h = subst (Within fields) (ok_is (Rows count slide) w h) tt
 fields_within fields written.Unbounded w h = subst (Within fields) (ok_is all w h) tt
 fields_within fields (written.Partition names count) w h =
-    let b = passes (each (part_column fields) names) (λ columns. Ok (Parts columns count)) w h in
-    subst (Within fields) (ok_is (Parts b.0 count) w b.2) (columns_below fields names b.0 (each_ok (part_column fields) names b.0 b.1))
+    let b = passes (each (part_column fields) names) (λ columns. Ok (Parts (once columns) count)) w h in
+    subst (Within fields) (ok_is (Parts (once b.0) count) w b.2) (all_once (Below fields) [] b.0 tt (columns_below fields names b.0 (each_ok (part_column fields) names b.0 b.1)))
 
 -- a window parts by columns of its stream
 pub parts_within : (alias : List ℕ) (columns : List Column) (window : WrittenWindow) (w : Window) → window_of (fields_of alias columns) window ≡ Ok w → PartsWithin w (length columns)

@@ -14,6 +14,7 @@ use Rattle.cql_plan.specs.declared.row.Field.{Field}
 use Rattle.cql_plan.specs.declared.source.BlockInput.{BlockInput}
 use Rattle.cql_plan.specs.declared.source.Joined.{Joined}
 use Rattle.cql_window.specs.Through.{wide_window}
+use Rattle.cql_window.specs.Once.{once}
 use Rattle.cql_plan.specs.Outcome.{Outcome, ◌>>=◌, each}
 use Rattle.cql_plan.specs.VisibleColumns.{VisibleColumns}
 use Rattle.cql_plan.specs.Columns.{fields_of, kinds_of, column_named}
@@ -44,12 +45,12 @@ HasBounds (written.Partition names count) = (0 < count) × (count < 2 ^ 62)
 abbrev pub AreBounded : List WrittenInput → Type 0
 AreBounded inputs = All (λ input. HasBounds input.window) inputs
 
--- the window over the columns that are seen
+-- the window over the columns that are seen; one by which it is parted stands once, however often it is named
 unfoldable pub window_of : List Field → WrittenWindow → Outcome Window
 window_of fields (written.Range length slide) = Ok (Range length slide)
 window_of fields (written.Rows count slide) = Ok (Rows count slide)
 window_of fields written.Unbounded = Ok all
-window_of fields (written.Partition names count) = each (part_column fields) names >>= (λ columns. Ok (Parts columns count))
+window_of fields (written.Partition names count) = each (part_column fields) names >>= (λ columns. Ok (Parts (once columns) count))
 
 -- what the plan keeps of an input: the window over the whole rows, and where the columns stand in these
 abbrev pub input_of : WrittenInput → List ℕ → Window → Input

@@ -13,7 +13,7 @@ use crate::plan::Input;
 use crate::row::{Field, column_named, fields_of, kinds_of};
 use cql_syntax::syntax;
 use cql_value::{ColumnType, Items, Name};
-use cql_window::{Count, Length, Window, wide_window};
+use cql_window::{Count, Length, Window, once_each, wide_window};
 use std::alloc::{AllocError, Global};
 
 /// An input of a block: what the plan keeps of it, its alias and its columns.
@@ -169,7 +169,7 @@ fn window_of(
         syntax::WrittenWindow::Partition(names, count) => {
             let columns = part_columns(alloc, fields, names.as_slice())?;
             Ok(Window::Parts {
-                columns,
+                columns: once_each(alloc, columns.as_slice())?,
                 count: count_of(*count),
             })
         }

@@ -49,6 +49,8 @@ enum Rows {
     Ten(usize, bool, bool),
     // They have one number in both columns, from 1 to below this one.
     Below(usize, i64),
+    // The same in the second column, and the number 1 in the first.
+    OneKey(usize, i64),
 }
 
 // A join of so many ports, and the rows that come. The operator tells behind each of them, or behind
@@ -127,9 +129,10 @@ fn add_ten(port: usize, each_a: bool, each_b: bool, puts: &mut Vec<Put>) -> Resu
     Ok(())
 }
 
-fn add_below(port: usize, end: i64, puts: &mut Vec<Put>) -> Result<(), AllocError> {
+fn add_below(port: usize, end: i64, each_a: bool, puts: &mut Vec<Put>) -> Result<(), AllocError> {
     for n in 1..end {
-        puts.push(Put { port, a: n, b: n })?;
+        let a = if each_a { n } else { 1 };
+        puts.push(Put { port, a, b: n })?;
     }
     Ok(())
 }
@@ -139,7 +142,8 @@ fn puts_of(alloc: Global, rows: &[Rows]) -> Result<Vec<Put>, AllocError> {
     for rows in rows {
         match rows {
             Rows::Ten(port, each_a, each_b) => add_ten(*port, *each_a, *each_b, &mut puts)?,
-            Rows::Below(port, end) => add_below(*port, *end, &mut puts)?,
+            Rows::Below(port, end) => add_below(*port, *end, true, &mut puts)?,
+            Rows::OneKey(port, end) => add_below(*port, *end, false, &mut puts)?,
         }
     }
     Ok(puts)
@@ -309,6 +313,31 @@ fn what_meets_nothing_is_counted(rt: HostRuntime) -> Result<(), Fail> {
 }
 
 #[test]
+fn what_is_asked_in_vain_has_an_end(rt: HostRuntime) -> Result<(), Fail> {
+    let case = Case {
+        ports: 3,
+        all: &[
+            Has::Equal(X_A, Y_A),
+            Has::Equal(Y_A, Z_A),
+            Has::Less(X_B, Y_B),
+            Has::Less(Y_B, X_B),
+        ],
+        rows: &[
+            Rows::OneKey(0, 31),
+            Rows::OneKey(1, 31),
+            Rows::OneKey(2, 31),
+        ],
+        ..TENS
+    };
+    // A row of the second port finds none of the third. One of the third is put to thirty of the second,
+    // and each of these pairs to thirty of the first: 930 in vain, eleven times, and no more of the
+    // nineteen rows behind these. Then thirty rows of the first port are put to thirty of the second, of
+    // which none meets.
+    assert!(rt; keyed(rt.alloc(), &case)? == (0, 11 * 930 + 900));
+    Ok(())
+}
+
+#[test]
 fn rows_that_fail_alone_are_joined_to_none(rt: HostRuntime) -> Result<(), Fail> {
     let case = Case {
         all: &[
@@ -383,7 +412,9 @@ fn a_plain_join_is_given_up(rt: HostRuntime) -> Result<(), Fail> {
 
 #[test]
 fn a_join_without_equal_columns_is_given_up(rt: HostRuntime) -> Result<(), Fail> {
-    assert!(rt; keyed_gives_up(rt.alloc(), &THREE_TENS)? == (true, 1100));
+    // Each row of the second port is put to ten of the first, and finds none of the third. One of the
+    // third is put to ten of the first, and each of these pairs to ten of the second.
+    assert!(rt; keyed_gives_up(rt.alloc(), &THREE_TENS)? == (true, 100 + 1100));
     Ok(())
 }
 

@@ -43,6 +43,7 @@ use Rattle.cql_core.specs.Law.{state_from, without_others, IsMachineLaw}
 use Rattle.cql_core.specs.Order.{Tells as TellsInOrder, gone_check, overrun_check, OrderLaw, IsOrderLaw}
 use Rattle.cql_core.specs.Binding.{IsBindingLaw}
 use Rattle.cql_core.specs.Rows.{rows_held}
+use Rattle.cql_core.specs.WithinQuotas.{greatest_hold}
 use Rattle.cql_core.specs.Hidden.{HiddenPut, AreHiddenIn, IsHiddenLaw}
 
 -- THE LANGUAGE
@@ -394,6 +395,15 @@ held : (held_after two [] ≡ None) × (held_after two shared ≡ Some 3) × (he
     × (held_after two (shared ++ (0, Drop p) ∷ (1, Drop q) ∷ []) ≡ Some 0) × (held_after (table 100 2) (shared ++ (0, Ack p 9) ∷ []) ≡ Some 1)
 unfolding same_name contents_at words.is_reserved
 held = (refl, refl, refl, refl, refl, refl)
+
+abbrev greatest_after : List Tenant → List (ℕ × Command) → ℕ
+greatest_after table calls = greatest_hold (stream_id_of 0 s) table (state_from language (opening table) calls).queries
+
+-- as many rows are held as the quotas allow where a query has as many as its tenant's hold; a query that is overrun or gone allows none
+bounds : (greatest_after (table 3 2) shared ≡ 3) × (held_after (table 3 2) shared ≡ Some 3) × (greatest_after (table 2 3) shared ≡ 3) × (held_after (table 2 3) shared ≡ Some 3)
+    × (greatest_after (table 2 3) (shared ++ (1, Drop q) ∷ []) ≡ 0) × (held_after (table 2 3) (shared ++ (1, Drop q) ∷ []) ≡ Some 0) × (greatest_after (table 100 100) (shared ++ (0, Drop p) ∷ (1, Drop q) ∷ []) ≡ 0)
+unfolding same_name contents_at words.is_reserved
+bounds = (refl, refl, refl, refl, refl, refl, refl)
 
 -- BASES AND LIMITS
 -- a fetch moves nothing; a query that is registered again begins anew

@@ -31,7 +31,7 @@ held_by : (s : State) (stream_id : StreamId) (n : ℕ) → greatest_need (stubs_
 held_by s stream_id n e =
     subst (λ n. AllByRecursion (λ stub. need stub.held ≤ n) (stubs_on stream_id s.queries) × ((n ≡ 0) ⊎ IsNeeded n (stubs_on stream_id s.queries))) e (all_below (stubs_on stream_id s.queries), is_needed (stubs_on stream_id s.queries))
 
-number_of_rows : (o : Option Stream) (g n : ℕ) → option_map (λ v. g) o ≡ Some n → g ≡ n
+pub number_of_rows : (o : Option Stream) (g n : ℕ) → option_map (λ v. g) o ≡ Some n → g ≡ n
 number_of_rows None g n e = absurd cc
 number_of_rows (Some v) g n e = cc
 

@@ -23,6 +23,9 @@ pub struct Watch<'a, R> {
     begun: Instant,
     // Every so many seconds; at 0 nothing is counted or told.
     every: u64,
+    // The port that is listened on, and 1 once that is told.
+    port: u16,
+    opened: AtomicU64,
     seconds: AtomicU64,
     // 1 where what is held is to be told
     wants: AtomicU64,
@@ -49,6 +52,8 @@ impl<'a, R> Drop for Watch<'a, R> {
             table: _,
             begun: _,
             every: _,
+            port: _,
+            opened: _,
             seconds: _,
             wants: _,
             sessions: _,
@@ -106,13 +111,14 @@ fn count(count: &AtomicU64) {
 }
 
 impl<'a, R: Clock + Eprint> Watch<'a, R> {
-    /// One that tells every so many seconds, or never at 0; none where the clock can't be read or
-    /// there is no memory.
+    /// One of a server on this port that tells every so many seconds, or never at 0; none where the
+    /// clock can't be read or there is no memory.
     pub fn new(
         rt: &'a R,
         alloc: Global,
         table: &'a TenantTable,
         every: u32,
+        port: u16,
     ) -> Option<Watch<'a, R>> {
         let Ok(begun) = Instant::now(rt) else {
             return None;
@@ -129,6 +135,8 @@ impl<'a, R: Clock + Eprint> Watch<'a, R> {
             table,
             begun,
             every: u64::from(every),
+            port,
+            opened: AtomicU64::new(0),
             seconds: AtomicU64::new(0),
             wants: AtomicU64::new(0),
             sessions: AtomicU64::new(0),
@@ -142,6 +150,11 @@ impl<'a, R: Clock + Eprint> Watch<'a, R> {
             kinds,
             refusals,
         })
+    }
+
+    /// Whether the port was told, on standard output.
+    pub fn has_opened(&self) -> bool {
+        self.opened.load(Ordering::SeqCst) == 1
     }
 
     // Tells what happened of a tenant, whose name is null where there is none.
@@ -293,7 +306,16 @@ fn held_of(alloc: Global, streams: &[HeldStream]) -> Result<String, AllocError> 
     format!(in alloc; ",\"held\":{{{members}}}")
 }
 
-impl<'a, R: Clock + Eprint + Sync> Gate for Watch<'a, R> {
+impl<'a, R: Clock + Print + Eprint + Sync> Gate for Watch<'a, R> {
+    // Tells the port, on standard output.
+    fn opens(&self) -> bool {
+        let is_told = println!(self.rt; "listening on 127.0.0.1:{}", self.port).is_ok();
+        if is_told {
+            self.opened.store(1, Ordering::SeqCst);
+        }
+        is_told
+    }
+
     fn at(&self, point: Point) {
         if self.every == 0 {
             return;

@@ -49,7 +49,8 @@ pub struct Benches<O: Operator> {
 /// receipts that have a place in it; else the failure is `Audit` (7). Without a number
 /// of sessions an audit is refused (`NoSessions`, 2).
 ///
-/// The gate is told what is done, and each second that has passed.
+/// The gate is told what is done, and each second that has passed. Once the threads stand it is asked
+/// whether callers are let in: where it says no, no session is served, as where none was asked for.
 ///
 /// Where there is no memory, the clock can't be read or a thread can't be made, no session is
 /// served (`NoMemory`, 5).
@@ -203,7 +204,11 @@ where
                 shared.close(rt);
                 return Err(failure);
             }
-            door.attend(rt, shared, service.gate, sessions);
+            if service.gate.opens() {
+                door.attend(rt, shared, service.gate, sessions);
+            } else {
+                shared.close(rt);
+            }
             drop(stop);
             Ok(())
         },

@@ -7,7 +7,7 @@ use crate::forms::{keyed_lists, plain_lists};
 use cql_connections::{Hub, Limits, Watch};
 use cql_core::{Operator, TenantTable};
 use cql_sessions::benches_of;
-use cql_wire::{Config, JoinForm, NoConfig, Watched, config_of, given_table};
+use cql_wire::{Config, JoinForm, NoConfig, TableFault, Watched, config_of, given_table};
 use std::alloc::Global;
 use std::env::Env;
 use std::io;
@@ -66,15 +66,21 @@ where
     if config.audit && config.sessions == 0 {
         return Err(Failure::NoSessions);
     }
-    let table = given_table(alloc, &mut Watched::new(rt.reader()))?;
+    let given = given_table(alloc, &mut Watched::new(rt.reader()));
     if config.check {
-        return tell_checked(rt, &table);
+        tell_checked(rt, given)
+    } else {
+        outcome(rt, alloc, config, &given?)
     }
-    outcome(rt, alloc, config, &table)
 }
 
-// Tells that the tenants are right.
-fn tell_checked(rt: &impl Print, table: &TenantTable) -> Result<(), Failure> {
+// Tells that the tenants are right, or which rule they break.
+fn tell_checked(rt: &impl Print, given: Result<TenantTable, TableFault>) -> Result<(), Failure> {
+    let table = match given {
+        Ok(table) => table,
+        Err(TableFault::Refused(rule)) => return Err(Failure::Rule(rule)),
+        Err(fault) => return Err(Failure::from(fault)),
+    };
     let many = table.tenants().len();
     if println!(rt; "the tenants line is right, tenants: {many}").is_err() {
         return Err(Failure::Writing);
@@ -109,8 +115,16 @@ where
     }
 }
 
-// Makes a bench of each list of operators; tells the port that it listens on, and before it where fewer
-// callers than were asked for have files; and serves.
+// Tells the log the port that can't be listened at, and why.
+fn tell_unbound(rt: &impl Eprint, config: &Config, error: &io::Error) {
+    if config.log > 0 {
+        let (port, why) = (config.port, error.kind());
+        let _ = eprintln!(rt; "{{\"cannot_listen\":{port},\"why\":\"{why}\"}}");
+    }
+}
+
+// Makes a bench of each list of operators, and serves. Tells where fewer callers than were asked for have
+// files, and the port once the threads stand.
 fn listen<R, O>(
     rt: &R,
     alloc: Global,
@@ -132,24 +146,23 @@ where
     let own = benches_of(alloc, own)?;
     let shared = benches_of(alloc, shared)?;
     let benches = Benches { own, shared };
-    let Ok(listener) = TcpListener::bind(rt, (Ipv4Addr::LOCALHOST, config.port)) else {
-        return Err(Failure::Listening);
+    let listener = match TcpListener::bind(rt, (Ipv4Addr::LOCALHOST, config.port)) {
+        Ok(listener) => listener,
+        Err(error) => {
+            tell_unbound(rt, &config, &error);
+            return Err(Failure::Listening);
+        }
     };
-    // made before the port is told, so that what it takes of the system is taken by then
     let Ok(hub) = Hub::new(rt, alloc, &listener) else {
         return Err(Failure::Listening);
-    };
-    let Some(watch) = Watch::new(rt, alloc, table, config.log) else {
-        return Err(Failure::NoMemory);
     };
     let Ok(addr) = listener.local_addr() else {
         return Err(Failure::Listening);
     };
-    let port = addr.port();
+    let Some(watch) = Watch::new(rt, alloc, table, config.log, addr.port()) else {
+        return Err(Failure::NoMemory);
+    };
     let callers = callers_with_files(rt, config.callers.max(1));
-    if println!(rt; "listening on 127.0.0.1:{port}").is_err() {
-        return Err(Failure::Writing);
-    }
     serve(
         rt,
         alloc,
@@ -163,5 +176,10 @@ where
         config.sessions,
         config.audit,
         &watch,
-    )
+    )?;
+    if watch.has_opened() {
+        Ok(())
+    } else {
+        Err(Failure::Writing)
+    }
 }

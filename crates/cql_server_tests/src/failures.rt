@@ -6,8 +6,9 @@ use std::test::Fail;
 
 const ENDINGS: &[(Failure, u8, &str)] = &[
     (Failure::NoSessions, 2, "audit needs sessions"),
+    (Failure::Tenants, 2, "the tenants line is refused"),
     (
-        Failure::Tenants(BrokenRule::OneKey),
+        Failure::Rule(BrokenRule::OneKey),
         2,
         "the tenants line is refused: it is no object with the one key tenants",
     ),
@@ -30,7 +31,7 @@ fn is_told(alloc: Global, failure: Failure, text: &str) -> Result<bool, Fail> {
     Ok(told.as_str() == text)
 }
 
-// No run is known that brings a failed audit about, so its status is asked here.
+// Most statuses want a fault of the system, and a failed audit one of the machine.
 #[test]
 fn each_failure_is_told(rt: HostRuntime) -> Result<(), Fail> {
     for (failure, status, text) in ENDINGS {

@@ -146,3 +146,25 @@ fn answers_begin_at_once(rt: HostRuntime) -> Result<(), Fail> {
     assert!(rt; gives(&mut turns, &[1]));
     Ok(())
 }
+
+// However many of one owner wait, each has its turn.
+#[test]
+fn as_many_wait_as_come(rt: HostRuntime) -> Result<(), Fail> {
+    let mut turns = three_owners(rt.alloc(), 4)?;
+    for item in 0..2_000 {
+        short(&mut turns, 1, item)?;
+        answer(&mut turns, 2, item)?;
+    }
+    assert_eq!(rt; turns.waiting(), 4_000);
+    for item in 0..2_000 {
+        let next = turns.take(false).map(|task| task.item);
+        assert_eq!(rt; next, Some(item));
+    }
+    for item in 0..2_000 {
+        let next = turns.take(true).map(|task| task.item);
+        turns.end_answer(2);
+        assert_eq!(rt; next, Some(item));
+    }
+    assert_eq!(rt; turns.waiting(), 0);
+    Ok(())
+}

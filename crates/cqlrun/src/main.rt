@@ -19,11 +19,8 @@ fn main(rt: HostRuntime) -> ExitCode {
 
 // Tells how the run ended, where there is something to tell.
 fn tell(rt: &impl Eprint, outcome: ExitReport) {
-    let text = outcome.text;
-    if let Some(rule) = outcome.rule {
-        let _ = eprintln!(rt; "{text}: {rule}");
-    } else if !text.is_empty() {
-        let _ = rt.eprintln(text);
+    if !outcome.text.is_empty() {
+        let _ = rt.eprintln(outcome.text);
     }
 }
 

@@ -5,7 +5,7 @@ FIRST := examples/first.jsonl
 # from nothing, on four cores
 RUN_TIME := one to three minutes
 BUILD_TIME := a quarter of an hour or more
-TEST_TIME := half an hour to 70 minutes on four cores, 5,200 to 15,400 s of processor time
+TEST_TIME := half an hour to an hour and a half on four cores, by how fast they are
 
 .PHONY: help run build test look drive bench check clauses lemmas goals steps edits answers
 
@@ -13,12 +13,12 @@ TEST_TIME := half an hour to 70 minutes on four cores, 5,200 to 15,400 s of proc
 help:
 	@echo 'make run     the replies to $(FIRST), from a run that is checked and not proved ($(RUN_TIME))'
 	@echo 'make build   proves and builds $(RUNNER) and $(SERVER) ($(BUILD_TIME))'
-	@echo 'make test    the gate, and then the built programs as users run them ($(TEST_TIME))'
+	@echo 'make test    the gate, and then the built programs as users run them ($(TEST_TIME)); with CRATES="a b" the proofs, edits, tests and programs of these crates and of those below them'
 	@echo 'make look    the part of the gate that needs nothing built: pages, laws and worked replies (ten seconds)'
 	@echo 'make drive   the part of the gate that drives the built programs'
 	@echo 'make clauses all public clauses, one a line; make lemmas: those that stand twice or that nothing cites (a second each)'
 	@echo 'make check   checks every crate, as many at once as there are processors (as make build, and more); proves, and runs nothing'
-	@echo 'make goals CRATE=NAME    the goals that took most of a check; make steps: its functions and their parts; make edits: its must-fail edits, each tried (up to a minute each)'
+	@echo 'make goals CRATE=NAME    the goals that took most of a check; make steps: its functions and their parts; make edits: its must-fail edits, each tried (some 10 to 40 s each)'
 	@echo 'make answers CRATE=NAME  writes answers for goals whose search is in vain (a check or two)'
 	@echo 'make bench   builds the programs, and times puts, query texts, fetches, rounds of them, shared streams, a store, the server, ten thousand callers and texts that ask for much, and counts instructions (an hour and a quarter)'
 
@@ -34,10 +34,15 @@ build:
 	@cd crates/cqld && rt run -- --help > /dev/null
 	@echo 'Built. Try: $(RUNNER) < $(FIRST)'
 
-# every proof from nothing, the edits that must be refused, the tests, the built programs, and the pages
+# every proof from nothing, the edits that must be refused, the tests, the built programs, and the pages; or
+# the first three of some crates
 test:
-	@echo 'The gate. It takes $(TEST_TIME); a line tells how far it is after each crate.'
+ifdef CRATES
+	@tests/proofs $(CRATES)
+else
+	@echo 'The gate. It takes $(TEST_TIME); a line on standard error tells how far it is.'
 	@.ci/run
+endif
 
 # how sources are laid out, what the pages name, the figures of docs/READING.md, names that two things share, how large crates are, laws and their instances, and worked replies by the definitions
 look:
@@ -55,6 +60,7 @@ drive:
 	tests/memory
 	tests/server
 	tests/joins
+	tests/counts
 	bench/joins --quick $(SERVER)
 	tests/warm
 	tests/page
@@ -73,7 +79,7 @@ goals steps edits answers:
 # built cqld, also of ten thousand callers, and of texts that ask for more than their rows are worth
 bench: build
 	bench/puts $(RUNNER)
-	bench/texts $(RUNNER)
+	bench/texts $(RUNNER) $(SERVER)
 	bench/fetches $(RUNNER)
 	bench/shared $(RUNNER)
 	bench/rows $(RUNNER)
@@ -88,3 +94,4 @@ bench: build
 	bench/memory $(SERVER)
 	bench/neighbours $(SERVER)
 	bench/hostile $(SERVER)
+	bench/hostile --seeds 1..400 $(SERVER)

@@ -18,8 +18,11 @@ from served import (
     tenants,
     told,
 )
+from spoken import EMPTY, LIST, standing
 
 LIMIT, MOST = 1, 3
+# So long an answer may take beside which others are looked at, in seconds, and how many such there are at once.
+BESIDE, ROUNDS = 5, 6
 ROWS = 1_000
 TABLE = tenants("ab", hold=ROWS)
 NO_MEMORY = refused(70, "NoMemory")
@@ -104,4 +107,37 @@ def to_its_end(program):
         yield "a long answer without a limit", None if caller.is_silent(MOST) else "it is told"
 
 
-CHECKS = given_up, others_go_on, to_its_end
+def lines_go_on(program):
+    """Beside long answers others' lines are answered, by one worker and by many; also where all come at once."""
+    for workers in (1, ROUNDS):
+        with Server(program, TABLE, workers=workers, answer=BESIDE) as server, contextlib.ExitStack() as open_ones:
+            with Caller(server, "a") as caller:
+                caller.serve(MADE)
+            others = [open_ones.enter_context(Caller(server, "b")) for _ in range(3)]
+            for _ in range(workers):
+                late = open_ones.enter_context(Caller(server, "a"))
+                with standing(server):
+                    late.send(FETCH_LONG)
+                    for other in others:
+                        other.send(LIST)
+                found = [other.replies.readline() for other in others]
+                name = f"beside long answers by {workers} workers"
+                yield f"lists {name}", difference(found, [EMPTY] * 3)
+                yield f"what comes first {name}", None if late.is_silent(0) else "the long answer"
+
+
+def each_has_its_time(program):
+    """An answer is given up by its own time, and not by that of one before it that had its bench."""
+    chosen = line_of(do="query", name="chosen", text="Select Istream(v) From t [Now] Where v > 0")
+    with Server(program, TABLE, workers=4, warm=1, answer=LIMIT) as server, Caller(server, "a") as caller:
+        caller.serve([MADE[1], chosen, *MADE[:1], *MADE[2:]])
+        for _ in range(12):
+            reply = caller.ask(line_of(do="fetch", name="chosen"))
+            yield "a short answer by one of four", difference(reply, SHORT_TOLD)
+            # the next one is another worker's
+            time.sleep(0.01)
+        time.sleep(LIMIT)
+        yield "a long answer by the bench of the short ones", gives_up(caller)
+
+
+CHECKS = given_up, others_go_on, to_its_end, lines_go_on, each_has_its_time

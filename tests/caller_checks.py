@@ -9,23 +9,27 @@ import signal
 import threading
 import time
 
-from served import DONE, Caller, Ended, Server, connected, difference, line_of, login, put, tenants
+from served import DONE, Caller, Ended, Server, difference, line_of, login, put
 from spoken import (
     BAD_LINE,
     EMPTY,
     FETCH,
+    FETCH_ALL,
     LIST,
     MOST_KEPT,
-    QUERY,
     SILENCE,
     STREAM,
     TENANTS,
+    WIDE,
     WRONG_KEY,
     conversation,
     ends_in,
     files_of,
+    filled,
     growth,
+    idleness,
     served_in,
+    sessions_of,
     stream_open_at,
     well,
 )
@@ -35,27 +39,12 @@ TICK = 1
 MANY, LOGGED_IN = 1_000, 900
 # What the server may keep of each of them, in bytes.
 MOST_EACH = 4 << 10
-# The part of a processor that a server may take that has nothing to do.
-MOST_BUSY = 0.1
 # Callers who don't read, the bytes that the server may hold for all of them, and how many lists one of them
 # asks for who reads them at last.
 DEAF, MOST_HELD, LATE_LISTS = 10, 8 << 20, 1_500
 # Callers who don't take replies of 20 MB, and the bytes that the server may hold for all of them: 64 MiB, one
 # reply more, and what the C library keeps.
 UNTAKEN, MOST_UNTAKEN = 12, 128 << 20
-
-
-def sessions_of(open_ones, server, number, tenant=None):
-    """So many connections, which are let go at the end."""
-    return [open_ones.enter_context(caller) for caller in connected(server, number, tenant)]
-
-
-def idleness(server, seconds):
-    """What is wrong with the processor time of a server that has nothing to do for so long."""
-    before = server.processor_time()
-    time.sleep(seconds)
-    taken = server.processor_time() - before
-    return None if taken <= MOST_BUSY * seconds else f"{taken:.2f} s of {seconds} s"
 
 
 def calms_down(server, seconds):
@@ -229,22 +218,6 @@ def silent_behind_a_login(program):
 
 
 # ---- Callers who don't read, or break off.
-
-ROWS, WIDTH = 200, 1_000
-WIDE = tenants("ab", hold=65536, streams=64)
-ALL = line_of(do="query", name="p", text="Select Rstream(*) From s")
-FETCH_ALL = line_of(do="fetch", name="p")
-
-
-def filled(server):
-    """A query of which a fetch tells 200 blocks of one row of 1,000 bytes, and one whose blocks have up to
-    200 of them; what is wrong with that."""
-    make = line_of(columns=[["v", "text"]], do="stream", name="s"), QUERY, ALL
-    with Caller(server, "a") as owner:
-        owner.send(*make, *(put(at, f"{at:0{WIDTH}}") for at in range(ROWS)))
-        replies = [owner.replies.readline() for _ in range(ROWS + 3)]
-        return difference(replies[3:], [DONE] * ROWS)
-
 
 # What the C library is told in the service file of docs/OPERATING.md, so that long replies go back to the system.
 GIVES_BACK = "env", "GLIBC_TUNABLES=glibc.malloc.tcache_count=0:glibc.malloc.mxfast=0"

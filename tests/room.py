@@ -49,11 +49,11 @@ LARGE = (
         None,
     ),
     Large(
-        "12,000 parts",
+        "65,000 parts",
         "Select Istream(Count(*), Sum(v)) From s [Partition By k Rows 1]",
-        [(it, 0, 1) for it in range(12_000)],
+        [(it, 0, 1) for it in range(65_000)],
         [],
-        [[12_000, 12_000]],
+        [[65_000, 65_000]],
     ),
     Large(
         "12,000 rows of a part",
@@ -63,11 +63,11 @@ LARGE = (
         [[12_000, 500]],
     ),
     Large(
-        "65,000 blocks",
+        "65,535 blocks",
         "Select Istream(v) From s",
-        [(0, 0, it) for it in range(65_000)],
+        [(0, 0, it) for it in range(65_535)],
         [],
-        [[it] for it in range(65_000)],
+        [[it] for it in range(65_535)],
         True,
     ),
 )
@@ -91,7 +91,7 @@ def told(large):
 
 
 def many(program):
-    """Rows, groups, parts and blocks by the thousand are answered, and one more row behind them."""
+    """Rows, groups, parts and blocks by the thousand are answered and acknowledged, and one more row behind them."""
     for form in FORMS:
         for large in LARGE:
             last = len(large.s) - 1 if large.apart else 0
@@ -106,6 +106,8 @@ def many(program):
                 reply = caller.ask(FETCH)
                 right = reply.endswith(b'"next":%d}\n' % (last + 2))
                 yield f"{large.name}, {form}, and one more", None if right else f"{reply[:200]!r}"
+                reply = caller.ask(line_of(do="ack", name="q", to=last + 2))
+                yield f"{large.name}, {form}, and its ack", None if reply == DONE else f"{reply[:200]!r}"
 
 
 # ---- Requests for memory.
@@ -113,10 +115,10 @@ def many(program):
 FEW, MANY = 1_000, 3_000
 # A put of a row and its part in the fetch make so many requests, and a tenth more are too many.
 REQUESTS = (
-    ("a linear query", "s", "Select Istream(*) From s [Range 100]", 5.1),
-    ("a sliding group", "s", "Select Istream(g, Count(*), Sum(v)) From s [Range 100] Group By g", 9.1),
-    ("a sliding join", "sp", "Select Istream(x.v, y.g) From s [Range 100] x, p [Range 100] y Where x.v = y.v", 7.3),
-    ("distinct rows", "s", "Istream(Select Distinct v From s [Range 100])", 7.4),
+    ("a linear query", "s", "Select Istream(*) From s [Range 100]", 6.1),
+    ("a sliding group", "s", "Select Istream(g, Count(*), Sum(v)) From s [Range 100] Group By g", 10.1),
+    ("a sliding join", "sp", "Select Istream(x.v, y.g) From s [Range 100] x, p [Range 100] y Where x.v = y.v", 8.3),
+    ("distinct rows", "s", "Istream(Select Distinct v From s [Range 100])", 8.4),
 )
 MOST = 1.1
 READERS = 64

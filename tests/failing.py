@@ -1,0 +1,79 @@
+"""A library that stands before the C library's and has calls of the system fail now and then, or take long, for
+the checks of tests/server.
+"""
+import contextlib
+import pathlib
+import subprocess
+import tempfile
+
+# Each fails at every so manyth call, where the word of its name says how many that is. Of epoll_ctl those
+# count that add a file. A recv that finds nothing takes so many microseconds.
+SOURCE = r"""
+#define _GNU_SOURCE
+#include <dlfcn.h>
+#include <errno.h>
+#include <stdatomic.h>
+#include <stdlib.h>
+#include <sys/epoll.h>
+#include <sys/socket.h>
+#include <unistd.h>
+
+static long send_fails_at;
+static long add_fails_at;
+static long moment;
+static atomic_long sends;
+static atomic_long adds;
+
+static long number_of(const char *word) {
+    char *said = getenv(word);
+    return said ? atol(said) : 0;
+}
+
+__attribute__((constructor)) static void begin(void) {
+    send_fails_at = number_of("SEND_FAILS_AT");
+    add_fails_at = number_of("ADD_FAILS_AT");
+    moment = number_of("RECV_TAKES");
+}
+
+static int fails(atomic_long *calls, long at) { return at && atomic_fetch_add(calls, 1) % at == at - 1; }
+
+ssize_t send(int file, const void *bytes, size_t count, int flags) {
+    ssize_t (*real)(int, const void *, size_t, int) = dlsym(RTLD_NEXT, "send");
+    if (fails(&sends, send_fails_at)) {
+        errno = EAGAIN;
+        return -1;
+    }
+    return real(file, bytes, count, flags);
+}
+
+ssize_t recv(int file, void *bytes, size_t count, int flags) {
+    ssize_t (*real)(int, void *, size_t, int) = dlsym(RTLD_NEXT, "recv");
+    ssize_t had = real(file, bytes, count, flags);
+    if (had < 0 && moment) {
+        int why = errno;
+        usleep(moment);
+        errno = why;
+    }
+    return had;
+}
+
+int epoll_ctl(int poll, int what, int file, struct epoll_event *event) {
+    int (*real)(int, int, int, struct epoll_event *) = dlsym(RTLD_NEXT, "epoll_ctl");
+    if (what == EPOLL_CTL_ADD && fails(&adds, add_fails_at)) {
+        errno = ENOMEM;
+        return -1;
+    }
+    return real(poll, what, file, event);
+}
+"""
+
+
+@contextlib.contextmanager
+def under_failing(**words):
+    """The words under which a program runs whose calls fail: SEND_FAILS_AT, which then says that nothing can be
+    taken now, and ADD_FAILS_AT, which says that there is no memory; or take long: RECV_TAKES."""
+    with tempfile.TemporaryDirectory() as folder:
+        source, library = (pathlib.Path(folder) / name for name in ("failing.c", "failing.so"))
+        source.write_text(SOURCE, encoding="ascii")
+        subprocess.run(["gcc", "-shared", "-fPIC", "-O1", "-o", library, source], check=True)
+        yield "env", f"LD_PRELOAD={library}", *(f"{name}={number}" for name, number in words.items())

@@ -687,6 +687,10 @@ def terminal_follows(program):
         yield "an interrupt", difference(found, Ended(130, b"", b""))
 
 
+# What Ctrl-C types.
+INTERRUPT = b"\x03"
+
+
 def typed(port, history, *keys):
     """What a terminal shows where these keys are typed, each once the prompt is there, and a
     program's status."""
@@ -702,7 +706,7 @@ def typed(port, history, *keys):
         preexec_fn=lambda: fcntl.ioctl(0, termios.TIOCSCTTY, 0),
     )
     os.close(far)
-    seen, end, begin = b"", time.monotonic() + SECONDS, 0
+    seen, end, begin, key = b"\n", time.monotonic() + SECONDS, 0, b""
     waiting = [*keys]
     try:
         while time.monotonic() < end:
@@ -711,10 +715,15 @@ def typed(port, history, *keys):
                 seen += os.read(near, 1 << 16) if more else b""
             except OSError:
                 break  # the other end is closed
-            # on a busy machine something may stand behind the prompt
-            if waiting and (seen.endswith(b"a> ") or not more and b"a> " in seen[begin:]):
-                begin = len(seen)
-                os.write(near, waiting.pop(0))
+            # a line that is drawn anew begins with a prompt too, but behind no line feed; and on a busy machine
+            # something may stand behind the prompt
+            since = seen[begin:]
+            if waiting and (since.endswith(b"\na> ") or not more and b"\na> " in since):
+                begin, key = len(seen), waiting.pop(0)
+                os.write(near, key)
+            elif not more and key.endswith(INTERRUPT):
+                # one that comes just before Python waits for a key is seen at the next one
+                os.write(near, INTERRUPT)
         return seen, child.wait(SECONDS)
     finally:
         child.kill()

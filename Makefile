@@ -38,7 +38,7 @@ build:
 # the first three of some crates
 test:
 ifdef CRATES
-	@tests/proofs $(CRATES)
+	@rt ci $(CRATES) | tests/told
 else
 	@echo 'The gate. It takes $(TEST_TIME); a line on standard error tells how far it is.'
 	@.ci/run
@@ -65,14 +65,20 @@ drive:
 	tests/warm
 	tests/page
 
-# what a person looks at: all public clauses, and lemmas that stand twice or that nothing cites; and a
-# check of every crate
-clauses lemmas check:
+# what a person looks at: all public clauses, and lemmas that stand twice or that nothing cites
+clauses lemmas:
 	@tools/$@
 
+# a check of every crate, over what is kept
+check:
+	@rt all check --jobs $(shell nproc)
+
 # of one crate, over the kept work of its check
-goals steps edits answers:
+goals steps answers:
 	@tools/$@ $(CRATE)
+
+edits:
+	@rt must-fail $(CRATE)
 
 # times puts, texts of two lengths, fetches over many rows, and many readers of one stream, through
 # the built cqlrun, and counts the instructions of fetches; appends to one store, through the built worked; and sessions of the

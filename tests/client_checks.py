@@ -50,6 +50,7 @@ EXAMPLES = TOP / "examples"
 sys.path.append(str(MODULE))
 import romburik
 import romburik.columns
+import romburik.drawing
 import romburik.looking
 import romburik.tables
 import romburik.terminal
@@ -1119,7 +1120,7 @@ def page_is_guarded(program):
                 policy[:2], ["default-src 'none'", "script-src 'self'"]
             )
             yield "a page listens", difference(urllib.parse.urlsplit(address).hostname, "127.0.0.1")
-            bodies = [asked(address, path)[2] for path in ("", "page.js", "page.css", "tenant")]
+            bodies = [asked(address, path)[2] for path in ("", "page.js", "page.css", "about")]
             yield "a page's key", difference(SECRET.encode() in b"".join(bodies), False)
             for method in "POST", "PUT", "DELETE", "HEAD", "OPTIONS":
                 found = asked(address, method=method)[0]
@@ -1130,6 +1131,7 @@ def page_is_guarded(program):
                 ("another token", (wrong,)),
                 ("no token", (top,)),
                 ("events without a token", (top, "events?query=q")),
+                ("events of no panels", (address, "events?panels=[1]")),
                 ("no such file", (address, "romburik.py")),
                 ("a file above", (address, "../page.py")),
                 ("a file above in code", (address, "%2e%2e/page.py")),
@@ -1157,6 +1159,8 @@ def page_is_live(program):
                 "text": "RSTREAM(SELECT k, SUM(v) FROM s [RANGE 9] GROUP BY k)",
                 "base": "0",
                 "next": "0",
+                "behind": "7",
+                "state": None,
             }
             stream = {"name": "s", "open": "7", "columns": None}
             wanted = {"queries": [query], "readable": [], "streams": [stream]}
@@ -1165,16 +1169,9 @@ def page_is_live(program):
             found = look["at"], look["names"], look["rows"], look["numeric"]
             wanted = "6", ["k", "SUM(v)"], [[markup, "7"]], [False, True]
             yield "a page's table", difference(found, wanted)
-            wanted = [
-                {"first": "0", "last": "4", "fault": None, "points": []},
-                {
-                    "first": "5",
-                    "last": "6",
-                    "fault": None,
-                    "points": [[0, f"{markup} SUM(v)", "7"]],
-                },
-            ]
-            yield "a page's points", difference(look["steps"], wanted)
+            wanted = {"0": {"1": [["5", "6", "7"]]}}, {"0": markup}, [[1, "SUM(v)"]], True
+            found = look["history"], look["lines"], look["columns"], look["isNew"]
+            yield "a page's points", difference(found, wanted)
             caller.send(put(7, "x", GREATEST), put(7, "x", 1), beat(7))
             look = events.next("look")
             while look["next"] != "8":
@@ -1188,6 +1185,138 @@ def page_is_live(program):
             caller.send(put(8, "y", 1), put(8, "y", 1), beat(8))
             trouble = events.next("trouble")["text"]
             yield "a page's overrun", difference(trouble[:13], "overrun (60):")
+
+
+# ---- Copies of queries.
+
+
+def names_of_queries(it):
+    return [query.name for query in it.list().queries]
+
+
+def eager_consumer(it, instants, query="q"):
+    """Puts a row at each of some instants, and takes it at once, ten in a second."""
+    for at in instants:
+        it.put("s", at, [at])
+        it.beat("s", at)
+        it.ack(query, it.fetch(query).next)
+        time.sleep(0.1)
+
+
+def copies_see_all(program):
+    """Beside a consumer that takes all at once, `watch --own` and a page miss no instant, and their
+    copies are dropped at their ends."""
+    with Server(program, WIDE) as server, session(server) as it:
+        it.stream("s", {"v": "int"})
+        it.query("q", "Select Istream(*) From s [Range 2]")
+        child = started(server.port, "watch", "q", "--own")
+        with ending(child), page(server.port, "ka") as address, Events(address, "q") as events:
+            wait_for(lambda: len(names_of_queries(it)) == 2)
+            eager_consumer(it, range(20))
+            wanted = b"".join(line_of(**block(at, at, at)) for at in range(20))
+            yield "a watch by a copy", difference(lines_of(child.stdout, 20), wanted)
+            # the page goes over to a copy as soon as somebody acknowledges
+            while events.next("look")["since"] is None:
+                it.beat("s", it.list().streams[0].open)
+            first = it.list().streams[0].open
+            eager_consumer(it, range(first, first + 20))
+            seen = set()
+            while len(seen) < 20:
+                look = events.next("look")
+                told = look["history"].values() if look["isNew"] else ()
+                steps = [(step["first"], step["points"]) for step in look["steps"]]
+                seen |= {point[0] for line in told for points in line.values() for point in points}
+                seen |= {instant for instant, points in steps if points}
+                seen -= {str(at) for at in range(first)}
+            wanted = {str(at) for at in range(first, first + 20)}
+            yield "a page by a copy", difference(seen, wanted)
+            yield "queries beside copies", difference(len(names_of_queries(it)), 3)
+            child.send_signal(signal.SIGTERM)
+            yield "a watch that is ended", difference(child.wait(SECONDS), 130)
+        wait_for(lambda: len(names_of_queries(it)) < 3)
+        left = started(server.port, "watch", "q", "--own")
+        with ending(left):
+            before = {*names_of_queries(it)}
+            wait_for(lambda: {*names_of_queries(it)} - before)
+        killed = {*names_of_queries(it)} - {"q"}
+        child = started(server.port, "watch", "q", "--own")
+        with ending(child):
+            wait_for(lambda: len({*names_of_queries(it)} & killed) == 0)
+            wait_for(lambda: len(names_of_queries(it)) == 2)
+            yield "copies of a killed watch", None
+            interrupted(child)
+        yield "queries behind all copies", difference(names_of_queries(it), ["q"])
+
+
+def copies_without_one_to_spare(program):
+    """Where the quota of queries is used up the query itself is looked at, unless --own asks for
+    more."""
+    with Server(program, tenants("a", queries=1)) as server, session(server) as it:
+        it.stream("s", {"v": "int"})
+        it.query("q", "Select Istream(*) From s [Range 2]")
+        eager_consumer(it, range(2))
+        child = started(server.port, "watch", "q")
+        with ending(child):
+            it.put("s", 3, [3])
+            it.beat("s", 3)
+            wanted = line_of(**block(3, 3, 3))
+            yield "a watch with no query to spare", difference(lines_of(child.stdout, 1), wanted)
+        ended = terminal(server.port, "watch", "q", "--own")
+        wanted = Ended(1, b"romburik: 55 TooManyQueries: the quota of queries is used up\n", b"")
+        yield "a watch of its own without one", difference(ended, wanted)
+
+
+def looks_are_bounded(program):
+    """Of 10,000 keys and 1,000 instants a look takes a few instants, and goes on at the next one;
+    by a copy that is made now all that comes is seen."""
+    keys, instants = 10_000, 1000
+    with Server(program, tenants("a", hold=65536, result=65536)) as server, session(server) as it:
+        it.stream("s", {"k": "int", "v": "int"})
+        it.query("q", "Select Rstream(k, Sum(v)) From s [Partition By k Rows 1] Group By k")
+        it.put_many("s", ((0, [key, 1]) for key in range(keys)))
+        it.put_many("s", ((at, [at, at]) for at in range(1, instants)))
+        it.beat("s", instants)
+        looker = romburik.Looker(it, "q")
+        look = looker.look()
+        rows = sum(len(block.rows) for block in look.blocks)
+        found = keys <= rows <= 40 * keys, look.next < look.final == instants + 1
+        yield "a look at much", difference(found, (True, True))
+        yield "a look at no more of it", difference(looker.look(), None)
+        shown = romburik.drawing.Shown()
+        shown.take(look)
+        drawing = shown.told(romburik.drawing.Choice(), True)
+        found = len(drawing["lines"]), drawing["undrawn"], len(drawing["rows"]), drawing["count"]
+        yield "what is drawn of much", difference(found, (24, keys - 24, 500, keys))
+        greatest = romburik.drawing.Choice("greatest", "99")
+        lines = shown.told(greatest, True)["lines"].values()
+        yield "what is drawn by choice", difference({"99" in line for line in lines}, {True})
+        own = romburik.ChoosingLooker(it, "q")
+        yield "a look beside a copy", difference(own.look().since, None)
+        it.put("s", instants + 1, [1, 7])
+        it.beat("s", instants + 1)
+        look = own.look()
+        found = look.since, look.first, look.next, [block.rows for block in look.blocks]
+        wanted = instants + 1, instants + 1, instants + 2, [((1, 7),)]
+        yield "a look by a copy", difference(found, wanted)
+        own.close()
+        yield "a copy that is closed", difference(names_of_queries(it), ["q"])
+
+
+def revoked_queries_stay_so(program):
+    """A look at a query whose grant was taken back is refused, also where it is granted anew."""
+    with Server(program, TENANTS) as server:
+        with session(server) as owner, session(server, "b") as reader:
+            owner.stream("s", {"v": "int"})
+            owner.grant("s", "b")
+            reader.query("q", "Select Rstream(*) From a.s [Range 2]")
+            lookers = romburik.Looker(reader, "q"), romburik.OwnLooker(reader, "q")
+            for looker in lookers:
+                looker.look()
+            owner.revoke("s", "b")
+            owner.grant("s", "b")
+            found = [refusal_of(looker.look)[2] for looker in lookers * 2]
+            yield "looks at a revoked query", difference(found, [63] * 4)
+            yield "the copy of a revoked query", difference(names_of_queries(reader), ["q"])
 
 
 # ---- Scripts, and what is waited for.
@@ -1505,6 +1634,10 @@ CHECKS = (
     watch_at_a_terminal,
     page_is_guarded,
     page_is_live,
+    copies_see_all,
+    copies_without_one_to_spare,
+    looks_are_bounded,
+    revoked_queries_stay_so,
     scripts,
     waits_are_told,
     feeder_outlives_servers,

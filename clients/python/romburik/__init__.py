@@ -52,6 +52,7 @@ from .errors import (
 )
 from .lines import LONGEST_LINE, Command, is_blank, line_of
 from .looking import Look, Looker
+from .owning import ChoosingLooker, Copies, OwnLooker
 from .session import WINDOW, Session, Trouble
 from .told import (
     Answer,
@@ -87,8 +88,10 @@ __all__ = [
     "Behind",
     "Block",
     "Changes",
+    "ChoosingLooker",
     "Command",
     "ConnectionLost",
+    "Copies",
     "Error",
     "Fault",
     "LONGEST_LINE",
@@ -100,6 +103,7 @@ __all__ = [
     "NoMemory",
     "NotGranted",
     "Overrun",
+    "OwnLooker",
     "Puts",
     "PutsLost",
     "Query",

@@ -3,11 +3,13 @@ import argparse
 import getpass
 import io
 import os
+import signal
 import sys
-from typing import Optional, Sequence
+from typing import NoReturn, Optional, Sequence
 
 from .errors import BadReply, ConnectionLost, Error, Refused
-from .page import serve
+from .owning import Copies
+from .page import Site, serve
 from .session import Session
 from .terminal import (
     AT_FAULT,
@@ -78,16 +80,23 @@ def _session(given: argparse.Namespace, tenant: str, key: str) -> Session:
         raise AtFault("the tenant's name or key is no text") from error
 
 
+def _interrupt(*_: object) -> NoReturn:
+    """Ends as by Ctrl-C, so that what was made is dropped."""
+    raise KeyboardInterrupt
+
+
 def _run(given: argparse.Namespace) -> int:
     if given.script is not None:
         return send_script(
             lambda tenant, key: _session(given, tenant, key), given.table, given.script
         )
     with _session(given, given.tenant, _key(given)) as session:
+        if given.view:
+            signal.signal(signal.SIGTERM, _interrupt)
         if given.view[:1] == ["watch"]:
-            watch(session, given.view[1], {}, given.table)
+            watch(session, given.view[1], {}, given.table, given.copies)
         if given.view == ["page"]:
-            serve(session, given.listen)
+            serve(session, Site(given.listen, given.epoch, given.token_file, given.copies))
         if given.follow is not None:
             return follow(session, given.table, given.follow)
         if given.file is not None:
@@ -148,8 +157,33 @@ def _parser() -> argparse.ArgumentParser:
         "consumer is told them; watch acknowledges nothing",
     )
     parser.add_argument("--table", action="store_true", help="blocks and lists as aligned columns")
+    copies = parser.add_mutually_exclusive_group()
+    copies.add_argument(
+        "--own",
+        dest="copies",
+        action="store_const",
+        const=Copies.ALWAYS,
+        help="watch and page look at a copy of the query, which is dropped at the end: they see all "
+        "from then on, and acknowledge it (where neither word stands: beside a consumer, where the "
+        "tenant has a query to spare)",
+    )
+    copies.add_argument(
+        "--shared",
+        dest="copies",
+        action="store_const",
+        const=Copies.NEVER,
+        help="watch and page look at the query itself alone",
+    )
     parser.add_argument(
         "--listen", type=_any_port, help="the page's port of 127.0.0.1 (8000; 0: any that is free)"
+    )
+    parser.add_argument(
+        "--epoch", choices=("s", "ms"), help="the page shows instants as times of day"
+    )
+    parser.add_argument(
+        "--token-file",
+        metavar="FILE",
+        help="keeps the random part of the page's address, which then stays over new starts",
     )
     return parser
 
@@ -164,12 +198,15 @@ def _given(words: Optional[Sequence[str]]) -> argparse.Namespace:
         parser.error("behind the words stands nothing, watch and a query's name, or page")
     if given.view and (given.file or given.follow or given.script):
         parser.error("watch and page go with no --file, --script or --follow")
-    if given.listen is not None and not is_page:
-        parser.error("--listen goes with page")
+    if not is_page and (given.listen is not None or given.epoch or given.token_file):
+        parser.error("--listen, --epoch and --token-file go with page")
     if given.script is not None and (given.tenant is not None or given.key_file is not None):
         parser.error("--script has its tenants and keys, and goes with no --tenant or --key-file")
     if given.script is None and given.tenant is None:
         parser.error("--tenant is needed")
+    if given.copies is not None and not given.view:
+        parser.error("--own and --shared go with watch and page")
+    given.copies = given.copies or Copies.WHERE_NEEDED
     given.listen = 8000 if given.listen is None else given.listen
     return given
 

@@ -60,6 +60,13 @@ def _inputs(tokens: Sequence[str]) -> List[str]:
     return names
 
 
+def inputs_of(text: str) -> FrozenSet[str]:
+    """The streams that a query reads, in either of its blocks, as they are named."""
+    tokens = _TOKEN.findall(text)
+    starts = [at for at, token in enumerate(tokens) if token.upper() == "FROM"]
+    return frozenset(name for start in starts for name in _inputs(tokens[start:]))
+
+
 def _has_name(item: Sequence[str]) -> bool:
     return len(item) > 2 and item[-2].upper() == "AS"
 

@@ -4,10 +4,16 @@ import dataclasses
 from dataclasses import dataclass
 from typing import Any, Iterator, List, Optional, Tuple
 
-from .columns import Columns, operator_of
+from .columns import Columns, inputs_of, operator_of
 from .errors import UnknownQuery
 from .session import Session
 from .told import Answer, Block, Changes, Fault, Listing, Query, Row, Rows
+
+FEW = 8
+"""For how many instants a first look asks first."""
+
+MANY = 20_000
+"""Behind how many rows a look asks for no further instants."""
 
 
 @dataclass(frozen=True)
@@ -18,6 +24,9 @@ class Look:
     `first` is above the `next` of the look before where that was more than had been looked at.
     `is_new` says that the looks before it count no more: it is the first, or the query was made
     anew. `columns` has the names of the columns of granted streams, as far as grants name them.
+    `final` is the instant below which all is final, as far as the streams tell: where it is above
+    `next`, more is there than a look takes at once. `since` is the instant from which on rows are
+    seen, where it is a copy of the query that is looked at.
     """
 
     query: Query
@@ -26,6 +35,46 @@ class Look:
     blocks: Tuple[Block, ...]
     is_new: bool
     columns: Columns = dataclasses.field(default_factory=dict)
+    final: Optional[int] = None
+    since: Optional[int] = None
+
+    @property
+    def is_behind(self) -> bool:
+        """Whether more is final than the look tells."""
+        return self.final is not None and self.next < self.final
+
+
+def final_of(listing: Listing, query: Query) -> Optional[int]:
+    """The instant below which all of a query is final, as far as the listing tells."""
+    opens = {it.name: it.open for it in (*listing.streams, *listing.readable)}
+    names = inputs_of(query.text)
+    return min(map(opens.__getitem__, names)) if names and names <= opens.keys() else None
+
+
+def _weight(answer: Answer) -> int:
+    """How many rows an answer tells."""
+    weight = 0
+    for block in answer.blocks:
+        if isinstance(block, Rows):
+            weight += len(block.rows)
+        elif isinstance(block, Changes):
+            weight += len(block.plus) + len(block.minus)
+    return weight
+
+
+def bounded(session: Session, query: Query, final: Optional[int], start: int) -> Answer:
+    """An answer from the query's cursor on, which a look before asked for up to `start`. It goes so
+    far beyond that it has some MANY rows, or tells all that is final. What is asked for grows step
+    by step, so that no answer is many times as long as what is shown of it."""
+    step = max(FEW, start - query.next)
+    until = max(start, query.next) + step
+    while final is not None and until < final:
+        answer = session.fetch(query.name, until)
+        if answer.next < until or _weight(answer) >= MANY:
+            return answer
+        step *= 2
+        until += min(step, max(FEW, (final - until) // 8))
+    return session.fetch(query.name)
 
 
 def _from(block: Block, first: int) -> Optional[Block]:
@@ -34,13 +83,20 @@ def _from(block: Block, first: int) -> Optional[Block]:
 
 
 class Looker:
-    """Looks at one query, again and again, by `list` and `fetch` alone."""
+    """Looks at one query, again and again, by `list` and `fetch` alone.
+
+    A look takes a bounded number of rows. Where the query's consumer is further behind, what is
+    final beyond that is seen once it has acknowledged; `OwnLooker` sees it at once.
+    """
+
+    trouble = None
 
     def __init__(self, session: Session, query: str) -> None:
         self._session = session
         self._name = query
         self._seen: Optional[Listing] = None
         self._before: Optional[Look] = None
+        self._is_full = False
 
     def look(self) -> Optional[Look]:
         """What has come since the look before, or None where nothing has moved.
@@ -50,33 +106,53 @@ class Looker:
         listing = self._session.list()
         if listing == self._seen:
             return None
+        self._seen = None
         query, answer, listing = self._fetched(listing)
-        self._seen = listing
         before = self._before
         is_new = before is None or not _goes_on(before, query, answer)
         first = query.next if before is None or is_new else max(query.next, before.next)
         rest = (_from(block, first) for block in answer.blocks)
         blocks = tuple(block for block in rest if block)
         columns = {it.name: it.columns for it in listing.readable if it.columns}
-        self._before = Look(query, first, answer.next, blocks, is_new, columns)
+        final = final_of(listing, query)
+        self._is_full = _weight(answer) >= MANY or self._stands_full(query)
+        self._before = Look(query, first, answer.next, blocks, is_new, columns, final)
+        self._seen = listing if self._is_full or not self._before.is_behind else None
         return self._before
+
+    def close(self) -> None:
+        """Does nothing: nothing was made."""
 
     def _fetched(self, listing: Listing) -> Tuple[Query, Answer, Listing]:
         """An answer, the query with the cursor at which the answer begins, and the listing before
         the fetch. It is fetched anew where the cursor was moved meanwhile."""
         while True:
             query = self._query(listing)
-            answer = self._session.fetch(self._name)
+            answer = self._answer(listing, query)
             later = self._session.list()
             if self._query(later) == query:
                 return query, answer, listing
             listing = later
+
+    def _answer(self, listing: Listing, query: Query) -> Answer:
+        """What can be told of the query; nothing where a look before had all that a look takes,
+        and the cursor stands where it stood."""
+        before = self._before
+        if before is not None and self._stands_full(query):
+            self._session.fetch(query.name, query.next)  # an overrun or a revoke is still told
+            return Answer((), before.next)
+        start = 0 if before is None else before.next
+        return bounded(self._session, query, final_of(listing, query), start)
+
+    def _stands_full(self, query: Query) -> bool:
+        return self._is_full and self._before is not None and self._before.query == query
 
     def _query(self, listing: Listing) -> Query:
         for query in listing.queries:
             if query.name == self._name:
                 return query
         self._seen = self._before = None
+        self._is_full = False
         raise UnknownQuery()
 
 
@@ -149,7 +225,8 @@ class View:
     def _begin(self, look: Look) -> None:
         """No change before the look is known, unless it begins at the query's base."""
         if self._operator() is None:
-            self.since = None if look.first == look.query.base else look.first
+            is_whole = look.since is None and look.first == look.query.base
+            self.since = None if is_whole else look.first
             self.rows = ()
             self._relation.clear()
 

@@ -1,23 +1,25 @@
-"""A page for a browser of this machine: a tenant's streams and queries, and a query's table and
-plot, live. Nothing is acknowledged. The key stays here, only GET is served, on 127.0.0.1 alone,
-and only to who knows the random part of the page's address.
+"""A page for a browser of this machine: a tenant's streams and queries, and the tables and plots of
+those that are chosen, live. The key stays here, only GET is served, on 127.0.0.1 alone, and only to
+who knows the page's token, which stands in its address.
 """
 import hmac
 import json
+import os
 import pathlib
+import re
 import secrets
 import threading
 import time
 import urllib.parse
+from dataclasses import dataclass
 from http.server import BaseHTTPRequestHandler, ThreadingHTTPServer
-from typing import Dict, FrozenSet, List, Mapping, Optional, Sequence, Tuple
+from typing import Dict, List, Mapping, Optional, Sequence
 
-from .columns import keys_of, names_of
-from .errors import ConnectionLost, Error, Refused
-from .looking import Look, Looker, Step, View
+from .drawing import ORDERS, Choice, Shown, Told, listing_told
+from .errors import ConnectionLost, Error, Overrun, Refused, Revoked
+from .owning import AnyLooker, Copies, looker_of
 from .session import Session
-from .tables import Key, keyed
-from .told import Listing, Row, Stream
+from .told import Listing
 from .watch import why
 
 HERE = pathlib.Path(__file__).resolve().parent / "static"
@@ -28,206 +30,240 @@ POLL = 0.5
 ALIVE = 5.0
 """Seconds after which a page is told that nothing has changed."""
 
-MOST_ROWS, MOST_STEPS, MOST_LINES = 500, 2000, 24
-"""How many rows are shown, how many instants are plotted, and how many lines of them."""
+GRACE = 10.0
+"""Seconds for which what was looked at is kept after the last page has gone, as for one that is
+loaded again."""
+
+PROBE = 10.0
+"""Seconds between two questions whether a query that no page shows is overrun or revoked."""
 
 _FILES = {
     "": ("page.html", "text/html; charset=utf-8"),
     "page.css": ("page.css", "text/css; charset=utf-8"),
     "page.js": ("page.js", "text/javascript; charset=utf-8"),
+    "plots.js": ("plots.js", "text/javascript; charset=utf-8"),
+    "stream.js": ("stream.js", "text/javascript; charset=utf-8"),
 }
 _POLICY = (
-    "default-src 'none'; script-src 'self'; style-src 'self'; connect-src 'self'; img-src data:"
+    "default-src 'none'; script-src 'self'; style-src 'self'; connect-src 'self'; img-src data:; "
+    "worker-src 'self'"
 )
 
 
-# ---- What is sent. Numbers are sent as texts, since a browser's numbers have 53 bits.
+@dataclass(frozen=True)
+class Panel:
+    """A query on a page, by which lines of it are drawn; `name` is what the page calls it."""
+
+    name: str
+    query: str
+    choice: Choice
 
 
-def _stream(stream: Stream) -> Dict[str, object]:
-    columns = None if stream.columns is None else [*stream.columns]
-    return {"name": stream.name, "open": str(stream.open), "columns": columns}
+def panels_of(asked: Mapping[str, Sequence[str]]) -> List[Panel]:
+    """The panels that an address asks for; ValueError where it is none that a page has made."""
+    panels = [Panel(query, query, Choice()) for query in asked.get("query", [])]
+    for it in json.loads(asked["panels"][0]) if "panels" in asked else []:
+        choice = Choice(str(it.get("order", "first")), str(it.get("search", "")))
+        if choice.order not in ORDERS:
+            raise ValueError("no order of lines")
+        panels.append(Panel(str(it["name"]), str(it["query"]), choice))
+    return panels
 
 
-def listing_told(listing: Listing) -> Dict[str, object]:
-    """A tenant's streams and queries with their clocks."""
-    return {
-        "streams": [*map(_stream, listing.streams)],
-        "readable": [*map(_stream, listing.readable)],
-        "queries": [
-            {"name": it.name, "text": it.text, "base": str(it.base), "next": str(it.next)}
-            for it in listing.queries
-        ],
-    }
+class _Exhibit:
+    """A query that is looked at for all pages."""
+
+    def __init__(self, looker: AnyLooker) -> None:
+        self.looker = looker
+        self.shown = Shown()
+        self.trouble: Optional[str] = None
+        self.wanted_at = time.monotonic()
+
+    def look(self) -> None:
+        """Looks once, and again where more is final than a look takes, for a while."""
+        end = time.monotonic() + POLL
+        try:
+            while True:
+                look = self.looker.look()
+                if look:
+                    self.shown.take(look)
+                trouble = self.looker.trouble
+                self.trouble = why(trouble) if trouble else None
+                is_going_on = look is not None and look.is_behind and look.next > look.first
+                if not is_going_on or time.monotonic() > end:
+                    return
+        except Refused as refusal:
+            self.trouble = why(refusal)
 
 
-def _cells(row: Row) -> List[str]:
-    return [str(it) for it in row]
+class Gallery:
+    """All that pages show. It has one session, which is open only while somebody looks, and for a
+    while behind that; so it is one of the server's callers only then."""
 
-
-class Shown:
-    """A query as one page shows it."""
-
-    def __init__(self) -> None:
-        self._view = View()
-        self._lines: Dict[Tuple[Key, int], int] = {}
-        self._rows: List[Step] = []
-        self._undrawn = 0
-
-    def told(self, look: Look) -> Dict[str, object]:
-        """What a look adds to the page."""
-        if look.is_new:
-            self._lines.clear()
-            self._rows.clear()
-        view = self._view
-        steps = view.take(look)[-MOST_STEPS:]
-        text = look.query.text
-        names, keys = names_of(text, look.columns), keys_of(text, look.columns)
-        self._rows = [*self._rows, *steps][-MOST_ROWS:] if view.has_lines else []
-        told: Dict[str, object] = {
-            "text": text,
-            "base": str(look.query.base),
-            "acknowledged": str(look.query.next),
-            "next": str(look.next),
-            "at": None if view.at is None else str(view.at),
-            "since": None if view.since is None else str(view.since),
-            "fault": view.fault.fault if view.fault else None,
-            "isNew": look.is_new,
-            "names": names,
-            "steps": [self._points(step, names, keys) for step in steps],
-            "undrawn": self._undrawn,
-        }
-        return {**told, **(self._told_rows() if view.has_lines else self._relation())}
-
-    def _points(
-        self, step: Step, names: Optional[Sequence[str]], keys: FrozenSet[int]
-    ) -> Dict[str, object]:
-        """The instants of a step, its fault, and its numbers, each with its line's number and name."""
-        found = []
-        self._undrawn = 0
-        for key, row in keyed(step.rows, keys):
-            for at, value in enumerate(row):
-                if isinstance(value, int) and at not in keys:
-                    line = self._line((key, at))
-                    if line is None:
-                        self._undrawn += 1
-                    else:
-                        found.append([line, _line_name(key, names, at), str(value)])
-        span = {"first": str(step.first), "last": str(step.last)}
-        return {**span, "fault": step.fault, "points": found}
-
-    def _line(self, name: Tuple[Key, int]) -> Optional[int]:
-        """The number of a line of the plot, if it has one."""
-        if name not in self._lines and len(self._lines) < MOST_LINES:
-            self._lines[name] = len(self._lines)
-        return self._lines.get(name)
-
-    def _told_rows(self) -> Dict[str, object]:
-        """The last rows that were told, the newest first, each behind its instants."""
-        rows: List[Dict[str, object]] = []
-        for step in reversed(self._rows):
-            span = {"first": str(step.first), "last": str(step.last), "fault": step.fault}
-            rows += [{**span, "cells": _cells(row)} for row in step.rows or ((),)]
-        return {"told": rows[:MOST_ROWS], "numeric": _numeric(self._newest())}
-
-    def _newest(self) -> Sequence[Row]:
-        return next((step.rows for step in reversed(self._rows) if step.rows), ())
-
-    def _relation(self) -> Dict[str, object]:
-        rows = self._view.rows
-        return {
-            "rows": [_cells(row) for row in rows[:MOST_ROWS]],
-            "count": len(rows),
-            "numeric": _numeric(rows),
-        }
-
-
-def _numeric(rows: Sequence[Row]) -> List[bool]:
-    return [isinstance(it, int) for it in rows[0]] if rows else []
-
-
-def _line_name(key: Sequence[object], names: Optional[Sequence[str]], at: int) -> str:
-    """What a line of the plot is called: its rows' key, and the column of its values."""
-    *values, number = key
-    column = names[at] if names else f"column {at + 1}"
-    told = [*map(str, values), column]
-    return " ".join(told if number == 1 else [*told, f"({number})"])
-
-
-# ---- Serving.
-
-
-class Source:
-    """The one session of all pages, which is closed while there is none, so that it is one of the
-    server's callers only while somebody looks."""
-
-    def __init__(self, session: Session) -> None:
-        self.lock = threading.Lock()
+    def __init__(self, session: Session, copies: Copies = Copies.WHERE_NEEDED) -> None:
+        self.changed = threading.Condition()
+        self.listing: Told = {}
+        self.trouble: Optional[str] = None
         self._session = session
-        self._pages = 0
-
-    def enter(self) -> None:
-        with self.lock:
-            self._pages += 1
-
-    def leave(self) -> None:
-        with self.lock:
-            self._pages -= 1
-            if not self._pages:
-                self._session.close()
-
-    def session(self) -> Session:
-        """The session, connected. The caller holds the lock."""
-        if not self._session.is_open:
-            self._session.connect()
-        return self._session
+        self._copies = copies
+        self._exhibits: Dict[str, _Exhibit] = {}
+        self._states: Dict[str, str] = {}
+        self._probed_at = 0.0
+        self._streams: List["_Stream"] = []
+        self._left_at = 0.0
+        self._looking: Optional[threading.Thread] = None
+        self._is_ended = False
 
     @property
     def tenant(self) -> str:
         return self._session.tenant
 
+    def enter(self, stream: "_Stream") -> None:
+        with self.changed:
+            self._streams.append(stream)
+            if self._looking is None:
+                self._looking = threading.Thread(target=self._look_on, daemon=True)
+                self._looking.start()
 
-class _Page:
-    """One page that is open: what it was told so far."""
+    def leave(self, stream: "_Stream") -> None:
+        with self.changed:
+            self._streams.remove(stream)
+            self._left_at = time.monotonic()
 
-    def __init__(self, source: Source, query: str) -> None:
-        self._source = source
-        self._query = query
-        self._looker: Optional[Looker] = None
-        self._shown = Shown()
-        self._listing: Optional[Listing] = None
-        self._trouble: Optional[str] = None
+    def end(self) -> None:
+        """Ends the looks, and drops what was made for them."""
+        with self.changed:
+            self._is_ended = True
+            looking = self._looking
+        if looking:
+            looking.join(2 * GRACE)
 
-    def events(self) -> List[bytes]:
-        """What has changed, as events."""
+    def exhibit(self, query: str) -> Optional[_Exhibit]:
+        """What is shown of a query. The caller holds `changed`."""
+        return self._exhibits.get(query)
+
+    def _look_on(self) -> None:
+        """Looks for as long as a page is there."""
+        while True:
+            started = time.monotonic()
+            with self.changed:
+                is_over = not self._streams and started - self._left_at > GRACE
+                if is_over or self._is_ended:
+                    self._let_go()
+                    self._looking = None
+                    return
+                self._look()
+                self.changed.notify_all()
+            time.sleep(max(0.05, POLL - (time.monotonic() - started)))
+
+    def _let_go(self) -> None:
+        for exhibit in self._exhibits.values():
+            exhibit.looker.close()
+        self._exhibits.clear()
+        self._session.close()
+
+    def _look(self) -> None:
         try:
-            with self._source.lock:
-                session = self._source.session()
-                listing = session.list()
-                self._looker = self._looker or (
-                    Looker(session, self._query) if self._query else None
-                )
-                look, trouble = self._look()
+            if not self._session.is_open:
+                self._session.connect()
+            listing = self._session.list()
+            self._look_at_exhibits()
+            self._probe(listing)
         except (ConnectionLost, Refused) as error:
-            return self._told_trouble(f"waiting: {error}")
-        found = [] if listing == self._listing else [_event("listing", listing_told(listing))]
-        self._listing = listing
-        found += [_event("look", self._shown.told(look))] if look else []
-        return found + self._told_trouble(trouble)
+            self.trouble = f"waiting: {error}"
+            return
+        self.trouble = None
+        self.listing = listing_told(listing, self._states)
 
-    def _look(self) -> Tuple[Optional[Look], Optional[str]]:
-        if self._looker is None:
-            return None, None
-        try:
-            return self._looker.look(), None
-        except Refused as refusal:
-            return None, why(refusal)
+    def _look_at_exhibits(self) -> None:
+        now = time.monotonic()
+        for panel in (it for stream in self._streams for it in stream.panels):
+            if panel.query not in self._exhibits:
+                looker = looker_of(self._session, panel.query, self._copies)
+                self._exhibits[panel.query] = _Exhibit(looker)
+            self._exhibits[panel.query].wanted_at = now
+        for query, exhibit in [*self._exhibits.items()]:
+            if now - exhibit.wanted_at > GRACE:
+                exhibit.looker.close()
+                del self._exhibits[query]
+            else:
+                exhibit.look()
+                self._note_state(query, exhibit)
+        for query, exhibit in self._exhibits.items():
+            streams = (it for stream in self._streams for it in stream.panels)
+            exhibit.shown.keep(it.choice for it in streams if it.query == query)
 
-    def _told_trouble(self, trouble: Optional[str]) -> List[bytes]:
-        if trouble == self._trouble:
-            return []
-        self._trouble = trouble
-        return [_event("trouble", {"text": trouble})]
+    def _note_state(self, query: str, exhibit: _Exhibit) -> None:
+        fault = exhibit.shown.view.fault
+        said = f"fault {fault.fault} since {fault.first}" if fault else ""
+        if exhibit.trouble:
+            said = exhibit.trouble.partition(":")[0]
+        self._states.pop(query, None)
+        if said:
+            self._states[query] = said
+
+    def _probe(self, listing: Listing) -> None:
+        """Asks queries that no page shows for no instant at all, to which it is told if they are
+        overrun or revoked."""
+        now = time.monotonic()
+        if now - self._probed_at < PROBE:
+            return
+        self._probed_at = now
+        self._states = {it: said for it, said in self._states.items() if it in self._exhibits}
+        for query in listing.queries:
+            if query.name not in self._exhibits:
+                try:
+                    self._session.fetch(query.name, query.next)
+                except (Overrun, Revoked) as refusal:
+                    self._states[query.name] = f"{refusal.name.lower()} ({refusal.number})"
+
+
+class _Stream:
+    """The events of one browser, whose tabs share it: what it was told so far."""
+
+    def __init__(self, gallery: Gallery, panels: List[Panel]) -> None:
+        self.panels = panels
+        self._gallery = gallery
+        self._listing: Optional[Told] = None
+        self._troubles: Dict[str, Optional[str]] = {}
+        self._versions: Dict[str, int] = {}
+        self._of: Dict[str, _Exhibit] = {}
+
+    def events(self) -> bytes:
+        """What has changed. The caller holds the gallery's `changed`."""
+        gallery = self._gallery
+        found = b""
+        if gallery.listing and gallery.listing != self._listing:
+            found += _event("listing", gallery.listing)
+            self._listing = gallery.listing
+        found += self._trouble("", gallery.trouble)
+        for panel in self.panels:
+            exhibit = gallery.exhibit(panel.query)
+            if exhibit:
+                found += self._look(panel, exhibit)
+                found += self._trouble(panel.name, exhibit.trouble)
+        return found
+
+    def _look(self, panel: Panel, exhibit: _Exhibit) -> bytes:
+        shown = exhibit.shown
+        if shown.look is None:
+            return b""
+        version = shown.drawing(panel.choice).version
+        was = self._versions.get(panel.name)
+        is_same = self._of.get(panel.name) is exhibit
+        if is_same and was == version:
+            return b""
+        is_whole = not is_same or was is None or was + 1 != version
+        self._of[panel.name], self._versions[panel.name] = exhibit, version
+        told = shown.told(panel.choice, is_whole)
+        told.update(panel=panel.name, query=panel.query)
+        return _event("look", told)
+
+    def _trouble(self, name: str, trouble: Optional[str]) -> bytes:
+        if trouble == self._troubles.get(name):
+            return b""
+        self._troubles[name] = trouble
+        return _event("trouble", {"panel": name, "text": trouble})
 
 
 def _event(name: str, told: Mapping[str, object]) -> bytes:
@@ -235,15 +271,25 @@ def _event(name: str, told: Mapping[str, object]) -> bytes:
 
 
 class PageServer(ThreadingHTTPServer):
-    """Serves pages of one source, under a token that is drawn anew for each server."""
+    """Serves pages of one gallery, under a token. `epoch` is "s" or "ms" where instants are seconds
+    or milliseconds since 1970."""
 
     daemon_threads = True
+    request_queue_size = 64
 
-    def __init__(self, port: int, source: Source, charts: pathlib.Path) -> None:
+    def __init__(
+        self,
+        port: int,
+        gallery: Gallery,
+        charts: pathlib.Path,
+        epoch: Optional[str] = None,
+        token: Optional[str] = None,
+    ) -> None:
         super().__init__(("127.0.0.1", port), _Handler)
-        self.token = secrets.token_urlsafe(24)
-        self.source = source
+        self.token = token or new_token()
+        self.gallery = gallery
         self.charts = charts
+        self.epoch = epoch
 
     @property
     def address(self) -> str:
@@ -266,11 +312,12 @@ class _Handler(BaseHTTPRequestHandler):
         if not is_here or not hmac.compare_digest(token.encode(), self.server.token.encode()):
             self._refuse()
         elif name == "events":
-            self._events("".join(urllib.parse.parse_qs(path.query).get("query", [])[:1]))
+            self._ask_for_events(urllib.parse.parse_qs(path.query, keep_blank_values=True))
         elif name == "chart.js" and self.server.charts.is_file():
             self._send(self.server.charts.read_bytes(), "text/javascript; charset=utf-8")
-        elif name == "tenant":
-            self._send(json.dumps(self.server.source.tenant).encode(), "application/json")
+        elif name == "about":
+            about = {"tenant": self.server.gallery.tenant, "epoch": self.server.epoch}
+            self._send(json.dumps(about).encode(), "application/json")
         elif name in _FILES:
             file, kind = _FILES[name]
             self._send((HERE / file).read_bytes(), kind)
@@ -302,36 +349,87 @@ class _Handler(BaseHTTPRequestHandler):
         self.end_headers()
         self.wfile.write(body)
 
-    def _events(self, query: str) -> None:
-        """Tells what changes of a query, or of none where it has no name, until the browser goes away."""
+    def _ask_for_events(self, asked: Mapping[str, Sequence[str]]) -> None:
+        try:
+            panels = panels_of(asked)
+        except (ValueError, KeyError, TypeError, AttributeError):
+            self._refuse()
+        else:
+            self._events(_Stream(self.server.gallery, panels))
+
+    def _events(self, stream: _Stream) -> None:
+        """Tells what changes until the browser goes away."""
         self._head("text/event-stream; charset=utf-8")
         self.end_headers()
-        source = self.server.source
-        page = _Page(source, query)
-        source.enter()
+        gallery = self.server.gallery
+        gallery.enter(stream)
         try:
-            told_at = time.monotonic()
             while True:
-                events = page.events()
-                if not events and time.monotonic() - told_at > ALIVE:
-                    events = [b": nothing new\n\n"]
-                if events:
-                    self.wfile.write(b"".join(events))
-                    self.wfile.flush()
-                    told_at = time.monotonic()
-                time.sleep(POLL)
+                events = _awaited(gallery, stream)
+                self.wfile.write(events or b": nothing new\n\n")
+                self.wfile.flush()
         except (OSError, Error):
             self.close_connection = True
         finally:
-            source.leave()
+            gallery.leave(stream)
 
 
-def serve(session: Session, port: int) -> None:
-    """Serves the page until it is interrupted, and tells its address on standard output."""
+def _awaited(gallery: Gallery, stream: _Stream) -> bytes:
+    """What a stream is told next, nothing where nothing has changed for a while."""
+    end = time.monotonic() + ALIVE
+    with gallery.changed:
+        events = stream.events()
+        while not events and (left := end - time.monotonic()) > 0:
+            gallery.changed.wait(left)
+            events = stream.events()
+    return events
+
+
+def new_token() -> str:
+    return secrets.token_urlsafe(24)
+
+
+def kept_token(path: str) -> str:
+    """The token that a file keeps, which is made, for its owner alone, where it isn't there. OSError
+    where others may read it, or it has none."""
     try:
-        server = PageServer(port, Source(session), CHARTS)
+        opened = os.open(path, os.O_WRONLY | os.O_CREAT | os.O_EXCL, 0o600)
+    except FileExistsError:
+        return _token_of(path)
+    with open(opened, "w", encoding="ascii") as file:
+        token = new_token()
+        file.write(token + "\n")
+    return token
+
+
+def _token_of(path: str) -> str:
+    if os.stat(path).st_mode & 0o077:
+        raise OSError(f"others than its owner may use {path}, which has the page's token")
+    with open(path, encoding="ascii", errors="replace") as file:
+        token = file.readline().rstrip("\n")
+    if not re.fullmatch(r"[A-Za-z0-9_-]{16,}", token):
+        raise OSError(f"{path} has no token of a page; without the file one is made")
+    return token
+
+
+@dataclass(frozen=True)
+class Site:
+    """Where and how the page is served."""
+
+    port: int = 8000
+    epoch: Optional[str] = None
+    token_file: Optional[str] = None
+    copies: Copies = Copies.WHERE_NEEDED
+
+
+def serve(session: Session, site: Site) -> None:
+    """Serves the page until it is interrupted, and tells its address on standard output."""
+    token = kept_token(site.token_file) if site.token_file else None
+    gallery = Gallery(session, site.copies)
+    try:
+        server = PageServer(site.port, gallery, CHARTS, site.epoch, token)
     except OSError as error:
-        raise OSError(f"the page can't be served on port {port}: {error}") from error
+        raise OSError(f"the page can't be served on port {site.port}: {error}") from error
     session.close()
     print(f"the page is at {server.address}", flush=True)
     if not CHARTS.is_file():
@@ -340,3 +438,4 @@ def serve(session: Session, port: int) -> None:
         server.serve_forever()
     finally:
         server.server_close()
+        gallery.end()

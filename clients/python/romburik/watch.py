@@ -4,11 +4,12 @@ import os
 import shutil
 import sys
 import time
-from typing import Callable, Deque, FrozenSet, List, Optional, Sequence
+from typing import Callable, Deque, FrozenSet, List, Optional, Sequence, Tuple
 
 from .columns import Columns, keys_of, names_of
 from .errors import ConnectionLost, Overrun, Revoked, UnknownQuery
-from .looking import Look, Looker, Step, View
+from .looking import Look, Step, View
+from .owning import AnyLooker, Copies, looker_of
 from .session import Session
 from .tables import Past, Table, block_cells, cut, printable, row_columns
 from .told import Value
@@ -94,13 +95,17 @@ class Watched:
         view = self.view
         if look.next == look.query.base:
             return f"nothing is final so far; its first instant is {look.query.base}"
-        final = f"final below {look.next}, acknowledged below {look.query.next}"
+        final = f"final below {look.final if look.is_behind else look.next}"
+        final += f", acknowledged below {look.query.next}"
+        if look.is_behind and look.since is None:
+            final += "; its consumer is further behind than a look takes"
         if view.at is None:
             return f"{final}: what is acknowledged is told to nobody any more"
         if view.fault:
             return f"at {view.at}: FAULT {view.fault.fault} since {view.fault.first}; {final}"
-        if view.since is not None and not view.has_lines:
-            return f"at {view.at}, of the rows that came from {view.since} on; {final}"
+        since = look.since if look.since is not None else None if view.has_lines else view.since
+        if since is not None:
+            return f"at {view.at}, of the rows that came from {since} on; {final}"
         return f"at {view.at}; {final}"
 
     def _names(self, look: Look) -> List[str]:
@@ -139,29 +144,39 @@ class _Screen:
 def looks(
     session: Session,
     query: str,
+    copies: Copies,
     take: Callable[[Look], None],
     trouble: Callable[[Optional[str]], None],
 ) -> None:
     """Looks at a query without an end. What may pass is told to `trouble` once, and None then."""
-    looker = Looker(session, query)
+    looker = looker_of(session, query, copies)
     told: Optional[str] = None
-    while True:
-        said: Optional[str] = None
-        try:
-            if not session.is_open:
-                session.connect()
-            look = looker.look()
+    try:
+        while True:
+            look, said = _one(session, looker)
             if look:
                 take(look)
-        except _WAITS as error:
-            said = why(error)
-        if said != told:
-            trouble(said)
-        told = said
-        time.sleep(POLL)
+            if said != told:
+                trouble(said)
+            told = said
+            is_going_on = look is not None and look.is_behind and look.next > look.first
+            time.sleep(0 if is_going_on else POLL)
+    finally:
+        looker.close()
 
 
-def watch_at_terminal(session: Session, query: str, known: Columns) -> None:
+def _one(session: Session, looker: AnyLooker) -> Tuple[Optional[Look], Optional[str]]:
+    """A look, and what is said where the query tells nothing, or nothing more."""
+    try:
+        if not session.is_open:
+            session.connect()
+        look = looker.look()
+        return look, why(looker.trouble) if looker.trouble else None
+    except _WAITS as error:
+        return None, why(error)
+
+
+def watch_at_terminal(session: Session, query: str, known: Columns, copies: Copies) -> None:
     """Redraws a query's newest state."""
     screen = _Screen()
     watched = Watched(known, 500)
@@ -178,10 +193,12 @@ def watch_at_terminal(session: Session, query: str, known: Columns) -> None:
     def trouble(text: Optional[str]) -> None:
         draw(_NOTE if text is None else f"waiting: {printable(text)}")
 
-    looks(session, query, take, trouble)
+    looks(session, query, copies, take, trouble)
 
 
-def watch_in_lines(session: Session, query: str, known: Columns, has_tables: bool) -> None:
+def watch_in_lines(
+    session: Session, query: str, known: Columns, has_tables: bool, copies: Copies
+) -> None:
     """Prints a query's blocks, each once, as they become final."""
     table: Optional[Table] = None
 
@@ -202,12 +219,18 @@ def watch_in_lines(session: Session, query: str, known: Columns, has_tables: boo
         if text is not None:
             print(f"romburik: waiting: {text}", file=sys.stderr, flush=True)
 
-    looks(session, query, take, trouble)
+    looks(session, query, copies, take, trouble)
 
 
-def watch(session: Session, query: str, known: Columns, has_tables: bool) -> None:
+def watch(
+    session: Session,
+    query: str,
+    known: Columns,
+    has_tables: bool,
+    copies: Copies = Copies.WHERE_NEEDED,
+) -> None:
     """Shows a query until it is interrupted. A refusal that doesn't pass is raised."""
     if sys.stdout.isatty() and os.environ.get("TERM") != "dumb":
-        watch_at_terminal(session, query, known)
+        watch_at_terminal(session, query, known, copies)
     else:
-        watch_in_lines(session, query, known, has_tables)
+        watch_in_lines(session, query, known, has_tables, copies)

@@ -1,10 +1,11 @@
 "use strict";
 // What comes is shown by textContent alone: the text of a row is never taken as HTML.
 
-const KEPT = 2000; // instants of a line that are kept
-const COLOURS = ["#2f6db5", "#d1651b", "#3a8f4d", "#a3377f", "#7a5fc0", "#8c6d1f", "#1f8a8a", "#b03a3a"];
-const chosen = new URLSearchParams(location.search).get("query");
 const byId = (id) => document.getElementById(id);
+const SETTLED = 300; // milliseconds after which a text that is typed counts
+let epoch = null;
+let want = () => {};
+const panels = []; // those that are shown
 
 function element(tag, text, kind) {
   const made = document.createElement(tag);
@@ -29,151 +30,206 @@ function fill(table, heads, rows) {
   table.replaceChildren(...lines);
 }
 
-function showListing(listing) {
-  byId("queries").replaceChildren(...listing.queries.map((query) => {
-    const link = element("a", query.name, query.name === chosen ? "chosen" : "");
-    link.href = "?query=" + encodeURIComponent(query.name);
-    link.append(element("small", "from " + query.base + ", acknowledged below " + query.next));
-    const item = document.createElement("li");
-    item.append(link);
-    return item;
-  }));
-  const streams = [...listing.streams, ...listing.readable];
-  fill(byId("streams"), [["stream", ""], ["takes from", "number"]], streams.map((it) => (
-    { cells: [[it.columns ? it.name + " (" + it.columns.join(", ") + ")" : it.name, ""], [it.open, "number"]] }
-  )));
+function say(place, text) {
+  place.hidden = !text;
+  place.textContent = text || "";
 }
 
-// The plot: a line for each number of each row, over instants. Faults are bands.
+// The cells of the instants of rows that were told.
+function span(first, last) {
+  if (!epoch) return [[first, "number"], [last, "number"]];
+  const start = instantText(Number(first), epoch), end = instantText(Number(last), epoch);
+  return [[first === last ? start : start + " to " + (start.slice(0, 10) === end.slice(0, 10) ? end.slice(11) : end), ""]];
+}
 
-const faults = [];
-const bands = {
-  id: "bands",
-  beforeDatasetsDraw(chart) {
-    const { ctx, chartArea, scales } = chart;
-    ctx.save();
-    ctx.fillStyle = "rgba(163, 18, 31, 0.18)";
-    for (const [first, last] of faults) {
-      const left = Math.max(chartArea.left, scales.x.getPixelForValue(first));
-      const right = Math.min(chartArea.right, scales.x.getPixelForValue(last));
-      if (right >= left) ctx.fillRect(left, chartArea.top, Math.max(2, right - left), chartArea.bottom - chartArea.top);
-    }
-    ctx.restore();
-  },
-};
-let chart = null;
+// The list.
 
-function makeChart() {
-  if (typeof Chart === "undefined") {
-    byId("plot").hidden = true;
-    byId("noplot").hidden = false;
-    return;
+let listed = null;
+
+function acknowledged(next, base) {
+  return next === base ? "nothing acknowledged so far" : "acknowledged below " + instantText(Number(next), epoch);
+}
+
+function queryItem(query) {
+  const isShown = panels.some((it) => it.query === query.name);
+  const button = element("button", query.name);
+  button.setAttribute("aria-pressed", isShown);
+  button.addEventListener("click", () => (isShown ? remove(query.name) : add(query.name)));
+  const behind = query.behind === null || query.next === query.base ? ""
+    : query.behind === "0" ? ", all there is" : ", " + spanText(Number(query.behind), epoch) + " behind";
+  button.append(element("small", acknowledged(query.next, query.base) + behind));
+  if (query.state) button.append(element("small", query.state, "bad"));
+  const item = document.createElement("li");
+  item.append(button);
+  return item;
+}
+
+function showListing(listing) {
+  listed = listing;
+  byId("queries").replaceChildren(...listing.queries.map(queryItem));
+  const streams = [...listing.streams, ...listing.readable];
+  fill(byId("streams"), [["stream", ""], ["takes from", "number"]], streams.map((it) => (
+    { cells: [[it.columns ? it.name + " (" + it.columns.join(", ") + ")" : it.name, ""], [instantText(Number(it.open), epoch), "number"]] }
+  )));
+  showChoose();
+}
+
+function showChoose() {
+  byId("choose").hidden = panels.length > 0;
+  byId("loading").hidden = listed !== null;
+  byId("choice").hidden = listed === null || !listed.queries.length;
+  byId("empty").hidden = listed === null || listed.queries.length > 0;
+}
+
+// A panel: one query with its plots and its table.
+
+class Panel {
+  constructor(query, order, search) {
+    this.query = query;
+    this.order = order || "first";
+    this.search = search || "";
+    this.box = byId("panel").content.firstElementChild.cloneNode(true);
+    this.box.dataset.query = query;
+    this.part("h2").textContent = query;
+    this.part(".away").addEventListener("click", () => remove(query));
+    this.part("select").value = this.order;
+    this.part("input").value = this.search;
+    this.part("select").addEventListener("change", () => this.choose());
+    this.part("input").addEventListener("input", () => {
+      clearTimeout(this.typing);
+      this.typing = setTimeout(() => this.choose(), SETTLED);
+    });
+    this.part("form").addEventListener("submit", (event) => event.preventDefault());
+    this.part(".standing").textContent = "waiting for what it tells";
+    this.plots = null;
+    if (typeof Chart === "undefined") say(this.part(".noplot"), this.part(".noplot").textContent);
   }
-  chart = new Chart(byId("chart"), {
-    type: "line",
-    data: { datasets: [] },
-    plugins: [bands],
-    options: {
-      animation: false,
-      maintainAspectRatio: false,
-      parsing: false,
-      normalized: true,
-      interaction: { mode: "nearest", intersect: false },
-      scales: { x: { type: "linear", title: { display: true, text: "instant" } }, y: { beginAtZero: false } },
-      elements: { point: { radius: 1.5 }, line: { borderWidth: 1.5 } },
-    },
+
+  get name() {
+    return JSON.stringify([this.query, this.order, this.search]);
+  }
+
+  part(selector) {
+    return this.box.querySelector(selector);
+  }
+
+  choose() {
+    this.order = this.part("select").value;
+    this.search = this.part("input").value;
+    keep();
+  }
+
+  take(look) {
+    this.part(".text").textContent = look.text;
+    this.showStanding(look);
+    this.showRows(look);
+    if (typeof Chart === "undefined") return;
+    this.plots = this.plots || new Plots(this.part(".plots"), this.part(".legend"), epoch);
+    this.plots.take(look);
+    const many = look.undrawn ? look.undrawn + " more aren't drawn" : "";
+    this.part(".undrawn").textContent = many;
+  }
+
+  showStanding(look) {
+    const when = (instant) => instantText(Number(instant), epoch);
+    const final = "final below " + when(look.final) + ", " + acknowledged(look.acknowledged, look.base);
+    let said = look.next === look.base ? "nothing is final so far; the first instant is " + when(look.base) : final;
+    if (look.at !== null) said = "at instant " + when(look.at) + "; " + final;
+    else if (look.next !== look.base) said += "; what is acknowledged is told to nobody any more";
+    if (look.final !== look.next) said += "; its consumer is further behind than a look takes";
+    if (look.since !== null) said += "; without rows that came before " + when(look.since);
+    this.part(".standing").textContent = said;
+    say(this.part(".fault"), look.fault === null ? "" : "fault: " + look.fault);
+  }
+
+  showRows(look) {
+    const kinds = look.numeric.map((is) => (is ? "number" : ""));
+    const names = (look.names || []).map((name, at) => [name, kinds[at] || ""]);
+    const cells = (row) => row.map((text, at) => [text, kinds[at] || ""]);
+    const table = this.part(".rows"), more = this.part(".more");
+    if (look.told) {
+      const heads = epoch ? [["when", ""]] : [["from", "number"], ["to", "number"]];
+      fill(table, [...heads, ...names], look.told.map((it) => (
+        it.fault === null
+          ? { cells: [...span(it.first, it.last), ...cells(it.cells)] }
+          : { cells: [...span(it.first, it.last), ["fault: " + it.fault, ""]], kind: "fault" }
+      )));
+      more.textContent = look.told.length ? "" : "no row was told so far";
+      return;
+    }
+    const isKnown = look.at !== null && look.fault === null;
+    fill(table, isKnown ? names : [], isKnown ? look.rows.map((row) => ({ cells: cells(row) })) : []);
+    const left = look.count - look.rows.length;
+    more.textContent = !isKnown ? "" : look.count === 0 ? "no rows" : left ? "and " + left + " rows more" : "";
+  }
+}
+
+// Which panels there are stands in the address.
+
+function add(query, order, search) {
+  const panel = new Panel(query, order, search);
+  panels.push(panel);
+  byId("panels").append(panel.box);
+  keep();
+}
+
+function remove(query) {
+  const at = panels.findIndex((it) => it.query === query);
+  const [panel] = panels.splice(at, 1);
+  if (panel.plots) panel.plots.end();
+  panel.box.remove();
+  keep();
+}
+
+function keep() {
+  const words = new URLSearchParams();
+  for (const { query, order, search } of panels) {
+    words.append("query", query);
+    if (order !== "first") words.append("order", order);
+    if (search) words.append("search", search);
+  }
+  history.replaceState(null, "", panels.length ? "?" + words : location.pathname);
+  want(panels.map(({ name, query, order, search }) => ({ name, query, order, search })));
+  if (listed) showListing(listed);
+  showChoose();
+}
+
+// The panels of an address: a word behind a query's is of that query.
+function asked() {
+  const found = [];
+  for (const [word, value] of new URLSearchParams(location.search)) {
+    if (word === "query") found.push({ query: value });
+    else if (found.length && (word === "order" || word === "search")) found[found.length - 1][word] = value;
+  }
+  return found;
+}
+
+const AWAY = "the page's program doesn't answer, it is tried again; what is shown is old";
+const ELSEWHERE = "the page's program was started anew and has another address, which it tells at its start (one word --token-file keeps it)";
+
+function take({ kind, data }) {
+  const told = data === undefined ? null : JSON.parse(data);
+  if (kind === "listing") showListing(told);
+  if (kind === "look") panels.filter((it) => it.name === told.panel).forEach((it) => it.take(told));
+  if (kind === "trouble" && told.panel === "") byId("trouble").textContent = told.text || "";
+  if (kind === "trouble") panels.filter((it) => it.name === told.panel).forEach((it) => say(it.part(".trouble"), told.text));
+  if (kind === "away") byId("trouble").textContent = AWAY;
+  if (kind === "closed") byId("trouble").textContent = ELSEWHERE;
+  if (kind === "open") byId("trouble").textContent = "";
+}
+
+async function start() {
+  const about = await (await fetch("about")).json();
+  epoch = about.epoch;
+  byId("tenant").textContent = "tenant " + about.tenant;
+  document.title = "Romburik " + about.tenant;
+  want = subscribed(take);
+  byId("allstreams").open = matchMedia("(min-width: 45em)").matches;
+  for (const { query, order, search } of asked()) add(query, order, search);
+  keep();
+  matchMedia("(prefers-color-scheme: dark)").addEventListener("change", () => {
+    for (const { plots } of panels) if (plots) plots.draw();
   });
 }
 
-function lineOf(number, name) {
-  const lines = chart.data.datasets;
-  while (lines.length <= number) {
-    const colour = COLOURS[lines.length % COLOURS.length];
-    lines.push({ label: "", data: [], borderColor: colour, backgroundColor: colour, spanGaps: false });
-  }
-  lines[number].label = name;
-  return lines[number].data;
-}
-
-function plot(look) {
-  if (!chart) return;
-  if (look.isNew) {
-    chart.data.datasets = [];
-    faults.length = 0;
-  }
-  for (const step of look.steps) {
-    const first = Number(step.first), last = Number(step.last);
-    if (step.fault !== null) faults.push([first, last]);
-    const drawn = new Set();
-    for (const [number, name, value] of step.points) {
-      const data = lineOf(number, name);
-      data.push({ x: first, y: Number(value) });
-      if (last > first) data.push({ x: last, y: Number(value) });
-      drawn.add(number);
-    }
-    chart.data.datasets.forEach(({ data }, number) => {
-      // a line breaks where its row isn't there
-      const end = data[data.length - 1];
-      if (!drawn.has(number) && end && end.y !== null && !look.told) data.push({ x: first, y: null });
-      if (data.length > KEPT) data.splice(0, data.length - KEPT);
-    });
-  }
-  chart.update("none");
-}
-
-function showRows(look) {
-  const kinds = look.numeric.map((is) => (is ? "number" : ""));
-  const names = (look.names || []).map((name, at) => [name, kinds[at] || ""]);
-  const cells = (row) => row.map((text, at) => [text, kinds[at] || ""]);
-  if (look.told) {
-    fill(byId("rows"), [["from", "number"], ["to", "number"], ...names], look.told.map((it) => (
-      it.fault === null
-        ? { cells: [[it.first, "number"], [it.last, "number"], ...cells(it.cells)] }
-        : { cells: [[it.first, "number"], [it.last, "number"], ["fault: " + it.fault, ""]], kind: "fault" }
-    )));
-    byId("more").textContent = "";
-    return;
-  }
-  const isKnown = look.at !== null && look.fault === null;
-  fill(byId("rows"), isKnown ? names : [], isKnown ? look.rows.map((row) => ({ cells: cells(row) })) : []);
-  const more = look.count - look.rows.length;
-  byId("more").textContent = !isKnown ? "" : look.count === 0 ? "no rows" : more ? "and " + more + " rows more" : "";
-}
-
-function showStanding(look) {
-  const final = "final below " + look.next + ", acknowledged below " + look.acknowledged;
-  let said = look.next === look.base ? "nothing is final so far; the first instant is " + look.base : final;
-  if (look.at !== null) said = "at instant " + look.at + "; " + final;
-  else if (look.next !== look.base) said += "; what is acknowledged is told to nobody any more";
-  if (look.since !== null && !look.told) said += "; without rows that came before " + look.since;
-  if (look.undrawn) said += "; " + look.undrawn + " lines aren't drawn";
-  byId("standing").textContent = said;
-  byId("fault").hidden = look.fault === null;
-  byId("fault").textContent = look.fault === null ? "" : "fault: " + look.fault;
-}
-
-function showLook(look) {
-  byId("text").textContent = look.text;
-  showStanding(look);
-  showRows(look);
-  plot(look);
-}
-
-function start() {
-  fetch("tenant").then((reply) => reply.json()).then((name) => { byId("tenant").textContent = "tenant " + name; });
-  if (chosen !== null) {
-    byId("query").hidden = false;
-    byId("choose").hidden = true;
-    byId("name").textContent = chosen;
-    makeChart();
-  }
-  const events = new EventSource("events" + (chosen === null ? "" : "?query=" + encodeURIComponent(chosen)));
-  const on = (name, show) => events.addEventListener(name, (event) => show(JSON.parse(event.data)));
-  on("listing", showListing);
-  on("look", showLook);
-  on("trouble", ({ text }) => { byId("trouble").textContent = text || ""; });
-  events.onerror = () => { byId("trouble").textContent = "the page's program doesn't answer; trying again"; };
-  events.onopen = () => { byId("trouble").textContent = ""; };
-}
-
-start();
+start().catch(() => { byId("trouble").textContent = AWAY; });

@@ -1,0 +1,229 @@
+"""Looking at a copy of a query, which nobody else acknowledges: all is seen, and a look costs what is
+new. The copy takes one of the tenant's queries; it is dropped at the end, and what a program that was
+killed has left is dropped at the next start on the same machine.
+"""
+import contextlib
+import enum
+import hashlib
+import itertools
+import os
+import re
+import socket
+from typing import Iterator, Optional, Set, Union
+
+from .errors import (
+    Error,
+    NoMemory,
+    Overrun,
+    Refused,
+    Revoked,
+    TooManyQueries,
+    UnknownQuery,
+)
+from .looking import Look, Looker, bounded, final_of
+from .session import Session
+from .told import Listing, Query
+
+AT_THE_END = 5.0
+"""How many seconds a server may take to have a copy dropped at the end."""
+
+
+class Copies(enum.Enum):
+    """When a copy is looked at."""
+
+    ALWAYS = "always"
+    WHERE_NEEDED = "where needed"
+    """Where somebody acknowledges the query, or its consumer is further behind than a look takes,
+    and the tenant has a query to spare."""
+    NEVER = "never"
+
+
+def _machine() -> str:
+    return hashlib.sha256(socket.gethostname().encode()).hexdigest()[:6]
+
+
+def _names() -> Iterator[str]:
+    """The names that this process gives to its copies."""
+    return (f"own_{_machine()}_{os.getpid()}_{number}" for number in itertools.count())
+
+
+def _is_alive(process: int) -> bool:
+    try:
+        os.kill(process, 0)
+    except (ProcessLookupError, OverflowError):
+        return False
+    except PermissionError:
+        pass
+    return True
+
+
+def is_copy(name: str) -> bool:
+    """Whether a query is a looker's copy, of this machine or of another."""
+    return re.fullmatch(r"own_[0-9a-f]{6}_\d+_\d+", name) is not None
+
+
+def drop_leftovers(session: Session) -> None:
+    """Drops the copies of programs of this machine that are no more."""
+    for query in session.list().queries:
+        found = re.fullmatch(rf"own_{_machine()}_(\d+)_\d+", query.name)
+        if found and not _is_alive(int(found[1])):
+            with contextlib.suppress(UnknownQuery):
+                session.drop(query.name)
+
+
+def _named(listing: Listing, name: Optional[str]) -> Optional[Query]:
+    return next((it for it in listing.queries if it.name == name), None)
+
+
+class OwnLooker:
+    """Looks at a copy of a query, which it registers at its first look. It sees the rows that come
+    from then on. What a look told is acknowledged at the next one.
+
+    `trouble` is why the query itself tells nothing any more, where it is overrun and the copy isn't.
+    """
+
+    def __init__(self, session: Session, query: str) -> None:
+        self.trouble: Optional[Refused] = None
+        self._session = session
+        self._name = query
+        self._copied: Optional[Query] = None
+        self._copy: Optional[str] = None
+        self._before: Optional[Look] = None
+
+    def look(self) -> Optional[Look]:
+        """What has come since the look before, or None where nothing has moved.
+
+        Raises what the session's methods do: UnknownQuery where the query isn't there, Revoked
+        where it is revoked, TooManyQueries where the tenant has none to spare.
+        """
+        listing = self._session.list()
+        query = _named(listing, self._name)
+        if query is None:
+            self._forget()
+            raise UnknownQuery()
+        self._note_trouble(query)
+        copy = self._registered(listing, query)
+        if self._before and self._before.next > copy.next:
+            self._session.ack(copy.name, self._before.next)
+        return self._looked(listing, query, copy)
+
+    def close(self) -> None:
+        """Drops the copy, if the server lets it."""
+        if self._copy is None:
+            return
+        with contextlib.suppress(Error):
+            if not self._session.is_open:
+                self._session.timeout = AT_THE_END
+                self._session.connect()
+            self._session.drop(self._copy)
+        self._copy = None
+
+    def _note_trouble(self, query: Query) -> None:
+        """Asks the query itself for no instant at all, to which an overrun is told too."""
+        try:
+            self._session.fetch(query.name, query.next)
+            self.trouble = None
+        except Overrun as overrun:
+            self.trouble = overrun
+        except Revoked:
+            self._forget()
+            raise
+
+    def _registered(self, listing: Listing, query: Query) -> Query:
+        """The copy, which is made where it isn't there or is one of another query."""
+        copy = _named(listing, self._copy)
+        was = self._copied
+        if copy and was and (was.text, was.base) == (query.text, query.base):
+            return copy
+        self._forget()
+        taken = {it.name for it in listing.queries}
+        name = next(it for it in _names() if it not in taken)
+        base = self._session.query(name, query.text)
+        self._copy, self._copied = name, query
+        return Query(name, query.text, base, base)
+
+    def _forget(self) -> None:
+        """Drops the copy, and nothing that was looked at counts any more."""
+        if self._copy is not None:
+            with contextlib.suppress(UnknownQuery):
+                self._session.drop(self._copy)
+        self._copy = self._copied = self._before = None
+
+    def _looked(self, listing: Listing, query: Query, copy: Query) -> Optional[Look]:
+        before = self._before
+        final = final_of(listing, copy)
+        is_same = before is not None and before.query == query
+        if before and is_same and final is not None and final <= before.next:
+            return None
+        start = before.next if before else copy.next
+        try:
+            # what was told before has been acknowledged
+            there = Query(copy.name, copy.text, copy.base, start)
+            answer = bounded(self._session, there, final, start)
+        except Overrun:
+            self._forget()
+            return None
+        columns = {it.name: it.columns for it in listing.readable if it.columns}
+        is_new = before is None
+        self._before = Look(
+            query, start, answer.next, answer.blocks, is_new, columns, final, since=copy.base
+        )
+        return self._before
+
+
+class ChoosingLooker:
+    """Looks at a query itself, and goes over to a copy where that is needed."""
+
+    def __init__(self, session: Session, query: str) -> None:
+        self._itself = Looker(session, query)
+        self._own = OwnLooker(session, query)
+        self._has_spare = True
+        self._is_needed = False
+        self._shows_copy = False
+
+    @property
+    def trouble(self) -> Optional[Refused]:
+        return self._own.trouble if self._shows_copy else None
+
+    def look(self) -> Optional[Look]:
+        """As of the two, but for TooManyQueries, behind which the query itself is looked at."""
+        if self._shows_copy:
+            return self._of_copy()
+        look = self._itself.look()
+        if look:
+            self._is_needed = look.query.next > look.query.base or look.is_behind
+        if self._is_needed and self._has_spare:
+            own = self._of_copy()
+            if own and own.next > own.first:
+                self._shows_copy = True
+                return own
+        return look
+
+    def _of_copy(self) -> Optional[Look]:
+        try:
+            return self._own.look()
+        except (TooManyQueries, NoMemory):
+            self._has_spare = self._shows_copy = False
+            return None
+        except UnknownQuery:
+            self._shows_copy = self._is_needed = False
+            raise
+
+    def close(self) -> None:
+        self._own.close()
+
+
+AnyLooker = Union[Looker, OwnLooker, ChoosingLooker]
+
+
+def looker_of(session: Session, query: str, copies: Copies) -> AnyLooker:
+    """What looks at a query."""
+    if copies is Copies.NEVER:
+        return Looker(session, query)
+    drop_leftovers(session)
+    return OwnLooker(session, query) if copies is Copies.ALWAYS else ChoosingLooker(session, query)
+
+
+def names_of_copies(listing: Listing) -> Set[str]:
+    """The queries of a listing that are copies."""
+    return {it.name for it in listing.queries if is_copy(it.name)}

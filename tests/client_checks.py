@@ -1194,11 +1194,11 @@ def names_of_queries(it):
     return [query.name for query in it.list().queries]
 
 
-def eager_consumer(it, instants, query="q"):
+def eager_consumer(it, instants, query="q", stream="s"):
     """Puts a row at each of some instants, and takes it at once, ten in a second."""
     for at in instants:
-        it.put("s", at, [at])
-        it.beat("s", at)
+        it.put(stream, at, [at])
+        it.beat(stream, at)
         it.ack(query, it.fetch(query).next)
         time.sleep(0.1)
 

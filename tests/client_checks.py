@@ -333,7 +333,8 @@ def pages(program):
 
 class Peer:
     """Stands for a server. It takes a connection for each list of pairs: of a line that has to
-    come, or None for none, and of its reply, or None where the connection is to break off."""
+    come, or None for none, and of its reply, what gives it, or None where the connection is to
+    break off."""
 
     def __init__(self, *connections):
         self.fault = None
@@ -364,7 +365,7 @@ class Peer:
                 self.fault = self.fault or difference(lines.readline(), wanted)
             if reply is None:
                 return
-            near.sendall(reply)
+            near.sendall(reply() if callable(reply) else reply)
         lines.readline()  # a line more, or the end
 
 
@@ -614,10 +615,10 @@ from  to  kind   k         v * 4611686018427387904
   12  12  +      overflow     -4611686018427387904
   13  14  fault  overflow
 next 15
-query  base  next  text
-q         0     0  ISTREAM(SELECT * FROM s [RANGE 2])
-p         0     0  SELECT * FROM s [NOW]
-f        12    12  SELECT k, v * 4611686018427387904 FROM s [ROWS 1]
+query  base  next  behind  text
+q         0     0      15  ISTREAM(SELECT * FROM s [RANGE 2])
+p         0     0      15  SELECT * FROM s [NOW]
+f        12    12       3  SELECT k, v * 4611686018427387904 FROM s [ROWS 1]
 stream  open  columns
 s         15  k v
 """
@@ -692,9 +693,10 @@ def terminal_follows(program):
 INTERRUPT = b"\x03"
 
 
-def typed(port, history, *keys):
+def typed(port, history, *keys, interrupts=None):
     """What a terminal shows where these keys are typed, each once the prompt is there, and a
-    program's status."""
+    program's status. A key may be what gives it; `interrupts` is an event at which Ctrl-C is
+    typed."""
     near, far = pty.openpty()
     child = subprocess.Popen(
         terminal_words(port),
@@ -721,7 +723,10 @@ def typed(port, history, *keys):
             since = seen[begin:]
             if waiting and (since.endswith(b"\na> ") or not more and b"\na> " in since):
                 begin, key = len(seen), waiting.pop(0)
+                key = key() if callable(key) else key
                 os.write(near, key)
+            elif not more and interrupts is not None and interrupts.is_set():
+                os.write(near, INTERRUPT)
             elif not more and key.endswith(INTERRUPT):
                 # one that comes just before Python waits for a key is seen at the next one
                 os.write(near, INTERRUPT)
@@ -784,7 +789,194 @@ def terminal_knows_columns(program):
     yield "a column that is completed", difference((status, text in seen), (0, True))
 
 
+def terminal_stays(program):
+    """Where the server is away, and where a fetch is interrupted, the next line tries again; words
+    that end it or ask for help; a query of several lines."""
+    port = free_port()
+    with contextlib.ExitStack() as open_ones:
+        server = open_ones.enter_context(Server(program, TENANTS, port=port))
+
+        def without_a_server():
+            server.__exit__()
+            return b"list\n"
+
+        def with_a_new_server():
+            open_ones.enter_context(Server(program, TENANTS, port=port))
+            return b"list\n"
+
+        keys = STREAM, without_a_server, b"list\n", with_a_new_server, b"?\n", b"\\q\n"
+        seen, status = typed(port, "", *keys)
+        found = status, seen.count(b"the next line tries again"), EMPTY.rstrip() in seen
+        yield "a terminal without a server for a while", difference(found, (0, 2, True))
+        yield "a terminal that is asked", difference(b"Tab completes" in seen, True)
+    asked = threading.Event()
+
+    def nothing():
+        asked.set()
+        return b""
+
+    def listed():
+        asked.clear()
+        return b"list\n"
+
+    with Peer([LOG_IN, (FETCH, nothing)], [LOG_IN, (LIST, LIST_OF_ONE)]) as peer:
+        seen, status = typed(peer.port, "", b"fetch q\n", listed, b"quit\n", interrupts=asked)
+    found = status, b"interrupted" in seen, LIST_OF_ONE.rstrip() in seen, peer.fault
+    yield "a fetch that is interrupted", difference(found, (0, True, True, None))
+    with Server(program, TENANTS) as server:
+        keys = STREAM, b"query q Select v,\nv + 1\nFrom s\n[Now];\n", b"list\n", b"exit\n"
+        seen, status = typed(server.port, "", *keys)
+    text = b'"text":"SELECT v, v + 1 FROM s [NOW]"'
+    yield "a query of several lines", difference((status, text in seen), (0, True))
+
+
+def terminal_words_of_its_own(program):
+    """What is told of streams, whether the server answers, fewer lines, lines of standard input."""
+    with Server(program, TENANTS) as server:
+        ended = terminal(server.port, "--ping")
+        found = ended.status, ended.said, ended.written[:16]
+        yield "a ping", difference(found, (0, b"", b"a is answered in"))
+        with file_of(STREAM, QUERY, put(5, 1), put(4, 1)) as path:
+            ended = terminal(server.port, "--quiet", "--file", path)
+        wanted = BASE + LATE + b"  " + put(4, 1) + LATE_MEANS
+        yield "a quiet file", difference(ended, Ended(1, b"", wanted))
+        ended = terminal(server.port, "--quiet", "--file", "-", given=put(6, 1) + beat(8))
+        yield "lines of standard input", difference(ended, Ended(0, b"", b""))
+        keys = b"stream u room text degrees int\n", b"describe\n", b"describe x\n", b"exit\n"
+        seen, status = typed(server.port, "", *keys)
+        shown = re.sub(rb"\s+", b" ", seen)
+        found = status, b"u 0 room text degrees int" in shown, b"elsewhere) q" in shown
+        yield "streams that are described", difference(found, (0, True, True))
+        yield "no stream to describe", difference(b"no stream x" in seen, True)
+    words = subprocess.run(
+        [sys.executable, "-m", "romburik", "--version"],
+        env=environment(),
+        capture_output=True,
+        timeout=SECONDS,
+        check=True,
+    )
+    version = re.search('version = "(.*)"', (MODULE / "pyproject.toml").read_text())[1]
+    yield "a version", difference(words.stdout.decode(), f"romburik {version}\n")
+
+
+ROWS = 20_000
+
+
+def rows_of_a_file(program):
+    """Rows of comma-separated values, in one go; columns that are chosen; dates; bad rows."""
+    with Server(program, WIDE) as server, session(server) as it:
+        it.stream("s", {"host": "text", "value": "int"})
+        it.query("q", "Select Rstream(host, Count(*), Sum(value)) From s [Rows 65536] Group By host")
+        lines = (f'{at // 3},{at},"a, b"\n'.encode() for at in range(ROWS))
+        with file_of(b"time,value,host\n", *lines) as path:
+            words = ["put", "s", "--csv", path, "--at", "time"]
+            ended = terminal(server.port, *words, "--columns", "host,value", "--beat")
+            wanted = Ended(0, b"", b"%d rows were put, 0 refused\n" % ROWS)
+            yield "rows of a file", difference(ended, wanted)
+            last = (ROWS - 1) // 3
+            rows = it.fetch("q").blocks[-1].rows
+            wanted = (("a, b", ROWS, sum(range(ROWS))),)
+            yield "what was put", difference((rows, it.list().streams[0].open), (wanted, last + 1))
+            ended = terminal(server.port, *words)
+            found = ended.status, ended.said.count(b"\n"), ended.written
+            wanted = 1, 10, b"0 rows were put, %d refused\n" % ROWS
+            yield "rows in another order", difference(found, wanted)
+        it.stream("t", {"n": "text", "v": "int"})
+        it.query("r", "Select Istream(*) From t [Now]")
+        rows = b"when,n,v\n1970-01-01T00:00:09Z,7,-1\n1970-01-01 00:00:10,8,+2\n11,9,x\n"
+        with file_of(rows) as path:
+            ended = terminal(server.port, "put", "t", "--csv", path, "--at", "when", "--text", "n")
+            said = f"romburik: row 4 of {path}: invalid literal for int() with base 10: 'x'\n"
+            yield "a row that is none", difference(ended, Ended(2, said.encode(), b""))
+            ended = terminal(server.port, "put", "t", "--csv", path, "--at", "now")
+            said = f"romburik: no column of {path} is called now: when, n, v\n"
+            yield "a column that is none", difference(ended, Ended(2, said.encode(), b""))
+        it.beat("t", 20)
+        wanted = romburik.Rows(9, 9, (("7", -1),)), romburik.Rows(10, 10, (("8", 2),))
+        yield "rows before one that is none", difference(it.fetch("r").blocks, wanted)
+
+
 # ---- Texts that are refused.
+
+STREAMS = (
+    b"stream reading room text degrees int\n",
+    b"stream bound room text most int\n",
+    b"stream door room text opened int closed int\n",
+)
+# What is typed, the number of its refusal, the word that is named, and where it stands in a query's
+# text, by its first place, if it does.
+MISTAKES = (
+    ("Select * From readings", 30, "readings"),
+    ("Select * From reading r, bonds b Where r.room = b.room", 30, "bonds"),
+    ("Select * From reading Union All Select * From readin", 30, "readin"),
+    ("Select * From c.reading", 30, "c.reading"),
+    ("Select room, temperature From reading", 52, "temperature"),
+    ("Select degree From reading", 52, "degree"),
+    ("Select * From reading Where temp > 3", 52, "temp"),
+    ("Select r.degrees, x.most From reading r, bound b Where r.room = b.room", 52, "x"),
+    ("Select r.most From reading r, bound b Where r.room = b.room", 52, "r.most"),
+    ("Select Max(degress) From reading", 52, "degress"),
+    ("Select room, Max(degrees) From reading Group By rooms", 52, "rooms"),
+    ("Select * From reading [Partition By house Rows 1]", 52, "house"),
+    ("Select reading.degrees From reading r", 52, "reading.degrees"),
+    ("Select Sum(closed) From reading, bound Where degrees > most", 52, "closed"),
+    ("Select Rstream(room, Min(opend) As first) From door [Range 5] Group By room", 52, "opend"),
+    ("Select room From reading, bound", 53, "room From"),
+    ("Select degrees From reading, bound Where room = 'x'", 53, "room ="),
+    ("Select * From reading, reading", 53, "reading"),
+    ("Select * From reading r, bound r", 53, "r"),
+    ("Select Max(room) From reading, bound", 53, "room"),
+    ("Select * From reading Where room = 5", 54, "room"),
+    ("Select * From reading Where degrees = 'hot'", 54, "degrees"),
+    ("Select * From reading Where degrees > '20'", 54, "degrees"),
+    ("Select * From reading r, bound b Where r.degrees = b.room", 54, "r.degrees"),
+    ("Select Sum(room) From reading", 54, "room"),
+    ("Select room + 1 From reading", 54, "room"),
+    ("Select degrees * room From reading", 54, "room From"),
+    ("Select degrees - 'x' From reading", 54, "'x'"),
+    ("Select room, degrees From reading Group By room", 54, "degrees"),
+    ("Select degrees, Count(*) From reading", 54, "degrees"),
+    ("Select * From reading Group By room", 54, "*"),
+    ("Select room From reading Union All Select degrees From reading", 54, "degrees"),
+    ("Select room, degrees From reading Union All Select room From bound", 54, "room From bound"),
+    ("Select opened, Max(closed) From door Group By room", 54, "opened"),
+    ('put reading 1 ["hall"]', 40, "1 value"),
+    ('put reading 1 ["hall",1,2]', 40, "3 values"),
+    ('put reading 1 [1,"hall"]', 40, "room"),
+    ('put reading 1 ["hall","warm"]', 40, "degrees"),
+    ('put door 1 ["hall",1,"late"]', 40, "closed"),
+    ('put readings 1 ["hall",1]', 30, "readings"),
+    ("beat bonds 5", 30, "bonds"),
+    ("grant readings b", 30, "readings"),
+    ('{"do":"beat","stream":"reading"}', 12, "at"),
+    ('{"do":"beat","stream":"reading","at":-1}', 12, "at"),
+    ('{"do":"fetch","query":"q"}', 12, "name"),
+    ('{"do":"list","tenant":"a"}', 12, "tenant"),
+    ('{"do":"put","stream":"reading","at":1,"row":["hall",1.5]}', 12, "1.5"),
+    ('{"do":"put","stream":"reading","at":1,"row":["hall",null]}', 12, "None"),
+    ('{"do":"ack","name":"q","to":"5"}', 12, "to"),
+    ('{"do":"fetch","name":"q","until":1.0}', 12, "until"),
+)
+
+
+def mistakes_are_named(program):
+    """Lines as they are written wrong: why they are refused, with the word, and a mark below it."""
+    typed_lines = [line if line[0] in "{pbg" else "query q " + line for line, *_ in MISTAKES]
+    with Server(program, tenants("ab", hold=65536)) as server:
+        given = b"".join(STREAMS) + "".join(line + "\n" for line in typed_lines).encode()
+        ended = terminal(server.port, given=given)
+    replies = re.split("^> .*\n", ended.written.decode(), flags=re.MULTILINE)[len(STREAMS) + 1 :]
+    for (line, number, word), reply in zip(MISTAKES, replies):
+        said = reply.splitlines()[-1]
+        name = word.split(" ")[0] if line.startswith("Select") else word
+        is_named = said.startswith(f"  {number}: ") and name.split(".")[0] in said
+        yield f"the word of {line!r}", None if is_named else f"it says {reply!r}"
+        if line.startswith("Select") and is_named:
+            marked = reply.splitlines()[-2].index("^") - 2
+            places = [it.start() for it in re.finditer(rf"(?<!\w){re.escape(word)}", line)]
+            yield f"where {line!r} is wrong", None if marked in places else f"it says {reply!r}"
+    yield "how many", difference(len(replies), len(MISTAKES))
+
 
 
 def natural_texts(program):
@@ -1624,6 +1816,10 @@ CHECKS = (
     terminal_is_typed_at,
     terminal_goes_on,
     terminal_clears_a_line,
+    terminal_stays,
+    terminal_words_of_its_own,
+    rows_of_a_file,
+    mistakes_are_named,
     terminal_knows_columns,
     terminal_marks_texts,
     natural_texts,

@@ -5,14 +5,18 @@ import io
 import os
 import signal
 import sys
+import time
 from typing import NoReturn, Optional, Sequence
 
+from .bulk import Source, put_file
 from .errors import BadReply, ConnectionLost, Error, Refused
 from .owning import Copies
 from .page import Site, serve
+from .prompt import send_typed
 from .session import Session
 from .terminal import (
     AT_FAULT,
+    DONE,
     INTERRUPTED,
     NO_CONNECTION,
     REFUSED,
@@ -22,7 +26,6 @@ from .terminal import (
     send_file,
     send_piped,
     send_script,
-    send_typed,
 )
 from .watch import watch
 
@@ -31,6 +34,7 @@ what may stand behind the words:
   watch QUERY   shows the query's newest state as it changes, and acknowledges nothing
   page          serves a page of the tenant's queries with their plots to a browser of this
                 machine, and acknowledges nothing
+  put STREAM    puts the rows of a file of comma-separated values, as --csv and --at say
 
 The key is taken from --key-file, else from the environment variable CQL_KEY, else it is asked for
 and not shown.
@@ -43,6 +47,9 @@ statuses:
   4    there was no connection, or it was lost
   130  it was interrupted
 """
+
+
+VERSION = "0.1.0"
 
 
 class _LoginRefused(Error):
@@ -91,19 +98,45 @@ def _run(given: argparse.Namespace) -> int:
             lambda tenant, key: _session(given, tenant, key), given.table, given.script
         )
     with _session(given, given.tenant, _key(given)) as session:
-        if given.view:
+        if given.view[:1] in (["watch"], ["page"]):
             signal.signal(signal.SIGTERM, _interrupt)
         if given.view[:1] == ["watch"]:
             watch(session, given.view[1], {}, given.table, given.copies)
         if given.view == ["page"]:
             serve(session, Site(given.listen, given.epoch, given.token_file, given.copies))
+        if given.view[:1] == ["put"]:
+            return _put(session, given)
+        if given.ping:
+            return _ping(session)
         if given.follow is not None:
             return follow(session, given.table, given.follow)
         if given.file is not None:
-            return send_file(session, given.table, given.file)
+            return send_file(session, given.table, given.file, given.quiet)
         if sys.stdin.isatty():
             return send_typed(session, given.table)
-        return send_piped(session, given.table)
+        return send_piped(session, given.table, given.quiet)
+
+
+def _put(session: Session, given: argparse.Namespace) -> int:
+    source = Source(
+        given.csv,
+        given.at,
+        given.columns.split(",") if given.columns else None,
+        given.text,
+        given.epoch or "s",
+        given.beat,
+    )
+    done = put_file(session, given.view[1], source, _say)
+    print(f"{done.accepted} rows were put, {done.refused} refused", flush=True)
+    return REFUSED if done.refused else DONE
+
+
+def _ping(session: Session) -> int:
+    """Tells that the server is there and takes this tenant."""
+    started = time.monotonic()
+    session.list()
+    print(f"{session.tenant} is answered in {1e3 * (time.monotonic() - started):.1f} ms")
+    return DONE
 
 
 def _port(word: str) -> int:
@@ -134,8 +167,12 @@ def _parser() -> argparse.ArgumentParser:
         allow_abbrev=False,
     )
     parser.add_argument(
-        "view", nargs="*", metavar="watch QUERY | page", help="what is shown, without being taken"
+        "view",
+        nargs="*",
+        metavar="watch QUERY | page | put STREAM",
+        help="what is shown, without being taken, or put",
     )
+    parser.add_argument("--version", action="version", version=f"romburik {VERSION}")
     parser.add_argument("--port", type=_port, required=True)
     parser.add_argument("--tenant", help="who logs in; asked for but with --script")
     parser.add_argument("--host", default="127.0.0.1")
@@ -144,7 +181,7 @@ def _parser() -> argparse.ArgumentParser:
         "--timeout", type=_seconds, default=60.0, help="seconds to wait for the server (60)"
     )
     what = parser.add_mutually_exclusive_group()
-    what.add_argument("--file", metavar="FILE", help="lines to send")
+    what.add_argument("--file", metavar="FILE", help="lines to send; -: those of standard input")
     what.add_argument(
         "--script",
         metavar="FILE",
@@ -156,6 +193,15 @@ def _parser() -> argparse.ArgumentParser:
         help="takes its blocks: shows them as they come and ACKNOWLEDGES them, so that no other "
         "consumer is told them; watch acknowledges nothing",
     )
+    what.add_argument("--ping", action="store_true", help="tells whether the server answers")
+    parser.add_argument(
+        "--quiet", action="store_true", help="tells no lines that are sent, and no plain ok"
+    )
+    _add_words_of_views(parser)
+    return parser
+
+
+def _add_words_of_views(parser: argparse.ArgumentParser) -> None:
     parser.add_argument("--table", action="store_true", help="blocks and lists as aligned columns")
     copies = parser.add_mutually_exclusive_group()
     copies.add_argument(
@@ -178,14 +224,32 @@ def _parser() -> argparse.ArgumentParser:
         "--listen", type=_any_port, help="the page's port of 127.0.0.1 (8000; 0: any that is free)"
     )
     parser.add_argument(
-        "--epoch", choices=("s", "ms"), help="the page shows instants as times of day"
+        "--epoch",
+        choices=("s", "ms"),
+        help="instants are seconds or milliseconds since 1970: the page shows times of day, and put "
+        "takes dates and times",
     )
     parser.add_argument(
         "--token-file",
         metavar="FILE",
         help="keeps the random part of the page's address, which then stays over new starts",
     )
-    return parser
+    rows = parser.add_argument_group("put STREAM")
+    rows.add_argument("--csv", metavar="FILE", help="the rows, below a line of the columns' names")
+    rows.add_argument(
+        "--at", metavar="COLUMN", help="the column of the instants, which the rows don't have"
+    )
+    rows.add_argument("--columns", metavar="A,B,..", help="the rows' columns (all others)")
+    rows.add_argument(
+        "--text",
+        metavar="COLUMN",
+        action="append",
+        default=[],
+        help="a column of texts, also where its first value is a number",
+    )
+    rows.add_argument(
+        "--beat", action="store_true", help="says at the end that no more rows come up to there"
+    )
 
 
 def _given(words: Optional[Sequence[str]]) -> argparse.Namespace:
@@ -194,17 +258,20 @@ def _given(words: Optional[Sequence[str]]) -> argparse.Namespace:
     given = parser.parse_intermixed_args(words)
     is_page = given.view == ["page"]
     is_watch = given.view[:1] == ["watch"] and len(given.view) == 2
-    if given.view and not (is_page or is_watch):
-        parser.error("behind the words stands nothing, watch and a query's name, or page")
-    if given.view and (given.file or given.follow or given.script):
-        parser.error("watch and page go with no --file, --script or --follow")
+    is_put = given.view[:1] == ["put"] and len(given.view) == 2
+    if given.view and not (is_page or is_watch or is_put):
+        parser.error("behind the words stands nothing, watch QUERY, page, or put STREAM")
+    if is_put != (given.csv is not None) or is_put != (given.at is not None):
+        parser.error("put STREAM takes --csv and --at, and nothing else does")
+    if given.view and (given.file or given.follow or given.script or given.ping):
+        parser.error("watch, page and put go with no --file, --script, --follow or --ping")
     if not is_page and (given.listen is not None or given.epoch or given.token_file):
         parser.error("--listen, --epoch and --token-file go with page")
     if given.script is not None and (given.tenant is not None or given.key_file is not None):
         parser.error("--script has its tenants and keys, and goes with no --tenant or --key-file")
     if given.script is None and given.tenant is None:
         parser.error("--tenant is needed")
-    if given.copies is not None and not given.view:
+    if given.copies is not None and not (is_page or is_watch):
         parser.error("--own and --shared go with watch and page")
     given.copies = given.copies or Copies.WHERE_NEEDED
     given.listen = 8000 if given.listen is None else given.listen

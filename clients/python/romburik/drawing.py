@@ -190,7 +190,9 @@ class Drawing:
         candidates = _candidates(steps[-1:] if is_now else steps, keys)
         if candidates:
             row = next(iter(candidates.values()))
-            self._columns = [at for at, it in enumerate(row) if isinstance(it, int) and at not in keys]
+            self._columns = [
+                at for at, it in enumerate(row) if isinstance(it, int) and at not in keys
+            ]
         chosen = self._chosen(candidates, has_lines)
         gone = [self._lines.pop(key).number for key in [*self._lines] if key not in chosen]
         old = [*self._lines]
@@ -219,7 +221,9 @@ class Drawing:
         self._undrawn = max(0, len(self._seen if has_lines else fitting) - MOST_LINES)
         if self._choice.order == "greatest" and self._columns:
             rank = self._columns[0]
-            return sorted(fitting, key=lambda key: _number(candidates[key], rank))[: -MOST_LINES - 1 : -1]
+            return sorted(fitting, key=lambda key: _number(candidates[key], rank))[
+                : -MOST_LINES - 1 : -1
+            ]
         if self._choice.order == "newest":
             return [*self._seen][: -MOST_LINES - 1 : -1]
         return [*self._lines, *(key for key in fitting if key not in self._lines)][:MOST_LINES]

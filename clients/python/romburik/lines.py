@@ -91,6 +91,36 @@ class Connection:
         except BaseException as error:
             raise self._broken(error)
 
+    def send_many(self, lines: bytes, count: int) -> None:
+        """Takes so many lines with their line feeds, as `send` does."""
+        self._unsent += lines
+        self.owed += count
+        try:
+            self._write()
+        except BaseException as error:
+            raise self._broken(error)
+
+    def receive_many(self, count: int) -> bytes:
+        """The next so many replies, with their line feeds."""
+        there, looked = 0, 0
+        try:
+            while True:
+                there += self._unread.count(b"\n", looked)
+                looked = len(self._unread)
+                if there >= count:
+                    break
+                if not self._exchange(self.timeout):
+                    raise ConnectionLost(f"nothing came for {self.timeout} seconds")
+        except BaseException as error:
+            raise self._broken(error)
+        end = looked
+        for _ in range(there - count + 1):
+            end = self._unread.rfind(b"\n", 0, end)
+        replies = bytes(self._unread[: end + 1])
+        del self._unread[: end + 1]
+        self.owed -= count
+        return replies
+
     def receive(self) -> bytes:
         """The next reply, without its line feed."""
         looked = 0

@@ -189,6 +189,28 @@ class Session:
                 while connection.owed:
                     connection.receive()
 
+    def ask_batches(
+        self, batches: Iterable[Tuple[range, bytes]], window: int = 4
+    ) -> Iterator[Tuple[range, bytes]]:
+        """The replies to batches of lines, each of as many lines as its range has numbers, with their
+        line feeds; up to `window` batches are under way at once. Where it is broken off, the
+        session is closed."""
+        connection = self._free_connection()
+        under_way: Deque[range] = collections.deque()
+        try:
+            for numbers, lines in batches:
+                under_way.append(numbers)
+                connection.send_many(lines, len(numbers))
+                if len(under_way) >= window:
+                    numbers = under_way.popleft()
+                    yield numbers, connection.receive_many(len(numbers))
+            while under_way:
+                numbers = under_way.popleft()
+                yield numbers, connection.receive_many(len(numbers))
+        finally:
+            if connection.owed:
+                connection.close()
+
     def call(self, command: Command) -> Reply:
         """The reply to a command, given by the keys of its line."""
         outcome = self._outcome(self.ask(line_of(command)))

@@ -5,6 +5,7 @@ import unicodedata
 from typing import Deque, Dict, FrozenSet, Iterable, Iterator, List, Optional, Sequence, Tuple
 
 from .columns import Columns
+from .looking import final_of
 from .told import Answer, Block, Changes, Fault, Listing, Row, Rows, Value
 
 BARS = "▁▂▃▄▅▆▇█"
@@ -90,14 +91,19 @@ def answer_lines(answer: Answer, names: Optional[Sequence[str]]) -> List[str]:
 
 
 def listing_lines(listing: Listing, known: Columns) -> List[str]:
-    """Queries and streams, these with their columns, as far as they are known."""
-    queries = ((it.name, it.base, it.next, it.text) for it in listing.queries)
+    """Queries and streams, these with their columns, as far as they are known. `behind` is how many
+    instants are final that a query's consumer hasn't acknowledged."""
+    queries = []
+    for query in listing.queries:
+        final = final_of(listing, query)
+        behind: Value = "" if final is None else max(0, final - query.next)
+        queries.append((query.name, query.base, query.next, behind, query.text))
     streams = []
     for stream in (*listing.streams, *listing.readable):
         columns = stream.columns or known.get(stream.name) or ()
         streams.append((stream.name, stream.open, " ".join(columns)))
     return [
-        *Table().lines([("query", "base", "next", "text"), *queries]),
+        *Table().lines([("query", "base", "next", "behind", "text"), *queries]),
         *Table().lines([("stream", "open", "columns"), *streams]),
     ]
 

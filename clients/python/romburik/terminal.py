@@ -1,14 +1,15 @@
 """The terminal: lines that are typed, piped or of a file, each with its reply."""
 import contextlib
 import json
-import os
+import re
 import sys
 from dataclasses import dataclass
-from typing import Callable, Dict, Iterator, List, Mapping, Optional, Sequence, Tuple
+from typing import Callable, Dict, Iterator, List, Mapping, Optional, Sequence, Set, Tuple
 
 from .columns import names_of
 from .errors import BadQuery, ConnectionLost, Error, Refused
 from .lines import Command, checked, is_blank, line_of
+from .mistakes import mistake
 from .reasons import marked
 from .session import Session
 from .tables import (
@@ -21,7 +22,6 @@ from .tables import (
     width,
 )
 from .told import Reply, answer_of, listing_of, object_of, read
-from .watch import watch
 
 DONE, REFUSED, AT_FAULT, WRONG_LOGIN, NO_CONNECTION, INTERRUPTED = 0, 1, 2, 3, 4, 130
 
@@ -48,7 +48,7 @@ class _Form:
     least: int
 
 
-_FORMS = {
+FORMS = {
     "stream": _Form("NAME COLUMN TYPE [COLUMN TYPE ..]", {"name": _word, "columns": _pairs}, 2),
     "grant": _Form(
         "STREAM TENANT [COLUMN ..]", {"stream": _word, "to": _word, "columns": str.split}, 2
@@ -64,18 +64,23 @@ _FORMS = {
 }
 HELP = "\n".join(
     (
-        *(f"{do} {form.text}".rstrip() for do, form in _FORMS.items()),
+        *(f"{do} {form.text}".rstrip() for do, form in FORMS.items()),
         "watch QUERY",
+        "describe [STREAM]",
         'A ROW is a list such as [1,"x"], a TYPE is int or text. A line that begins with { is sent',
-        "as it is. watch shows a query's newest state and acknowledges nothing; Ctrl-C ends it, and",
-        "clears a line that is being typed. Tab completes commands and names; exit ends the session.",
+        "as it is. watch shows a query's newest state, describe what is known of streams. Ctrl-C ends",
+        "a watch or a fetch, and clears a line that is being typed. The text of a query may go over",
+        "several lines up to a ; where its first line isn't whole. Tab completes commands and names;",
+        "? tells this; exit, quit or \\q ends the session.",
     )
 )
+ASKS_FOR_HELP, ENDS = ("help", "?"), ("exit", "quit", "\\q")
 CQL_WORDS = (
     "All And As By Count Distinct Dstream Except From Group Istream Max Min Not Now Or Partition "
     "Range Rows Rstream Select Slide Sum Unbounded Union Where"
 ).split()
-_CHANGE_NOTHING = "list", "fetch"
+CHANGE_NOTHING = "list", "fetch"
+_NAMES_OF_STREAMS = re.compile(rb'"refused":(?:30|52|53|54)\b')
 
 
 class AtFault(Error):
@@ -85,9 +90,9 @@ class AtFault(Error):
 def command_of(line: str) -> Command:
     """The command that a typed line says, as `put s 5 [1]` does; ValueError where it says none."""
     do, _, rest = line.strip().partition(" ")
-    form = _FORMS.get(do)
+    form = FORMS.get(do)
     if form is None:
-        raise ValueError(f"there is no command {do}, but {', '.join(_FORMS)}")
+        raise ValueError(f"there is no command {do}, but {', '.join(FORMS)}")
     words = rest.split(None, max(0, len(form.keys) - 1))
     if not form.least <= len(words) <= len(form.keys):
         raise ValueError(f"the form is: {do} {form.text}")
@@ -105,7 +110,7 @@ def sent_of(line: bytes) -> bytes:
     return line_of(command_of(line.decode()))
 
 
-def _keys(line: bytes) -> Mapping[str, object]:
+def keys_of_line(line: bytes) -> Mapping[str, object]:
     """The keys of a line that is sent, none where it isn't an object."""
     with contextlib.suppress(ValueError, RecursionError):
         return object_of(line)
@@ -113,22 +118,26 @@ def _keys(line: bytes) -> Mapping[str, object]:
 
 
 class Known:
-    """What a terminal knows beyond what a list tells: the columns of streams that were made here,
-    and the texts of queries."""
+    """What a terminal knows beyond what a list tells: the columns of streams that were made here
+    with their types, and the texts of queries."""
 
     def __init__(self) -> None:
         self.columns: Dict[str, Sequence[str]] = {}
+        self.types: Dict[str, Dict[str, str]] = {}
+        self.streams: Set[str] = set()
         self.texts: Dict[str, str] = {}
         self.has_any = False
 
     def note(self, sent: bytes, told: Reply) -> None:
         """Takes note of a line and its reply."""
-        keys = _keys(sent)
+        keys = keys_of_line(sent)
         do, name = keys.get("do"), str(keys.get("name"))
         if "queries" in told:
-            self._note_listing(told)
+            self.note_listing(told)
         elif do == "stream" and "ok" in told:
-            self.columns[name] = [column for column, _ in keys["columns"]]  # type: ignore
+            self.types[name] = dict(keys["columns"])  # type: ignore
+            self.columns[name] = [*self.types[name]]
+            self.streams.add(name)
             self.has_any = True
         elif do == "query" and "base" in told:
             self.texts[name] = str(keys["text"])
@@ -136,34 +145,51 @@ class Known:
         elif do == "drop" and "ok" in told:
             self.texts.pop(name, None)
 
-    def _note_listing(self, told: Reply) -> None:
+    def note_listing(self, told: Reply) -> None:
+        """Takes note of a listing."""
         listing = read(listing_of, told)
         self.texts = {it.name: it.text for it in listing.queries}
         streams = (*listing.streams, *listing.readable)
+        self.streams = {it.name for it in streams}
         self.has_any = bool(streams or listing.queries)
         self.columns.update({it.name: it.columns for it in streams if it.columns})
 
     def forget(self) -> None:
         """Nothing is known any more."""
         self.columns.clear()
+        self.types.clear()
+        self.streams.clear()
         self.texts.clear()
         self.has_any = False
 
     def names(self, sent: bytes) -> Optional[Sequence[str]]:
         """The names of the columns that a fetch tells, where they are known."""
-        text = self.texts.get(str(_keys(sent).get("name")))
+        text = self.texts.get(str(keys_of_line(sent).get("name")))
         return None if text is None else names_of(text, self.columns)
 
 
-def _why(refusal: Refused, sent: bytes) -> Iterator[str]:
-    """What a refusal means, with the line of a query's text where it is refused."""
-    if not isinstance(refusal, BadQuery):
-        yield f"{refusal.number}: {refusal.meaning}"
-        return
-    refusal.text = str(_keys(sent).get("text", ""))
-    line, start = marked(refusal.text, refusal.at)
+def _mark(text: str, at: int) -> Iterator[str]:
+    """The line of a text that has a byte, with a mark below that."""
+    line, start = marked(text, at)
     yield printable(line)
     yield " " * width(printable(start)) + "^"
+
+
+def _why(refusal: Refused, sent: bytes, known: Known) -> Iterator[str]:
+    """What a refusal means, with the line of a query's text where it is refused, and the word that
+    is at fault as far as what is known tells it."""
+    keys = keys_of_line(sent)
+    if not isinstance(refusal, BadQuery):
+        found = mistake(refusal.number, keys, known.columns, known.types, known.streams)
+        if found is None:
+            yield f"{refusal.number}: {refusal.meaning}"
+            return
+        if found.at is not None:
+            yield from _mark(str(keys["text"]), found.at)
+        yield f"{refusal.number}: {printable(found.why)}"
+        return
+    refusal.text = str(keys.get("text", ""))
+    yield from _mark(refusal.text, refusal.at)
     reason = refusal.reason or "docs/LANGUAGE.md has the grammar"
     yield f"{refusal.number}: no query from byte {refusal.at} on: {printable(reason)}"
 
@@ -171,11 +197,12 @@ def _why(refusal: Refused, sent: bytes) -> Iterator[str]:
 class Terminal:
     """Shows lines with their replies."""
 
-    def __init__(self, has_tables: bool, has_echo: bool) -> None:
+    def __init__(self, has_tables: bool, has_echo: bool, is_quiet: bool = False) -> None:
         self.known = Known()
         self.status = DONE
         self._has_tables = has_tables
-        self._has_echo = has_echo
+        self._has_echo = has_echo and not is_quiet
+        self._is_quiet = is_quiet
 
     def ask(self, session: Session, line: bytes) -> None:
         """Sends a line, unless it says no command."""
@@ -184,7 +211,11 @@ class Terminal:
         except ValueError as error:
             self.refuse(line, str(error))
         else:
-            self.show(line, sent, session.ask(sent))
+            reply = session.ask(sent)
+            if _NAMES_OF_STREAMS.search(reply):
+                # what the refusal is told by
+                self.known.note_listing(session.call({"do": "list"}))
+            self.show(line, sent, reply)
 
     def show(self, line: bytes, sent: bytes, reply: bytes) -> None:
         """Shows a line with its reply and, of a refusal, with what it means."""
@@ -197,11 +228,13 @@ class Terminal:
         elif self._has_tables and "streams" in told:
             lines = listing_lines(read(listing_of, told), self.known.columns)
             print(*lines, sep="\n", flush=True)
-        else:
+        elif not (self._is_quiet and told == {"ok": True}):
             sign = "< " if self._has_echo else ""
             print(sign + printable(reply.decode(errors="replace")), flush=True)
         if "refused" in told:
-            for why in _why(read(Refused.of, told), sent):
+            if self._is_quiet:
+                self._say(printable(line.decode(errors="replace")))
+            for why in _why(read(Refused.of, told), sent, self.known):
                 self._say(why)
             self.status = REFUSED
 
@@ -219,176 +252,18 @@ class Terminal:
         print(f"  {why}", flush=True)
 
 
-# ---- Typed lines.
-
-
-class _Completer:
-    """What a typed word may become: a command, a name that the server knows, a column of a stream
-    that was made here or granted by its columns, or a word of CQL."""
-
-    def __init__(
-        self, session: Session, known: Known, words_before: Callable[[], Sequence[str]]
-    ) -> None:
-        self._session = session
-        self._known = known
-        self._words_before = words_before
-        self._found: List[str] = []
-
-    def __call__(self, text: str, state: int) -> Optional[str]:
-        if state == 0:
-            names = self._names(self._words_before())
-            self._found = [it + " " for it in names if it.lower().startswith(text.lower())]
-        return self._found[state] if state < len(self._found) else None
-
-    def _names(self, before: Sequence[str]) -> Sequence[str]:
-        if not before:
-            return (*_FORMS, "watch", "help", "exit")
-        if before[0] == "stream" and len(before) > 2:
-            return ("int", "text") if len(before) % 2 else ()
-        if before[0] == "grant" and len(before) > 2:
-            return self._known.columns.get(before[1], ())
-        try:
-            listing = self._session.list()
-        except Error:
-            return ()
-        streams = [it.name for it in listing.streams]
-        if before[0] == "query" and len(before) > 1:
-            readable = [it.name for it in listing.readable]
-            return (*CQL_WORDS, *streams, *readable, *self._columns())
-        if len(before) > 1:
-            return ()
-        if before[0] in ("grant", "revoke", "put", "beat"):
-            return streams
-        is_of_query = before[0] in ("fetch", "ack", "drop", "watch")
-        return [it.name for it in listing.queries] if is_of_query else ()
-
-    def _columns(self) -> Sequence[str]:
-        return sorted({column for columns in self._known.columns.values() for column in columns})
-
-
-@contextlib.contextmanager
-def _line_editing(session: Session, known: Known) -> Iterator[None]:
-    """Gives typed lines a history, kept in a file, and completion, where there is readline."""
-    try:
-        import readline
-    except ImportError:
-        yield
-        return
-    history = os.path.expanduser(os.environ.get("ROMBURIK_HISTORY", "~/.romburik_history"))
-
-    def words_before() -> Sequence[str]:
-        return readline.get_line_buffer()[: readline.get_begidx()].split()
-
-    readline.set_completer(_Completer(session, known, words_before))
-    readline.set_completer_delims(" \t,([")
-    is_libedit = "libedit" in (readline.__doc__ or "")
-    readline.parse_and_bind("bind ^I rl_complete" if is_libedit else "tab: complete")
-    if history:
-        with contextlib.suppress(OSError):
-            readline.read_history_file(history)
-        readline.set_history_length(1000)
-    try:
-        yield
-    finally:
-        if history:
-            with contextlib.suppress(OSError):
-                readline.write_history_file(history)
-
-
-class _Typed:
-    """A session at a terminal, where lines are typed."""
-
-    def __init__(self, session: Session, has_tables: bool) -> None:
-        self._session = session
-        self._has_tables = has_tables
-        self._terminal = Terminal(has_tables, has_echo=False)
-
-    def run(self) -> int:
-        """Asks for one line after another, and sends each."""
-        with _line_editing(self._session, self._terminal.known):
-            while True:
-                try:
-                    line = input(f"{self._session.tenant}> ").strip()
-                except KeyboardInterrupt:
-                    print()
-                    continue
-                except EOFError:
-                    print()
-                    return DONE
-                if line == "exit":
-                    return DONE
-                self._take(line)
-
-    def _take(self, line: str) -> None:
-        do, _, rest = line.partition(" ")
-        if line == "help":
-            print(HELP)
-        elif do == "watch":
-            self._watch(rest.strip())
-        elif line:
-            self._ask(line.encode(errors="surrogateescape"))
-
-    def _watch(self, query: str) -> None:
-        if len(query.split()) != 1:
-            print("  the form is: watch QUERY")
-            return
-        try:
-            watch(self._session, query, self._terminal.known.columns, self._has_tables)
-        except KeyboardInterrupt:
-            print()
-        except Refused as refusal:
-            print(f"  {refusal}")
-
-    def _ask(self, line: bytes) -> None:
-        """Sends a line. Where the connection was lost it is made anew, since a server may end a
-        session that says nothing for long; and what changes nothing is sent again."""
-        terminal = self._terminal
-        try:
-            if self._session.is_open:
-                terminal.ask(self._session, line)
-                return
-            self._resume()
-        except ConnectionLost as lost:
-            self._resume()
-            if not _changes_nothing(line):
-                print(f"  {lost}, and was made anew; the line may have been done")
-                return
-        terminal.ask(self._session, line)
-
-    def _resume(self) -> None:
-        """Connects anew, and says where nothing stands any more that was seen before."""
-        self._session.connect()
-        known = self._terminal.known
-        if known.has_any:
-            listing = self._session.list()
-            if not (listing.streams or listing.readable or listing.queries):
-                known.forget()
-                print("  the connection was made anew; nothing stands there any more, as behind a")
-                print("  new start of the server: make streams and queries, and put rows, again")
-
-
-def _changes_nothing(line: bytes) -> bool:
-    with contextlib.suppress(ValueError):
-        return _keys(sent_of(line)).get("do") in _CHANGE_NOTHING
-    return False
-
-
-def send_typed(session: Session, has_tables: bool) -> int:
-    """Sends what is typed, until it ends."""
-    return _Typed(session, has_tables).run()
-
-
 # ---- Lines of a pipe and of files.
 
 
-def send_piped(session: Session, has_tables: bool) -> int:
+def send_piped(session: Session, has_tables: bool, is_quiet: bool = False) -> int:
     """Sends each line of standard input once the one before it has its reply."""
-    terminal = Terminal(has_tables, has_echo=True)
+    terminal = Terminal(has_tables, True, is_quiet)
     for line in sys.stdin.buffer:
         line = line.rstrip(b"\n")
-        if line.strip() == b"exit":
+        word = line.strip().decode(errors="replace")
+        if word in ENDS:
             break
-        if line.strip() == b"help":
+        if word in ASKS_FOR_HELP:
             print(HELP, flush=True)
         elif not is_blank(line):
             terminal.ask(session, line)
@@ -396,15 +271,19 @@ def send_piped(session: Session, has_tables: bool) -> int:
 
 
 def _lines_of(path: str) -> Iterator[Tuple[int, bytes]]:
-    """The lines of a file that aren't blank, each behind its number."""
-    with open(path, "rb") as file:
-        lines = file.read().split(b"\n")
+    """The lines of a file, or of standard input by the name -, that aren't blank, each behind its
+    number."""
+    if path == "-":
+        lines = sys.stdin.buffer.read().split(b"\n")
+    else:
+        with open(path, "rb") as file:
+            lines = file.read().split(b"\n")
     for number, line in enumerate(lines, start=1):
         if not is_blank(line):
             yield number, line
 
 
-def send_file(session: Session, has_tables: bool, path: str) -> int:
+def send_file(session: Session, has_tables: bool, path: str, is_quiet: bool = False) -> int:
     """Sends the lines of a file, many of them under way at once."""
     shown, sent = [], []
     for number, line in _lines_of(path):
@@ -413,7 +292,7 @@ def send_file(session: Session, has_tables: bool, path: str) -> int:
         except ValueError as error:
             raise AtFault(f"line {number} of {path}: {error}") from error
         shown.append(line)
-    terminal = Terminal(has_tables, has_echo=True)
+    terminal = Terminal(has_tables, True, is_quiet)
     for line, one, reply in zip(shown, sent, session.ask_lines(sent)):
         terminal.show(line, one, reply)
     return terminal.status
@@ -429,7 +308,7 @@ def _tenants(line: bytes) -> Dict[str, str]:
 
 def _addressed(line: bytes, tenants: Mapping[str, str]) -> Tuple[str, bytes]:
     """The tenant of a script's line, and the line as its session sends it."""
-    command = dict(_keys(line))
+    command = dict(keys_of_line(line))
     name = command.pop("tenant", None)
     if not isinstance(name, str) or name not in tenants:
         raise ValueError("the line names no tenant of the script's first line, and isn't sent")

@@ -170,14 +170,20 @@ def _batches(lines: Iterator[Tuple[int, int, str]], done: Done) -> Iterator[Tupl
     """Batches of lines behind their numbers in the file."""
     batch: List[str] = []
     first = 2
-    for number, instant, line in lines:
-        batch.append(line)
-        done.last = instant
-        if len(batch) == BATCH:
-            yield range(first, number + 1), "".join(batch).encode()
-            first, batch = number + 1, []
+    bad: Optional[BadFile] = None
+    try:
+        for number, instant, line in lines:
+            batch.append(line)
+            done.last = instant
+            if len(batch) == BATCH:
+                yield range(first, number + 1), "".join(batch).encode()
+                first, batch = number + 1, []
+    except BadFile as error:
+        bad = error
     if batch:
         yield range(first, first + len(batch)), "".join(batch).encode()
+    if bad:
+        raise bad
 
 
 def _count(done: Done, numbers: range, replies: bytes, say: Callable[[str], None]) -> None:

@@ -102,6 +102,8 @@ class Connection:
 
     def receive_many(self, count: int) -> bytes:
         """The next so many replies, with their line feeds."""
+        if count == 0:
+            return b""
         there, looked = 0, 0
         try:
             while True:

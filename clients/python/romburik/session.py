@@ -194,7 +194,7 @@ class Session:
     ) -> Iterator[Tuple[range, bytes]]:
         """The replies to batches of lines, each of as many lines as its range has numbers, with their
         line feeds; up to `window` batches are under way at once. Where it is broken off, the
-        session is closed."""
+        replies to what was sent are awaited."""
         connection = self._free_connection()
         under_way: Deque[range] = collections.deque()
         try:
@@ -208,8 +208,8 @@ class Session:
                 numbers = under_way.popleft()
                 yield numbers, connection.receive_many(len(numbers))
         finally:
-            if connection.owed:
-                connection.close()
+            with contextlib.suppress(ConnectionLost):
+                connection.receive_many(connection.owed)
 
     def call(self, command: Command) -> Reply:
         """The reply to a command, given by the keys of its line."""

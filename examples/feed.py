@@ -2,7 +2,7 @@
 """Puts the lines of a log, and puts them again where a cqld was started anew.
 
 usage: examples/feed.py --port N --tenant NAME --setup FILE --log FILE --offsets FOLDER
-           [--ahead ROWS] [--reach TICKS] [--poll SECONDS]
+           [--ahead ROWS] [--reach TICKS] [--scale N] [--poll SECONDS]
 
 A cqld keeps nothing when it stops. What lasts stands in front of it, here as two files of commands,
 a line of JSON each, as the server takes them: the setup with streams, grants and queries, and the
@@ -21,10 +21,15 @@ is final no further. So no query is overrun where the quota `hold` is as large a
 rows and those together: each query needs a consumer, and each stream lines in the log that go on,
 heartbeats if no rows.
 
-A connection may be lost while the server goes on. Then the times that the streams still take say
-which lines came in; where they fit two lines of the log, as with several rows at one instant, the
-feeder ends rather than put a row twice or leave one out. A new start of the server sets that
-right.
+A connection may be lost, or the feeder be killed, while the server goes on. Then the times that the
+streams still take say which lines came in. Where a stream has several rows at one instant they don't
+say which of these: the feeder then ends rather than put a row twice or leave one out, and a new start
+of the server sets that right. So let it put at most one row of a stream an instant, by --scale N: the
+row that is the i-th of its stream at `at` is put at at * N + i, with i from 1 and below N, and a
+heartbeat of `at` at at * N + N - 1. Lengths in the queries' texts are then N times as long, such as
+[Range 6000] for 60 ticks by --scale 100. With it the feeder goes on after any kill. Before it asks for
+the times it waits until they stand still, since the server may be about to take lines that were sent
+before the kill.
 
 What it waits for, a server or a slot at one, it says on standard error within five seconds. The
 key is taken from the environment variable CQL_KEY. The feeder runs until it is interrupted. The
@@ -51,11 +56,13 @@ import os
 import pathlib
 import sys
 import time
-from typing import Any, Deque, Dict, Iterator, Optional, Sequence, Tuple
+from typing import Any, Deque, Dict, Iterator, Optional, Sequence, Set, Tuple
 
 sys.path.append(str(pathlib.Path(__file__).resolve().parent.parent / "clients/python"))
 import romburik
 from romburik import Session
+from romburik.columns import inputs_of
+from romburik.looking import final_of
 
 Line = Dict[str, Any]
 
@@ -68,17 +75,42 @@ class CannotGoOn(Exception):
     """The feeder ends, since what it did next could be wrong."""
 
 
+class Scale:
+    """Gives each row of a stream an instant of its own."""
+
+    def __init__(self, scale: int) -> None:
+        self._scale = scale
+        self._rows: Dict[str, Tuple[int, int]] = {}
+
+    def line(self, line: Line) -> Line:
+        """A line as it is put, of lines that come in the log's order."""
+        if self._scale == 1:
+            return line
+        stream, at = line["stream"], line["at"]
+        if line["do"] == "beat":
+            return {**line, "at": at * self._scale + self._scale - 1}
+        last, count = self._rows.get(stream, (-1, 0))
+        count = count + 1 if last == at else 1
+        if count >= self._scale:
+            raise CannotGoOn(f"{stream} has {count} rows at {at}, and --scale {self._scale} less")
+        self._rows[stream] = at, count
+        return {**line, "at": at * self._scale + count}
+
+
 class Log:
     """The lines of a file that are whole, numbered from 0."""
 
-    def __init__(self, path: str) -> None:
+    def __init__(self, path: str, scale: int) -> None:
         self._file = open(path, "rb")
+        self._width = scale
+        self._scale = Scale(scale)
         self._next = 0
 
     def lines(self, start: int) -> Iterator[Line]:
         """The lines from one on that are there so far."""
         if start < self._next:
             self._file.seek(0)
+            self._scale = Scale(self._width)
             self._next = 0
         while True:
             line = self._file.readline()
@@ -86,8 +118,9 @@ class Log:
                 self._file.seek(-len(line), os.SEEK_CUR)
                 return
             self._next += 1
+            read = self._scale.line(self._read(line))
             if self._next > start:
-                yield self._read(line)
+                yield read
 
     def _read(self, line: bytes) -> Line:
         with contextlib.suppress(ValueError):
@@ -98,12 +131,16 @@ class Log:
         raise CannotGoOn(f"line {self._next} of the log is no put or heartbeat: {line!r:.100}")
 
 
+SETTLED = 0.3
+"""Seconds for which the streams' times stand still before they are relied on."""
+
+
 class Feeder:
     """What is known beyond one connection."""
 
     def __init__(self, words: argparse.Namespace) -> None:
         self._words = words
-        self._log = Log(words.log)
+        self._log = Log(words.log, words.scale)
         with open(words.setup, encoding="utf-8") as setup:
             self._setup = [json.loads(line) for line in setup if line.strip()]
         # how many lines of the log were answered, and how many were sent, if that is known
@@ -111,6 +148,8 @@ class Feeder:
         self._sent: Optional[int] = None
         # up to which line refusals were told
         self._told = 0
+        # the streams that lines of the log name
+        self._streams: Set[str] = set()
         # the times of the last rows, without those that all consumers have taken
         self._waiting: Deque[int] = collections.deque(maxlen=words.ahead)
 
@@ -146,7 +185,10 @@ class Feeder:
         self._waiting.clear()
         if not is_new:
             lines = itertools.islice(self._log.lines(0), self._answered)
-            self._waiting.extend(line["at"] for line in lines if line["do"] == "put")
+            for line in lines:
+                self._streams.add(line["stream"])
+                if line["do"] == "put":
+                    self._waiting.append(line["at"])
 
     def _first_line(self) -> int:
         """The first line that the slowest consumer's windows may still look at."""
@@ -159,18 +201,31 @@ class Feeder:
 
     def _line_reached(self, session: Session) -> int:
         """The line behind those that came in, told by the times that the streams still take."""
-        told = {it.name: it.open for it in session.list().streams}
+        told = self._settled(session)
+        lines = [*itertools.islice(self._log.lines(0), self._sent)]
+        told = {name: told.get(name, 0) for name in {line["stream"] for line in lines} or told}
         opens = dict.fromkeys(told, 0)
         fits = [0] if opens == told and self._answered == 0 else []
-        for number, line in enumerate(itertools.islice(self._log.lines(0), self._sent), start=1):
+        for number, line in enumerate(lines, start=1):
             stream = line["stream"]
-            if stream in opens:
-                opens[stream] = max(opens[stream], line["at"] + (line["do"] == "beat"))
+            opens[stream] = max(opens[stream], line["at"] + (line["do"] == "beat"))
             if number >= self._answered and opens == told:
                 fits.append(number)
-        if len(fits) != 1:
+        # heartbeats that change nothing may have come in or not
+        if not fits or any(line["do"] == "put" for line in lines[fits[0] : fits[-1]]):
             raise CannotGoOn("it isn't known which lines came in; start the server anew")
-        return fits[0]
+        return fits[-1]
+
+    def _settled(self, session: Session) -> Dict[str, int]:
+        """The times that the streams still take, once they stand still."""
+        told: Dict[str, int] = {}
+        since = time.monotonic()
+        while time.monotonic() - since < SETTLED:
+            now = {it.name: it.open for it in session.list().streams}
+            if now != told:
+                told, since = now, time.monotonic()
+            time.sleep(SETTLED / 10)
+        return told
 
     def _offset(self, query: str) -> int:
         """The instant up to which the query's consumer has taken all."""
@@ -195,6 +250,7 @@ class Feeder:
 
     def _count(self, line: Line, outcome: object) -> None:
         """Takes note of a line that was answered."""
+        self._streams.add(line["stream"])
         if isinstance(outcome, romburik.NoMemory):
             raise CannotGoOn(f"line {self._answered + 1} of the log: {outcome}")
         if isinstance(outcome, romburik.Refused):
@@ -217,17 +273,20 @@ class Feeder:
 
     def _acknowledge(self, session: Session) -> Tuple[int, int]:
         """Acknowledges what consumers have taken, and gives the least cursor and the instant below
-        which all is final."""
+        which all is final, of the queries over the log's streams alone."""
         listing = session.list()
-        final = min((it.open for it in listing.streams), default=0)
+        fed = {it.name: it.open for it in listing.streams if it.name in self._streams}
+        final = min(fed.values(), default=0)
         slowest = final
         for query in listing.queries:
-            offset = min(self._offset(query.name), final)
+            told = final_of(listing, query)
+            offset = min(self._offset(query.name), final if told is None else told)
             if offset > query.next:
                 # the consumer may have acknowledged more meanwhile
                 with contextlib.suppress(romburik.Behind):
                     session.ack(query.name, offset)
-            slowest = min(slowest, max(offset, query.next))
+            if inputs_of(query.text) <= fed.keys():
+                slowest = min(slowest, max(offset, query.next))
         return slowest, final
 
 
@@ -241,12 +300,15 @@ def main(given: Optional[Sequence[str]] = None) -> int:
     parser.add_argument("--offsets", required=True, help="the folder of the consumers' offsets")
     parser.add_argument("--ahead", type=int, default=100, help="rows ahead of consumers (100)")
     parser.add_argument("--reach", type=int, help="ticks that windows look back")
+    parser.add_argument(
+        "--scale", type=int, default=1, help="instants for each of the log's, one a row (1)"
+    )
     parser.add_argument("--poll", type=float, default=0.2, help="seconds between looks (0.2)")
     words = parser.parse_args(given)
     if "CQL_KEY" not in os.environ:
         parser.error("CQL_KEY isn't set")
-    if words.ahead < 1:
-        parser.error("--ahead is at least 1")
+    if words.ahead < 1 or words.scale < 1:
+        parser.error("--ahead and --scale are at least 1")
     try:
         Feeder(words).run(os.environ["CQL_KEY"])
     except KeyboardInterrupt:

@@ -8,13 +8,15 @@ hundredths, and the query `busy` over the last twenty seconds. Then it puts a ro
 behind it. Nobody else takes what the query tells, so it acknowledges what is older than a minute: a
 query that nobody acknowledges is overrun in the end.
 
-Times are whole seconds from its start, one tick each. Who has milliseconds puts at // 1000, or
+Where the stream and the query stand, from an earlier run, it goes on behind what was put. Times are
+whole seconds from its first start, one tick each. Who has milliseconds puts at // 1000, or
 writes lengths in them, [Range 20000] for twenty seconds.
 
 The key is taken from the environment variable CQL_KEY. The status is 1 where it can't go on, 2 for
 its words.
 """
 import argparse
+import contextlib
 import os
 import pathlib
 import sys
@@ -32,15 +34,25 @@ KEPT = 60
 """For how many seconds what the query tells isn't acknowledged."""
 
 
+def made(session: romburik.Session) -> int:
+    """Makes the stream and the query, where they don't stand, and gives the next second."""
+    with contextlib.suppress(romburik.StreamExists):
+        session.stream("load", {"short": "int", "long": "int"})
+    with contextlib.suppress(romburik.QueryExists):
+        session.query("busy", TEXT)
+    return next(it.open for it in session.list().streams if it.name == "load")
+
+
 def put_load(session: romburik.Session, seconds: int, every: float) -> None:
-    """Makes the stream and the query, and puts rows."""
-    session.stream("load", {"short": "int", "long": "int"})
-    session.query("busy", TEXT)
-    for second in range(seconds):
+    """Puts rows."""
+    first = made(session)
+    for second in range(first, first + seconds):
         short, _, long = os.getloadavg()
         session.put("load", second, [round(short * 100), round(long * 100)])
         session.beat("load", second)
-        session.ack("busy", max(0, second - KEPT))
+        # another consumer may have acknowledged more
+        with contextlib.suppress(romburik.Behind):
+            session.ack("busy", max(0, second - KEPT))
         time.sleep(every)
 
 

@@ -46,6 +46,7 @@ MODULE = TOP / "clients/python"
 FEED = TOP / "examples/feed.py"
 CONSUME = TOP / "examples/consume.py"
 LOAD = TOP / "examples/load.py"
+STAGE = TOP / "examples/stage.py"
 EXAMPLES = TOP / "examples"
 sys.path.append(str(MODULE))
 import romburik
@@ -1626,8 +1627,9 @@ class Feed:
 
     def start(self, name, port, *words):
         """Starts the feeder, or the consumer of a query."""
-        script = FEED if name == "feed" else CONSUME
-        words = ["--port", str(port), "--tenant", "a", "--offsets", self.offsets, *words]
+        script = {"feed": FEED, "stage": STAGE}.get(name, CONSUME)
+        offsets = [] if name == "stage" else ["--offsets", self.offsets]
+        words = ["--port", str(port), "--tenant", "a", *offsets, *words]
         with open(self.folder / "errors", "ab") as errors:
             self.children[name] = subprocess.Popen(
                 [sys.executable, script, "--poll", "0.01", *words],
@@ -1797,6 +1799,156 @@ def feeder_is_started_anew(program):
     yield "a feeder in doubt", difference((status, said), wanted)
 
 
+# ---- A chain of a feeder, a query, a stage, a second query and its consumer.
+
+SCALE, STAGE_SCALE = 32, 8
+SUMS = {"columns": [["k", "text"], ["total", "int"]], "do": "stream", "name": "sums"}
+CHAIN = {
+    "came": f"Select Istream(*) From s [Range {3 * SCALE}]",
+    "totals": f"Select Istream(k, Sum(v) As total) From s [Range {12 * SCALE}] Group By k",
+    "high": "Select Istream(*) From sums [Now] Where total > 12",
+}
+READ = "came", "high"
+
+
+class Chain(Feed):
+    """A feeder of one row an instant, a stage behind a query, and consumers of two others."""
+
+    def __init__(self, folder, log):
+        super().__init__(folder, CHAIN, log)
+        setup = self.folder / "setup"
+        setup.write_bytes(line_of(**SUMS) + setup.read_bytes())
+
+    def begin(self, name, port, until):
+        """Starts one of the four."""
+        if name == "feed":
+            self.feed(port, "--scale", str(SCALE))
+        elif name == "stage":
+            scale = ["--scale", str(STAGE_SCALE)]
+            self.start("stage", port, "--query", "totals", "--stream", "sums", *scale)
+        else:
+            end = until * SCALE * (STAGE_SCALE if name == "high" else 1)
+            self.consume(port, name, end)
+
+    def has_ended(self):
+        statuses = {name: child.poll() for name, child in self.children.items()}
+        if any(statuses.values()) or {statuses["feed"], statuses["stage"]} != {None}:
+            raise OSError((self.folder / "errors").read_text() or f"statuses {statuses}")
+        return all(statuses[name] == 0 for name in READ)
+
+    def printed(self):
+        files = {query: self.folder / query for query in READ}
+        return {query: it.read_bytes() if it.exists() else b"" for query, it in files.items()}
+
+
+def chained(program, log, until, seed=None, kills=0, blocks=0):
+    """What a chain prints, with so many kills at drawn places of so many blocks."""
+    draw = random.Random(seed)
+    places = sorted(draw.randrange(blocks * 3 // 4) for _ in range(kills))
+    victims = [draw.choice(("feed", "stage", *READ, "server")) for _ in places]
+    port = free_port()
+    with tempfile.TemporaryDirectory() as folder, Chain(folder, log) as chain:
+        with contextlib.ExitStack() as open_ones:
+            how = {"port": port, "workers": 8}
+            server = open_ones.enter_context(Server(program, tenants("a", hold=65536), **how))
+            for name in ("feed", "stage", *READ):
+                chain.begin(name, port, until)
+            for place, victim in zip(places, victims):
+                wait_for(lambda place=place: chain.has_ended() or chain.blocks() >= place)
+                time.sleep(draw.uniform(0, 0.1))
+                if victim == "server":
+                    server.__exit__()
+                    server = open_ones.enter_context(Server(program, tenants("a", hold=65536), **how))
+                else:
+                    chain.stop(victim)
+                    chain.begin(victim, port, until)
+            wait_for(chain.has_ended)
+            return chain.printed()
+
+
+def chain_outlives_all(program, seeds=(1,), kills=8):
+    """Feeder, stage, consumers and server are killed in any order, and nothing is lost, told twice,
+    or asks for a new start of the server."""
+    for seed in seeds:
+        log, until = log_of(random.Random(seed), 200)
+        wanted = chained(program, log, until)
+        blocks = sum(text.count(b"\n") for text in wanted.values())
+        yield f"{blocks} blocks of a chain", None if min(map(len, wanted.values())) > 500 else "few"
+        found = chained(program, log, until, seed, kills, blocks)
+        for query in READ:
+            yield f"{query} over {kills} kills by {seed}", difference(found[query], wanted[query])
+
+
+def consumers_refuse_short_files(program):
+    """A file that is shorter than the offset knows isn't filled with anything."""
+    texts = {"came": TEXTS["came"]}
+    log = [put(at, "x", at) for at in range(1, 20)] + [beat(30), beat(30, stream="u")]
+    with tempfile.TemporaryDirectory() as folder, Feed(folder, texts, log) as feed:
+        with Server(program, tenants("a")) as server:
+            feed.feed(server.port)
+            feed.consume(server.port, "came", 20)
+            wait_for(feed.has_ended)
+            before = feed.printed()["came"]
+            feed.stop("feed")
+            (feed.folder / "came").write_bytes(b"")
+            feed.consume(server.port, "came", 31)
+            status = feed.children["came"].wait(SECONDS)
+        said = f"has 0 bytes and the offset knows of {len(before)}" in (feed.folder / "errors").read_text()
+        found = status, said, feed.printed()["came"]
+    yield "a file that is too short", difference(found, (1, True, b""))
+
+
+def consumers_run_commands(program):
+    """A command over each block, again until its status is 0; rows as comma-separated values."""
+    with Server(program, TENANTS) as server, session(server) as it:
+        it.stream("s", {"k": "text", "v": "int"})
+        it.query("q", "Select k, v From s [Now]")
+        it.put("s", 5, ["a, b", 1])
+        it.put("s", 7, ["c", 2])
+        it.beat("s", 8)
+        with tempfile.TemporaryDirectory() as folder:
+            shown, failed = f"{folder}/shown", f"{folder}/failed"
+            command = f"test -e {failed} && cat >> {shown} || {{ touch {failed}; exit 3; }}"
+            words = ["--port", str(server.port), "--tenant", "a", "--query", "q", "--offsets", folder]
+            how = {"env": environment(), "capture_output": True, "timeout": SECONDS, "check": False}
+            ran = subprocess.run(
+                [sys.executable, CONSUME, *words, "--until", "9", "--exec", command], **how
+            )
+            said = b"consume: the command ended with status 3, and is run again in 1 seconds\n"
+            found = ran.returncode, ran.stderr, pathlib.Path(shown).read_bytes()
+            plus, minus = [[["a, b", 1]], [["c", 2]]], []
+            blocks = (
+                {"from": 5, "to": 5, "plus": plus[0], "minus": minus},
+                {"from": 6, "to": 6, "plus": minus, "minus": plus[0]},
+                {"from": 7, "to": 7, "plus": plus[1], "minus": minus},
+                {"from": 8, "to": 8, "plus": minus, "minus": plus[1]},
+            )
+            wanted = b"".join(line_of(**one) for one in blocks[:3])
+            # the last block may go on, so it isn't told before it is at its end
+            yield "a command over blocks", difference(found[:2], (0, said))
+            yield "what it was given", None if found[2].startswith(wanted) else f"it is {found[2]}"
+            it.drop("q")
+            base = it.query("q", "Select Istream(k, v) From s [Now]")
+            pathlib.Path(folder, "q").write_text(f'{{"bytes":0,"held":null,"next":{base}}}')
+            it.put("s", 10, ["d, e", 3])
+            it.beat("s", 20)
+            words += ["--until", "20", "--form", "csv"]
+            ran = subprocess.run([sys.executable, CONSUME, *words], **how)
+            found = ran.returncode, ran.stdout, ran.stderr
+            yield "comma-separated values", difference(found, (0, b'10,10,row,"d, e",3\n', b""))
+
+
+def load_goes_on(program):
+    """The rows of a machine's load, started twice."""
+    with Server(program, TENANTS) as server, session(server) as it:
+        words = ["--port", str(server.port), "--tenant", "a", "--seconds", "5", "--every", "0"]
+        for _ in range(2):
+            subprocess.run(
+                [sys.executable, LOAD, *words], env=environment(), timeout=SECONDS, check=True
+            )
+        yield "a load that is started twice", difference(it.list().streams[0].open, 10)
+
+
 CHECKS = (
     session_methods,
     session_grants,
@@ -1839,4 +1991,8 @@ CHECKS = (
     feeder_outlives_servers,
     feeder_waits_for_consumers,
     feeder_is_started_anew,
+    chain_outlives_all,
+    consumers_refuse_short_files,
+    consumers_run_commands,
+    load_goes_on,
 )

@@ -44,6 +44,7 @@ from typing import BinaryIO, List, Optional, Sequence
 sys.path.append(str(pathlib.Path(__file__).resolve().parent.parent / "clients/python"))
 import romburik
 from romburik import Block, Session, WholeBlocks
+from romburik.calling import add_words, check_words, session_of
 from romburik.tables import block_cells
 
 
@@ -157,9 +158,7 @@ def connected(words: argparse.Namespace, key: str) -> Session:
     trouble = romburik.Trouble(None, say)
     while True:
         try:
-            return Session(
-                host=words.host, port=words.port, tenant=words.tenant, key=key, notice=say
-            )
+            return session_of(words, words.tenant, key, say)
         except romburik.ConnectionLost as lost:
             trouble.is_too_long(lost, words.poll)
         time.sleep(words.poll)
@@ -167,8 +166,7 @@ def connected(words: argparse.Namespace, key: str) -> Session:
 
 def main(given: Optional[Sequence[str]] = None) -> int:
     parser = argparse.ArgumentParser(description="Prints each block of a query once.")
-    parser.add_argument("--host", default="127.0.0.1")
-    parser.add_argument("--port", type=int, required=True)
+    add_words(parser)
     parser.add_argument("--tenant", required=True)
     parser.add_argument("--query", required=True)
     parser.add_argument("--offsets", required=True, help="the folder of the consumers' offsets")
@@ -179,6 +177,7 @@ def main(given: Optional[Sequence[str]] = None) -> int:
     parser.add_argument("--until", type=int, help="the instant at which it ends")
     parser.add_argument("--poll", type=float, default=0.2, help="seconds between fetches (0.2)")
     words = parser.parse_args(given)
+    check_words(parser, words)
     if "CQL_KEY" not in os.environ:
         parser.error("CQL_KEY isn't set")
     try:

@@ -61,6 +61,7 @@ from typing import Any, Deque, Dict, Iterator, Optional, Sequence, Set, Tuple
 sys.path.append(str(pathlib.Path(__file__).resolve().parent.parent / "clients/python"))
 import romburik
 from romburik import Session
+from romburik.calling import add_words, check_words, session_of
 from romburik.columns import inputs_of
 from romburik.looking import final_of
 
@@ -159,9 +160,7 @@ class Feeder:
         trouble = romburik.Trouble(None, say)
         while True:
             try:
-                with Session(
-                    host=words.host, port=words.port, tenant=words.tenant, key=key, notice=say
-                ) as it:
+                with session_of(words, words.tenant, key, say) as it:
                     trouble.is_over()
                     self._begin(it)
                     self._feed(it)
@@ -292,8 +291,7 @@ class Feeder:
 
 def main(given: Optional[Sequence[str]] = None) -> int:
     parser = argparse.ArgumentParser(description="Puts the lines of a log, again where needed.")
-    parser.add_argument("--host", default="127.0.0.1")
-    parser.add_argument("--port", type=int, required=True)
+    add_words(parser)
     parser.add_argument("--tenant", required=True)
     parser.add_argument("--setup", required=True, help="streams, grants and queries")
     parser.add_argument("--log", required=True, help="puts and heartbeats")
@@ -305,6 +303,7 @@ def main(given: Optional[Sequence[str]] = None) -> int:
     )
     parser.add_argument("--poll", type=float, default=0.2, help="seconds between looks (0.2)")
     words = parser.parse_args(given)
+    check_words(parser, words)
     if "CQL_KEY" not in os.environ:
         parser.error("CQL_KEY isn't set")
     if words.ahead < 1 or words.scale < 1:

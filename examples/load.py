@@ -25,6 +25,7 @@ from typing import Optional, Sequence
 
 sys.path.append(str(pathlib.Path(__file__).resolve().parent.parent / "clients/python"))
 import romburik
+from romburik.calling import add_words, check_words, session_of
 
 TEXT = (
     "Select Rstream(Max(short) As greatest, Min(short) As least, Max(long) As quarter) "
@@ -32,6 +33,10 @@ TEXT = (
 )
 KEPT = 60
 """For how many seconds what the query tells isn't acknowledged."""
+
+
+def say(text: str) -> None:
+    print(f"load: {text}", file=sys.stderr, flush=True)
 
 
 def made(session: romburik.Session) -> int:
@@ -58,23 +63,21 @@ def put_load(session: romburik.Session, seconds: int, every: float) -> None:
 
 def main(given: Optional[Sequence[str]] = None) -> int:
     parser = argparse.ArgumentParser(description="Puts this machine's load once a second.")
-    parser.add_argument("--host", default="127.0.0.1")
-    parser.add_argument("--port", type=int, required=True)
+    add_words(parser)
     parser.add_argument("--tenant", required=True)
     parser.add_argument("--seconds", type=int, default=3600, help="how many rows (3600)")
     parser.add_argument("--every", type=float, default=1.0, help="seconds between them (1)")
     words = parser.parse_args(given)
+    check_words(parser, words)
     if "CQL_KEY" not in os.environ:
         parser.error("CQL_KEY isn't set")
     try:
-        with romburik.Session(
-            host=words.host, port=words.port, tenant=words.tenant, key=os.environ["CQL_KEY"]
-        ) as session:
+        with session_of(words, words.tenant, os.environ["CQL_KEY"], say) as session:
             put_load(session, words.seconds, words.every)
     except KeyboardInterrupt:
         return 0
     except romburik.Error as error:
-        print(f"load: {error}", file=sys.stderr)
+        say(str(error))
         return 1
     return 0
 

@@ -32,6 +32,7 @@ from typing import Dict, Iterator, Optional, Sequence, Tuple
 sys.path.append(str(pathlib.Path(__file__).resolve().parent.parent / "clients/python"))
 import romburik
 from romburik import Answer, Block, Row, Rows, Session
+from romburik.calling import add_words, check_words, session_of
 from romburik.columns import operator_of
 
 SETTLED = 0.3
@@ -59,9 +60,7 @@ class Stage:
         trouble = romburik.Trouble(None, say)
         while True:
             try:
-                with Session(
-                    host=words.host, port=words.port, tenant=words.tenant, key=key, notice=say
-                ) as it:
+                with session_of(words, words.tenant, key, say) as it:
                     self._serve(it, trouble)
             except (romburik.ConnectionLost, romburik.UnknownQuery, romburik.UnknownStream) as lost:
                 trouble.is_too_long(lost, words.poll)
@@ -125,14 +124,14 @@ class Stage:
 
 def main(given: Optional[Sequence[str]] = None) -> int:
     parser = argparse.ArgumentParser(description="Puts what a query tells into a stream.")
-    parser.add_argument("--host", default="127.0.0.1")
-    parser.add_argument("--port", type=int, required=True)
+    add_words(parser)
     parser.add_argument("--tenant", required=True)
     parser.add_argument("--query", required=True)
     parser.add_argument("--stream", required=True)
     parser.add_argument("--scale", type=int, default=100, help="the stream's instants an instant")
     parser.add_argument("--poll", type=float, default=0.2, help="seconds between fetches (0.2)")
     words = parser.parse_args(given)
+    check_words(parser, words)
     if "CQL_KEY" not in os.environ:
         parser.error("CQL_KEY isn't set")
     if words.scale < 2:

@@ -11,6 +11,7 @@ import pty
 import random
 import re
 import select
+import shutil
 import signal
 import socket
 import subprocess
@@ -52,6 +53,7 @@ sys.path.append(str(MODULE))
 import romburik
 import romburik.columns
 import romburik.drawing
+import romburik.lines
 import romburik.looking
 import romburik.tables
 import romburik.terminal
@@ -1949,6 +1951,121 @@ def load_goes_on(program):
         yield "a load that is started twice", difference(it.list().streams[0].open, 10)
 
 
+# ---- Encrypted.
+
+OPERATING = TOP / "docs/OPERATING.md"
+
+
+def recipe(kind, **changed):
+    """A proxy's file as the page has it, with what is of this machine put in place."""
+    text = re.search(f"```{kind}\n(.*?)```", OPERATING.read_text(), re.DOTALL)[1]
+    for old, new in changed.items():
+        old = {"listen": "7443", "server": "127.0.0.1:7000", "files": "/etc/cqld"}[old]
+        if old not in text:
+            raise OSError(f"the page's {kind} has no {old}")
+        text = text.replace(old, new)
+    return text
+
+
+def certified(folder):
+    """Makes an authority, and what it has vouched for: `localhost`, and a caller."""
+
+    def openssl(*words):
+        how = {"cwd": folder, "capture_output": True, "timeout": SECONDS, "check": True}
+        subprocess.run(["openssl", *words], **how)
+
+    key = "-newkey", "ec", "-pkeyopt", "ec_paramgen_curve:P-256", "-nodes"
+    for name in "ca", "other":
+        openssl("req", "-x509", *key, "-keyout", f"{name}.key", "-out", f"{name}.pem", "-subj", f"/CN={name}")
+    for name in "localhost", "caller":
+        alternative = f"subjectAltName=DNS:{name}"
+        openssl("req", *key, "-keyout", f"{name}.key", "-out", f"{name}.csr", "-subj", f"/CN={name}")
+        pathlib.Path(folder, "names").write_text(alternative)
+        signed = "-CA", "ca.pem", "-CAkey", "ca.key", "-CAcreateserial", "-extfile", "names"
+        openssl("x509", "-req", "-in", f"{name}.csr", *signed, "-out", f"{name}.pem")
+    both = [pathlib.Path(folder, f"localhost.{it}").read_text() for it in ("pem", "key")]
+    pathlib.Path(folder, "server.pem").write_text("".join(both))
+    os.chmod(f"{folder}/server.pem", 0o600)
+
+
+def is_listening(port):
+    with contextlib.suppress(OSError), socket.create_connection(("127.0.0.1", port), 1):
+        return True
+    return False
+
+
+def by_tls(program, folder, name, command, text):
+    """Sessions through a proxy that runs by a command over its file."""
+    port = free_port()
+    with Server(program, WIDE) as server:
+        path = pathlib.Path(folder, f"{name}.cfg")
+        path.write_text(text(str(port), f"127.0.0.1:{server.port}"))
+        with open(f"{folder}/{name}.log", "wb") as log:
+            proxy = subprocess.Popen([*command, path], stdout=log, stderr=log)
+        with ending(proxy):
+            wait_for(lambda: proxy.poll() is not None or is_listening(port))
+            words = ["--host", "localhost", "--tls", "--ca", f"{folder}/ca.pem"]
+            given = STREAM + b"".join(put(at, at) for at in range(2000)) + LIST
+            ended = terminal(port, *words, "--quiet", "--file", "-", given=given)
+            wanted = b'{"queries":[],"readable":[],"streams":[{"name":"s","open":1999}]}\n'
+            yield f"lines by {name}", difference(ended, Ended(0, b"", wanted))
+            ended = terminal(port, *words[:3], "--ca", f"{folder}/other.pem", given=LIST)
+            said = b"certificate verify failed" in ended.said
+            yield f"a certificate of nobody by {name}", difference((ended.status, said), (4, True))
+            ended = terminal(port, "--timeout", "5", given=LIST)
+            yield f"no TLS by {name}", difference((ended.status, ended.written), (4, b""))
+            tls = romburik.Tls(f"{folder}/ca.pem", f"{folder}/caller.pem", f"{folder}/caller.key")
+            how = {"host": "localhost", "port": port, "tenant": "a", "key": "ka"}
+            with romburik.Session(**how, tls=tls) as it:
+                it.stream("t", {"v": "text"})
+                it.query("q", "Select Rstream(*) From t [Unbounded]")
+                it.put_many("t", ((at, ["x" * 60_000]) for at in range(60)))
+                rows = it.fetch("q").blocks[-1].rows
+                yield f"long lines by {name}", difference(len(rows), 59)
+
+
+def proxies(program):
+    """TLS by HAProxy and stunnel, as the page has them."""
+    stunnel = shutil.which("stunnel4") or shutil.which("stunnel")
+    haproxy = shutil.which("haproxy") or shutil.which("haproxy", path="/usr/sbin")
+    if not (haproxy and stunnel and shutil.which("openssl")):
+        print("not run: TLS, for which haproxy, stunnel4 and openssl have to be installed")
+    with tempfile.TemporaryDirectory() as folder:
+        if (haproxy or stunnel) and shutil.which("openssl"):
+            certified(folder)
+
+        def text(kind):
+            return lambda listen, server: recipe(kind, listen=listen, server=server, files=folder)
+
+        if haproxy and shutil.which("openssl"):
+            yield from by_tls(program, folder, "haproxy", [haproxy, "-db", "-f"], text("haproxy"))
+        if stunnel and shutil.which("openssl"):
+            yield from by_tls(program, folder, "stunnel", [stunnel], text("stunnel"))
+
+
+def keys_stay_here(_):
+    """Without TLS no key leaves this machine, unless that is asked for."""
+    leaves_machine = romburik.lines.leaves_machine
+    for own, peer, wanted in (
+        ("127.0.0.1", "127.0.0.1", False),
+        ("127.0.0.1", "127.8.0.1", False),
+        ("::1", "::1", False),
+        ("::ffff:127.0.0.1", "::ffff:127.0.0.2", False),
+        ("192.168.0.7", "192.168.0.7", False),
+        ("192.168.0.7", "192.168.0.8", True),
+        ("fe80::1%eth0", "fe80::2%eth0", True),
+    ):
+        yield f"from {own} to {peer}", difference(leaves_machine(own, peer), wanted)
+    with Peer([LOG_IN]) as peer:
+        how = {"port": peer.port, "tenant": "a", "key": "ka"}
+        romburik.lines.leaves_machine = lambda *_: True
+        try:
+            error = error_of(lambda: romburik.Session(**how))
+            yield "a key in the clear", difference(type(error), romburik.InTheClear)
+        finally:
+            romburik.lines.leaves_machine = leaves_machine
+
+
 CHECKS = (
     session_methods,
     session_grants,
@@ -1995,4 +2112,6 @@ CHECKS = (
     consumers_refuse_short_files,
     consumers_run_commands,
     load_goes_on,
+    proxies,
+    keys_stay_here,
 )

@@ -30,6 +30,7 @@ from .errors import (
     Behind,
     ConnectionLost,
     Error,
+    InTheClear,
     Late,
     LineTooLong,
     NoMemory,
@@ -50,7 +51,7 @@ from .errors import (
     WrongKey,
     WrongRow,
 )
-from .lines import LONGEST_LINE, Command, is_blank, line_of
+from .lines import LONGEST_LINE, Command, Tls, is_blank, line_of
 from .looking import Look, Looker
 from .owning import ChoosingLooker, Copies, OwnLooker
 from .session import WINDOW, Session, Trouble
@@ -94,6 +95,7 @@ __all__ = [
     "Copies",
     "Error",
     "Fault",
+    "InTheClear",
     "LONGEST_LINE",
     "Late",
     "LineTooLong",
@@ -117,6 +119,7 @@ __all__ = [
     "Session",
     "Stream",
     "StreamExists",
+    "Tls",
     "TooManyQueries",
     "TooManyStreams",
     "Trouble",

@@ -9,6 +9,7 @@ import time
 from typing import NoReturn, Optional, Sequence
 
 from .bulk import Source, put_file
+from .calling import add_words, check_words, port_of, session_of
 from .errors import BadReply, ConnectionLost, Error, Refused
 from .owning import Copies
 from .page import Site, serve
@@ -73,14 +74,7 @@ def _say(text: str) -> None:
 
 def _session(given: argparse.Namespace, tenant: str, key: str) -> Session:
     try:
-        return Session(
-            host=given.host,
-            port=given.port,
-            tenant=tenant,
-            key=key,
-            timeout=given.timeout,
-            notice=_say,
-        )
+        return session_of(given, tenant, key, _say, timeout=given.timeout)
     except Refused as refusal:
         raise _LoginRefused(f"the login is refused: {refusal}") from refusal
     except UnicodeEncodeError as error:
@@ -139,15 +133,8 @@ def _ping(session: Session) -> int:
     return DONE
 
 
-def _port(word: str) -> int:
-    port = int(word)
-    if not 0 < port < 1 << 16:
-        raise ValueError("no port")
-    return port
-
-
 def _any_port(word: str) -> int:
-    return 0 if word == "0" else _port(word)
+    return 0 if word == "0" else port_of(word)
 
 
 def _seconds(word: str) -> float:
@@ -173,9 +160,8 @@ def _parser() -> argparse.ArgumentParser:
         help="what is shown, without being taken, or put",
     )
     parser.add_argument("--version", action="version", version=f"romburik {VERSION}")
-    parser.add_argument("--port", type=_port, required=True)
     parser.add_argument("--tenant", help="who logs in; asked for but with --script")
-    parser.add_argument("--host", default="127.0.0.1")
+    add_words(parser)
     parser.add_argument("--key-file", metavar="FILE", help="a file whose first line is the key")
     parser.add_argument(
         "--timeout", type=_seconds, default=60.0, help="seconds to wait for the server (60)"
@@ -256,6 +242,7 @@ def _given(words: Optional[Sequence[str]]) -> argparse.Namespace:
     """The words, where they go together."""
     parser = _parser()
     given = parser.parse_intermixed_args(words)
+    check_words(parser, given)
     is_page = given.view == ["page"]
     is_watch = given.view[:1] == ["watch"] and len(given.view) == 2
     is_put = given.view[:1] == ["put"] and len(given.view) == 2

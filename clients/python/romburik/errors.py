@@ -19,6 +19,16 @@ class BadReply(Error):
     """A reply that isn't one of a cqld. The session is closed."""
 
 
+class InTheClear(Error):
+    """The server is on another machine and the connection isn't encrypted: the key isn't sent."""
+
+    def __init__(self, host: str) -> None:
+        super().__init__(
+            f"the key isn't sent in the clear to {host}, which is another machine: encrypt it by "
+            "TLS, or say that it may be so (--insecure)"
+        )
+
+
 class LineTooLong(Error, ValueError):
     """A command whose line has more than 65,536 bytes. It wasn't sent."""
 

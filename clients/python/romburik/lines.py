@@ -1,17 +1,22 @@
 """Lines of commands, and a connection that they go over."""
 import contextlib
+import ipaddress
 import selectors
 import socket
+import ssl
 import time
+from dataclasses import dataclass
 from typing import Iterable, Mapping, Optional
 
-from .errors import ConnectionLost, LineTooLong
+from .errors import ConnectionLost, InTheClear, LineTooLong
 from .told import Value, encoded
 
 LONGEST_LINE = 65_536
 """How many bytes a line may have before its line feed."""
 
 _CHUNK = 1 << 16
+_LATER = BlockingIOError, ssl.SSLWantReadError, ssl.SSLWantWriteError
+"""What a call that doesn't wait raises where it would have to."""
 
 Command = Mapping[str, object]
 
@@ -40,15 +45,54 @@ def checked(line: bytes) -> bytes:
     return line
 
 
-def _connected(host: str, port: int, timeout: Optional[float]) -> socket.socket:
+@dataclass(frozen=True)
+class Tls:
+    """How a connection is encrypted. The server shows a certificate for the host's name that `ca`, a
+    file of authorities, else the system's authorities vouch for; `cert` and `key` are files of what
+    this side shows, where the server asks for it."""
+
+    ca: Optional[str] = None
+    cert: Optional[str] = None
+    key: Optional[str] = None
+
+    def context(self) -> ssl.SSLContext:
+        context = ssl.create_default_context(cafile=self.ca)
+        if self.cert is not None:
+            context.load_cert_chain(self.cert, self.key)
+        return context
+
+
+@dataclass(frozen=True)
+class Address:
+    """Where a server is, and how it is reached. A login goes in the clear to this machine alone,
+    unless `insecure` lets it go anywhere."""
+
+    host: str
+    port: int
+    tls: Optional[Tls] = None
+    insecure: bool = False
+
+
+def leaves_machine(own: str, peer: str) -> bool:
+    """Whether a connection between two addresses leaves this machine."""
+    address = ipaddress.ip_address(peer.partition("%")[0])
+    mapped = getattr(address, "ipv4_mapped", None)
+    return own != peer and not (mapped or address).is_loopback
+
+
+def _connected(address: Address, timeout: Optional[float]) -> socket.socket:
     """A socket that is connected, and whose calls don't wait."""
-    made = socket.create_connection((host, port), timeout)
+    made = socket.create_connection((address.host, address.port), timeout)
     try:
         # the system may connect a port that nobody listens to with itself
         if made.getsockname() == made.getpeername():
             raise ConnectionRefusedError("nobody listens")
-        made.setblocking(False)
         made.setsockopt(socket.IPPROTO_TCP, socket.TCP_NODELAY, 1)
+        if address.tls:
+            made = address.tls.context().wrap_socket(made, server_hostname=address.host)
+        elif not address.insecure and leaves_machine(made.getsockname()[0], made.getpeername()[0]):
+            raise InTheClear(address.host)
+        made.setblocking(False)
     except BaseException:
         made.close()
         raise
@@ -59,16 +103,17 @@ class Connection:
     """Lines over a socket, which are sent and received at the same time: a server that waits until
     its replies are read, and a client that waits until its lines are, would wait for ever."""
 
-    def __init__(self, host: str, port: int, timeout: Optional[float]) -> None:
+    def __init__(self, address: Address, timeout: Optional[float]) -> None:
         self.timeout = timeout
         self.owed = 0
         self.is_open = True
         self._unsent = bytearray()
         self._unread = bytearray()
         try:
-            self._socket = _connected(host, port, timeout)
+            self._socket = _connected(address, timeout)
         except (OSError, UnicodeError) as error:
-            raise ConnectionLost(f"no connection to {host} at port {port}: {error}") from error
+            where = f"{address.host} at port {address.port}"
+            raise ConnectionLost(f"no connection to {where}: {error}") from error
         self._selector = selectors.DefaultSelector()
         self._selector.register(self._socket, selectors.EVENT_READ)
 
@@ -152,6 +197,9 @@ class Connection:
 
     def _exchange(self, seconds: Optional[float]) -> bool:
         """Waits until something can be read or written, and does it; False where nothing can."""
+        if isinstance(self._socket, ssl.SSLSocket) and self._socket.pending():
+            self._read()
+            return True
         wanted = selectors.EVENT_READ | (selectors.EVENT_WRITE if self._unsent else 0)
         self._selector.modify(self._socket, wanted)
         ready = self._selector.select(seconds)
@@ -160,15 +208,18 @@ class Connection:
         if ready[0][1] & selectors.EVENT_WRITE:
             self._write()
         if ready[0][1] & selectors.EVENT_READ:
-            with contextlib.suppress(BlockingIOError):
-                received = self._socket.recv(_CHUNK)
-                if not received:
-                    raise ConnectionLost("the connection broke off")
-                self._unread += received
+            self._read()
         return True
 
+    def _read(self) -> None:
+        with contextlib.suppress(*_LATER):
+            received = self._socket.recv(_CHUNK)
+            if not received:
+                raise ConnectionLost("the connection broke off")
+            self._unread += received
+
     def _write(self) -> None:
-        with contextlib.suppress(BlockingIOError):
+        with contextlib.suppress(*_LATER):
             while self._unsent:
                 sent = self._socket.send(self._unsent[:_CHUNK])
                 del self._unsent[:sent]

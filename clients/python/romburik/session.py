@@ -20,7 +20,7 @@ from typing import (
 )
 
 from .errors import Ahead, BadQuery, BadReply, ConnectionLost, Refused, UnknownQuery
-from .lines import Command, Connection, checked, line_of, put_of
+from .lines import Address, Command, Connection, Tls, checked, line_of, put_of
 from .told import (
     Answer,
     Block,
@@ -89,7 +89,8 @@ class Session:
     `timeout` is how many seconds a call may wait for the server to take or to tell anything, None
     without an end. A server to which as many callers are connected as it takes (`--callers`) is
     silent until one of them leaves; `notice` is told so, in words, and of all else that is waited
-    for.
+    for. With `tls` all is encrypted; without it the key is sent to this machine alone (InTheClear),
+    unless `insecure` is set.
     """
 
     def __init__(
@@ -101,9 +102,12 @@ class Session:
         host: str = "127.0.0.1",
         timeout: Optional[float] = 60.0,
         notice: Notice = _silent,
+        tls: Optional[Tls] = None,
+        insecure: bool = False,
     ) -> None:
         self.host = host
         self.port = port
+        self._address = Address(host, port, tls, insecure)
         self.tenant = tenant
         self.timeout = timeout
         self._key = key
@@ -133,7 +137,7 @@ class Session:
     def connect(self) -> None:
         """Connects and logs in, anew where there is a connection. Refused 13 for a wrong key."""
         self.close()
-        self._connection = Connection(self.host, self.port, self.timeout)
+        self._connection = Connection(self._address, self.timeout)
         try:
             self._log_in(self._connection)
         except BaseException:

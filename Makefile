@@ -7,12 +7,20 @@ RUN_TIME := one to three minutes
 BUILD_TIME := a quarter of an hour or more
 TEST_TIME := half an hour to an hour and a half on four cores, by how fast they are
 
-.PHONY: help run build test look drive bench check clauses lemmas goals steps edits answers
+# where `make install` puts what it installs; what packs it sets DESTDIR
+PREFIX := /usr/local
+DESTDIR :=
+# the server that `make serve` runs, built and not proved
+UNPROVED := crates/cqld/out/cqld-unproved
+
+.PHONY: help run build serve install test look drive bench check clauses lemmas goals steps edits answers
 
 # tells what the targets do
 help:
 	@echo 'make run     the replies to $(FIRST), from a run that is checked and not proved ($(RUN_TIME))'
 	@echo 'make build   proves and builds $(RUNNER) and $(SERVER) ($(BUILD_TIME))'
+	@echo 'make serve   a server to try, on port 7000 with the tenants of $(FIRST): built and NOT proved, in some minutes the first time'
+	@echo 'make install puts the built server, the terminal, a service file, pages of the manual and completion below PREFIX=$(PREFIX)'
 	@echo 'make test    the gate, and then the built programs as users run them ($(TEST_TIME)); with CRATES="a b" the proofs, edits, tests and programs of these crates and of those below them'
 	@echo 'make look    the part of the gate that needs nothing built: pages, laws and worked replies (ten seconds)'
 	@echo 'make drive   the part of the gate that drives the built programs'
@@ -33,6 +41,34 @@ build:
 	@cd crates/cqlrun && rt run < ../../$(FIRST) > /dev/null
 	@cd crates/cqld && rt run -- --help > /dev/null
 	@echo 'Built. Try: $(RUNNER) < $(FIRST)'
+
+# a server for somebody who tries it while `make build` runs: what it would trap at, it traps at
+serve: $(UNPROVED)
+	@echo 'This server is built and NOT proved: for trying alone. Ctrl-C ends it, and what it has is gone.'
+	@echo 'The tenants are a and b, with the keys ka and kb; docs/TUTORIAL.md says how to go on.'
+	@head -n 1 $(FIRST) | $(UNPROVED) --port 7000
+
+$(UNPROVED): $(wildcard crates/*/src/*.rt) tools/native
+	@mkdir -p $(@D)
+	@echo 'Building a server, which takes some minutes. Nothing is proved of it.'
+	@tools/native --traps cqld $@
+
+# the server that was built, the terminal, and what a system wants of them
+install:
+	@test -x $(SERVER) || { echo 'First: make build'; exit 1; }
+	install -D -m 755 $(SERVER) $(DESTDIR)$(PREFIX)/bin/cqld
+	mkdir -p $(DESTDIR)$(PREFIX)/lib/romburik/romburik/static
+	install -m 644 clients/python/romburik/*.py $(DESTDIR)$(PREFIX)/lib/romburik/romburik
+	install -m 644 clients/python/romburik/static/* $(DESTDIR)$(PREFIX)/lib/romburik/romburik/static
+	install -m 755 examples/service/romburik $(DESTDIR)$(PREFIX)/bin/romburik
+	install -D -m 644 examples/service/cqld.sysusers $(DESTDIR)/usr/lib/sysusers.d/cqld.conf
+	mkdir -p $(DESTDIR)/etc/systemd/system $(DESTDIR)$(PREFIX)/share/man/man1
+	sed 's|/usr/local|$(PREFIX)|' examples/service/cqld.service > $(DESTDIR)/etc/systemd/system/cqld.service
+	$(SERVER) --help | examples/service/manual.py cqld 1 'serves continuous queries' > $(DESTDIR)$(PREFIX)/share/man/man1/cqld.1
+	PYTHONPATH=clients/python COLUMNS=80 python3 -m romburik --help | examples/service/manual.py romburik 1 'a terminal for cqld' > $(DESTDIR)$(PREFIX)/share/man/man1/romburik.1
+	install -D -m 644 examples/service/completion.bash $(DESTDIR)$(PREFIX)/share/bash-completion/completions/cqld
+	ln -sf cqld $(DESTDIR)$(PREFIX)/share/bash-completion/completions/romburik
+	@echo 'Installed. The next steps are in docs/OPERATING.md, "As a service".'
 
 # every proof from nothing, the edits that must be refused, the tests, the built programs, and the pages; or
 # the first three of some crates

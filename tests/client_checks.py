@@ -2066,6 +2066,141 @@ def keys_stay_here(_):
             romburik.lines.leaves_machine = leaves_machine
 
 
+# ---- Running it.
+
+SERVICE = EXAMPLES / "service"
+LOG = b"""\
+{"login":"a"}
+{"login":"a","time":1764380000}
+{"refused_login":null}
+{"ended":"a","why":"caller"}
+{"sessions":2,"calls":10,"fetches":3,"fetching":1,"warm":2,"cold":1,"lock_us":93,"answer_us":20,"commands":{"put":7},"refused":{"41":2}}
+{"owner":"a","held":{"s":12,"u":3}}
+no line of it
+{"sessions":1,"calls":5,"fetches":0,"fetching":0,"warm":0,"cold":0,"lock_us":3,"answer_us":0,"commands":{"put":4},"refused":{}}
+{"owner":"a","held":{"s":9}}
+{"tenant":"b","commands":{"put":4},"lag":7}
+"""
+EXPORTED = """\
+cqld_calls_total 15
+cqld_commands_total{command="put"} 11
+cqld_held_rows{tenant="a",stream="s"} 9
+cqld_lines_passed_over_total 1
+cqld_logins_total{tenant="a"} 2
+cqld_refusals_total{number="41"} 2
+cqld_sessions 1
+cqld_sessions_ended_total{tenant="a",why="caller"} 1
+cqld_tenant_commands{tenant="b",of="put"} 4
+cqld_tenant_lag{tenant="b"} 7
+"""
+
+
+def exporter(program):
+    """What a log tells as Prometheus reads it, of lines that are given and of a server's own."""
+    command = [sys.executable, EXAMPLES / "exporter.py"]
+    how = {"capture_output": True, "timeout": SECONDS, "check": False, "env": environment()}
+    ran = subprocess.run([*command, "--once"], input=LOG, **how)
+    lines = ran.stdout.decode().splitlines(True)
+    missing = [line for line in EXPORTED.splitlines(True) if line not in lines]
+    held = [line for line in lines if "held_rows{" in line]
+    yield "what is exported", difference((ran.returncode, missing, len(held)), (0, [], 1))
+    if shutil.which("promtool"):
+        checked = subprocess.run(["promtool", "check", "metrics"], input=ran.stdout, **how)
+        yield "what promtool says", difference((checked.returncode, checked.stdout), (0, b""))
+    else:
+        print("not run: promtool, of Debian's package prometheus, isn't installed")
+    with Server(program, TENANTS, log=1) as server:
+        child = subprocess.Popen(
+            [*command, "--listen", "0"],
+            stdin=server.child.stderr,
+            stdout=subprocess.PIPE,
+            env=environment(),
+        )
+        with ending(child), session(server) as it:
+            it.stream("s", {"v": "int"})
+            address = lines_of(child.stdout, 1).decode().split()[-1]
+            wanted = 'cqld_commands_total{command="stream"} 1\n'
+
+            def is_told():
+                with urllib.request.urlopen(f"http://{address}/metrics", timeout=SECONDS) as reply:
+                    return wanted in reply.read().decode()
+
+            wait_for(is_told)
+            yield "what a server tells", None
+
+
+def bridge(program):
+    """Messages of a broker into a stream, and what a query tells back to it."""
+    if not all(map(shutil.which, ("mosquitto", "mosquitto_sub", "mosquitto_pub"))):
+        print("not run: MQTT, for which mosquitto and mosquitto-clients have to be installed")
+        return
+    port = free_port()
+    setup = (
+        {"columns": [["topic", "text"], ["value", "int"]], "do": "stream", "name": "r"},
+        {"do": "query", "name": "hot", "text": "Select Istream(*) From r [Now] Where value > 20"},
+    )
+    with tempfile.TemporaryDirectory() as folder, contextlib.ExitStack() as open_ones:
+        offsets = pathlib.Path(folder, "offsets")
+        offsets.mkdir()
+        pathlib.Path(folder, "setup").write_bytes(b"".join(line_of(**it) for it in setup))
+        log = pathlib.Path(folder, "log")
+        log.touch()
+
+        def start(*words, **how):
+            child = subprocess.Popen(words, env=environment(), **how)
+            return open_ones.enter_context(ending(child))
+
+        silent = {"stdout": subprocess.DEVNULL, "stderr": subprocess.DEVNULL}
+        start("mosquitto", "-p", str(port), **silent)
+        wait_for(lambda: is_listening(port))
+        told = start("mosquitto_sub", "-p", str(port), "-t", "alerts", "-C", "1", stdout=subprocess.PIPE)
+        words = "--topic", "home/+", "--stream", "r", "--log", str(log), "--beat", "0.2"
+        start(sys.executable, EXAMPLES / "bridge.py", *words, "--broker-port", str(port), **silent)
+        with Server(program, TENANTS) as server:
+            where = "--port", str(server.port), "--tenant", "a", "--offsets", str(offsets)
+            files = "--setup", f"{folder}/setup", "--log", str(log), "--scale", "100"
+            start(sys.executable, FEED, *where, *files, "--poll", "0.05")
+            publish = f"mosquitto_pub -p {port} -q 1 -t alerts -s"
+            start(sys.executable, CONSUME, *where, "--query", "hot", "--poll", "0.05", "--exec", publish)
+            send = "mosquitto_pub", "-p", str(port), "-q", "1", "-t", "home/hall", "-m"
+            # until the bridge has subscribed, what is sent goes to nobody
+            while not log.read_bytes():
+                subprocess.run([*send, "19"], check=True, timeout=SECONDS)
+            for message in "warm", "21":
+                subprocess.run([*send, message], check=True, timeout=SECONDS)
+            alert = json.loads(lines_of(told.stdout, 1))
+        yield "an alert by MQTT", difference(alert["rows"], [["home/hall", 21]])
+
+
+def installed(program):
+    """What `make install` puts, which runs from there; the service file is a closed one."""
+    with tempfile.TemporaryDirectory() as folder, Server(program, TENANTS) as server:
+        words = ["make", "install", f"SERVER={program}", f"DESTDIR={folder}", "PREFIX=/opt/cql"]
+        ran = subprocess.run(words, cwd=TOP, capture_output=True, timeout=SECONDS, check=False)
+        yield "an installation", None if ran.returncode == 0 else ran.stderr.decode()
+        bare = environment()
+        bare.pop("PYTHONPATH")
+        ran = subprocess.run(
+            [f"{folder}/opt/cql/bin/romburik", "--port", str(server.port), "--tenant", "a"],
+            input=LIST,
+            env=bare,
+            capture_output=True,
+            timeout=SECONDS,
+            check=False,
+        )
+        yield "a terminal that is installed", difference(ran.stdout, b"> " + LIST + b"< " + EMPTY)
+        for name in "cqld", "romburik":
+            manual = pathlib.Path(folder, f"opt/cql/share/man/man1/{name}.1").read_text()
+            yield f"a manual of {name}", None if "\\-\\-port" in manual else "it has no --port"
+    if not shutil.which("systemd-analyze"):
+        print("not run: systemd-analyze isn't installed")
+        return
+    words = ["systemd-analyze", "security", "--offline=true", "--no-pager", SERVICE / "cqld.service"]
+    ran = subprocess.run(words, capture_output=True, text=True, timeout=SECONDS, check=False)
+    exposed = re.search(r"Overall exposure level for cqld.service: ([0-9.]+)", ran.stdout)
+    yield "how far a service is open", None if exposed and float(exposed[1]) <= 2 else ran.stdout
+
+
 CHECKS = (
     session_methods,
     session_grants,
@@ -2114,4 +2249,7 @@ CHECKS = (
     load_goes_on,
     proxies,
     keys_stay_here,
+    exporter,
+    bridge,
+    installed,
 )

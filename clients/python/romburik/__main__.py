@@ -8,11 +8,9 @@ import sys
 import time
 from typing import NoReturn, Optional, Sequence
 
-from .bulk import Source, put_file
 from .calling import add_words, check_words, port_of, session_of
 from .errors import BadReply, ConnectionLost, Error, Refused
 from .owning import Copies
-from .page import Site, serve
 from .prompt import send_typed
 from .session import Session
 from .terminal import (
@@ -97,7 +95,7 @@ def _run(given: argparse.Namespace) -> int:
         if given.view[:1] == ["watch"]:
             watch(session, given.view[1], {}, given.table, given.copies)
         if given.view == ["page"]:
-            serve(session, Site(given.listen, given.epoch, given.token_file, given.copies))
+            _serve(session, given)
         if given.view[:1] == ["put"]:
             return _put(session, given)
         if given.ping:
@@ -111,7 +109,18 @@ def _run(given: argparse.Namespace) -> int:
         return send_piped(session, given.table, given.quiet)
 
 
+# What few runs need is imported by those alone, since a terminal is to be there at once.
+
+
+def _serve(session: Session, given: argparse.Namespace) -> None:
+    from .page import Site, serve
+
+    serve(session, Site(given.listen, given.epoch, given.token_file, given.copies))
+
+
 def _put(session: Session, given: argparse.Namespace) -> int:
+    from .bulk import Source, put_file
+
     source = Source(
         given.csv,
         given.at,

@@ -4,8 +4,8 @@ SERVER := crates/cqld/out/cqld
 FIRST := examples/first.jsonl
 # from nothing, on four cores
 RUN_TIME := one to three minutes
-BUILD_TIME := a quarter of an hour or more
-TEST_TIME := half an hour to an hour and a half on four cores, by how fast they are
+BUILD_TIME := a quarter of an hour on four fast cores, 70 to 110 minutes on plain ones that others share
+TEST_TIME := half an hour to an hour and a half on four cores, by how fast they are, and longer where others share them
 
 # where `make install` puts what it installs; what packs it sets DESTDIR
 PREFIX := /usr/local

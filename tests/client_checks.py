@@ -272,11 +272,12 @@ def long_lines(program):
 
 
 def readme(program):
-    """The first examples of the module's page do what it says."""
+    """The examples of the module's page, one behind the other, do what it says, under the quotas of
+    the first script."""
     page = (MODULE / "README.md").read_text()
     examples = re.findall("```python\n(.*?)```", page, re.DOTALL)
     printed = []
-    with Server(program, WIDE) as server:
+    with Server(program, TENANTS) as server:
         ran = subprocess.run(
             [sys.executable, "-"],
             input=examples[0].replace("7000", str(server.port)),
@@ -289,17 +290,24 @@ def readme(program):
         wanted = 0, "", re.findall("# (Answer.*\n)", examples[0])
         found = ran.returncode, ran.stderr, [ran.stdout]
         yield "a page's first example", difference(found, wanted)
+
+        def show(*said):
+            printed.append(said)
+            if isinstance(said[0], str) and len(printed) == 6:
+                raise EOFError("enough of it is followed")
+
         with session(server) as it:
-            names = {"print": lambda *said: printed.append(said), "session": it}
-            for example in examples[1:3]:
-                exec(example, {"romburik": romburik, **names})
-    yield "a page's next examples", difference(printed, [(41, "Late"), (990,)])
+            names = {"print": show, "session": it, "romburik": romburik}
+            for example in (*examples[1:3], examples[4]):
+                exec(example, names)
+            found = type(error_of(lambda: exec(examples[3], names))), printed[:2], len(printed)
+    yield "a page's next examples", difference(found, (EOFError, [(41, "Late"), (90,)], 6))
 
 
 def sessions_on(path):
     """For each session that a page shows: the lines that are typed, and what the terminal prints
     where they come by a pipe."""
-    for shown in re.findall("```\n(.*?)```", path.read_text(), re.DOTALL):
+    for shown in re.findall("^```\\w*\n(.*?)^```$", path.read_text(), re.DOTALL | re.MULTILINE):
         lines = shown.partition("key of a:\n")[2] or shown
         if lines.startswith("a> "):
             given = "".join(re.findall("^a> (.*\n)", lines, re.MULTILINE))
@@ -329,9 +337,12 @@ def pages(program):
             found = busy.name, busy.next, it.fetch("busy").next
         yield "rows that are put to be watched", difference(found, ("busy", 39, 100))
     with Server(program, TENANTS) as server:
-        for given, wanted in sessions_on(MODULE / "README.md"):
-            ended = terminal(server.port, given=given)
-            yield "the session of the module's page", difference(ended.written, wanted)
+        # one goes on with what the one before it has made
+        pairs = [*sessions_on(MODULE / "README.md")]
+        ended = terminal(server.port, given=b"".join(given for given, _ in pairs))
+        wanted = b"".join(wanted for _, wanted in pairs)
+        yield "the sessions of the module's page", difference(ended.written, wanted)
+        yield "how many they are", difference(len(pairs), 2)
 
 
 class Peer:

@@ -226,6 +226,9 @@ impl Plain {
         requires { count ≤ length self.old }
         ensures { self.new ≡ drop count self.old }
     {
+        if count == 0 {
+            return;
+        }
         self.gone += count;
         self.weigh();
     }

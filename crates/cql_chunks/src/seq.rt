@@ -265,7 +265,10 @@ impl Seq {
     }
 
     /// The same of a tree that nobody else holds.
-    pub(crate) fn into_halves(self) -> Option<(Arc<Seq>, Numbered, Arc<Seq>)> {
+    pub(crate) fn into_halves(self) -> Option<(Arc<Seq>, Numbered, Arc<Seq>)>
+        ensures some { IfSome result (λ r. self ≡ arc_value r.0 ++ r.1 ∷ arc_value r.2) }
+        ensures none { IfNone result (self ≡ []) }
+    {
         match self.node {
             SeqNode::Leaf => None,
             SeqNode::Fork(left, own, _, _, right) => Some((left, own, right)),

@@ -8,6 +8,7 @@ use Rattle.std.below.std_heap.proofs.GlobalAllocator.TheSendSync as frees
 use Rattle.std.specs.contracts.sync.Arc as Arc
 use Rattle.std.specs.contracts.alloc.Global as Global
 use Rattle.std.specs.contracts.impls.GlobalAllocator.TheImpl as TheImpl
+use Rattle.cql_value.proofs.timed.Timed.TheSendSync as timed
 use Rattle.cql_chunks.proofs.seq.Numbered.TheSendSync as numbered
 use Rattle.cql_chunks.proofs.seq.Seq.TheLaws.TheKnot.{both_send-Seq, both_sync-Seq}
 use Rattle.cql_chunks.specs.contracts.seq.Seq as seq
@@ -25,8 +26,8 @@ seq_send = both_send-Seq arc_send (search (sendable, numbered.the_send, numbered
 pub seq_sync : IsSync seq.the_row
 seq_sync = both_sync-Seq arc_send (search (sendable, numbered.the_send, numbered.the_field_send) depth 20) (search sendable) (search sendable) arc_sync (search (sendable, numbered.the_sync, numbered.the_field_sync) depth 20) (search sendable) (search sendable)
 
-pub waste_send : IsSend (waste.the_field).row
-waste_send = search (sendable, seq_send, seq_sync, vec.the_send, arc.the_send, heap.the_send, heap.the_sync, frees.the_frees) depth 20
+pub waste_send : IsSend waste.the_row
+waste_send = search (sendable, seq_send, seq_sync, timed.the_send, vec.the_send, arc.the_send, heap.the_send, heap.the_sync, frees.the_frees) depth 20
 
-pub waste_sync : IsSync (waste.the_field).row
-waste_sync = search (sendable, seq_send, seq_sync, vec.the_sync, arc.the_sync, heap.the_send, heap.the_sync, frees.the_frees) depth 20
+pub waste_sync : IsSync waste.the_row
+waste_sync = search (sendable, seq_send, seq_sync, timed.the_sync, vec.the_sync, arc.the_sync, heap.the_send, heap.the_sync, frees.the_frees) depth 20

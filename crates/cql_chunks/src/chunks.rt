@@ -3,12 +3,14 @@ ghost use Rattle.std.specs.Prelude.{◌≡◌, ◌≤◌, ◌<◌, ◌^◌, ◌+
 ghost use Rattle.std.specs.Arc.{arc_value};
 ghost use Rattle.cql_chunks.specs.Seq.{row_in};
 
+use crate::budget::Budget;
 use crate::equals::are_joined_equal;
 use crate::plain::Plain;
 use crate::run::Run;
 use crate::seq::Seq;
 use crate::stretch::Stretch;
 use crate::tree_rows::TreeRows;
+use crate::waste::Waste;
 use cql_value::{Equals, Timed};
 use std::alloc::{AllocError, Global};
 use std::marker::Model;
@@ -111,8 +113,8 @@ impl Chunks {
         Ok(plain)
     }
 
-    /// So many rows at the front go. Of the chunks of which no row is left a few are let go, and the
-    /// others by later calls, so that no call takes long.
+    /// So many rows at the front go. They are let go by `settle`: none is looked at but of the last
+    /// rows, fewer than a chunk.
     pub fn drop_front(&mut self, count: usize)
         requires { count ≤ length self.old }
         ensures { self.new ≡ drop count self.old }
@@ -123,12 +125,22 @@ impl Chunks {
         }
     }
 
-    /// Lets go of a few of the chunks of which no row is left.
-    pub fn settle(&mut self)
+    /// Whether `settle` has something to let go of.
+    pub fn has_waste(&self) -> bool {
+        match &self.form {
+            Form::Plain(plain) => plain.has_waste(),
+            Form::Tree(_) => false,
+        }
+    }
+
+    /// Lets go of the chunks of which no row is left, as far as the budget has units, and of heavy rows
+    /// at the front where there is no full chunk. The rows of a chunk that it has too few units for are
+    /// in the waste then.
+    pub fn settle(&mut self, waste: &mut Waste, budget: &mut Budget)
         ensures { self.new ≡ self.old }
     {
         match &mut self.form {
-            Form::Plain(plain) => plain.settle(),
+            Form::Plain(plain) => plain.settle(waste, budget),
             Form::Tree(_) => {}
         }
     }

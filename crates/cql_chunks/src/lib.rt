@@ -5,6 +5,7 @@
 //! beside it, in a time that grows with the logarithm of its length.
 #![tactic(auto)]
 
+mod budget;
 mod chunk;
 mod chunks;
 mod equals;
@@ -16,6 +17,7 @@ mod tree_rows;
 mod waste;
 mod words;
 
+pub use budget::{Budget, weight};
 pub use chunks::Chunks;
 pub use equals::are_joined_equal;
 pub use seq::{Numbered, Seq};

@@ -2,8 +2,10 @@
 ghost use Rattle.std.specs.Prelude.{◌≡◌, ◌≤◌, ◌<◌, ◌^◌, ◌+◌, ◌-◌, [], ◌∷◌, ◌++◌, IfOk, OnOk, OnErr, length, drop, take, slice_index_or};
 ghost use Rattle.cql_chunks.specs.Chunks.{rows_of, chunk_at, AreFull};
 
+use crate::budget::{Budget, weight};
 use crate::chunk::{Chunk, SIZE};
 use crate::run::Run;
+use crate::waste::Waste;
 use cql_value::{Timed, copies_of};
 use std::alloc::{AllocError, Global};
 use std::collections::VecDeque;
@@ -13,8 +15,26 @@ use std::mem;
 /// No list has more rows.
 pub(crate) const LIMIT: usize = usize::MAX / 2;
 
-// No call lets go of more chunks.
-const FEW: usize = 2;
+// Last rows that are gone are kept, until all are gone, while they weigh fewer units.
+const HEAVY: usize = 256;
+
+// Of the last rows, where there are no others: so many are gone and weighed, and what they weigh.
+#[derive(Clone, Copy)]
+struct Weighed {
+    rows: usize,
+    units: usize,
+}
+
+impl Weighed {
+    fn none() -> Weighed {
+        Weighed { rows: 0, units: 0 }
+    }
+
+    // None where the last rows begin anew.
+    fn unless(self, is_new: bool) -> Weighed {
+        if is_new { Weighed::none() } else { self }
+    }
+}
 
 /// A list of rows. Full chunks of it are shared with those who take a part of it; the last rows,
 /// fewer than a chunk, are its own.
@@ -26,6 +46,7 @@ pub(crate) struct Plain {
     gone: usize,
     // So many rows are in the chunks and the last.
     end: usize,
+    weighed: Weighed,
 }
 
 impl Model for Plain {
@@ -140,6 +161,28 @@ fn copies_in(
     copies_of(alloc, slice_in(chunk, from, to))
 }
 
+// What rows weigh together.
+fn weight_of(rows: &[Timed]) -> usize {
+    let mut units = 0usize;
+    for row in rows {
+        units = units.saturating_add(weight(row));
+    }
+    units
+}
+
+// How many rows at the front the budget has units for, which it spends.
+fn affordable(rows: &[Timed], budget: &mut Budget) -> usize
+    ensures { result ≤ length rows.now }
+{
+    for (index, row) in rows.iter().enumerate() {
+        if budget.is_spent() {
+            return index;
+        }
+        budget.spend(weight(row));
+    }
+    rows.len()
+}
+
 impl Plain {
     /// No rows.
     pub(crate) fn new(alloc: Global) -> Plain
@@ -150,6 +193,7 @@ impl Plain {
             last: Vec::new(alloc),
             gone: 0,
             end: 0,
+            weighed: Weighed::none(),
         }
     }
 
@@ -171,44 +215,101 @@ impl Plain {
             return Err(AllocError);
         }
         close(alloc, &mut self.full, &mut self.last)?;
+        self.weighed = self.weighed.unless(self.last.is_empty());
         self.last.push(row)?;
         self.end += 1;
         Ok(())
     }
 
-    /// So many rows at the front go. Of the chunks of which no row is left a few are let go, and the
-    /// others by later calls, so that no call takes long.
+    /// So many rows at the front go. They are let go by `settle`.
     pub(crate) fn drop_front(&mut self, count: usize)
         requires { count ≤ length self.old }
         ensures { self.new ≡ drop count self.old }
     {
-        if count == 0 && self.gone < SIZE {
+        if count == 0 {
             return;
         }
         self.gone += count;
-        self.settle();
+        self.weigh();
     }
 
-    // Lets go of a few chunks of which no row is left.
-    fn let_chunks_go(&mut self)
+    // Weighs those of the last rows that went since, where there are no others. Each is weighed once.
+    fn weigh(&mut self)
         ensures { self.new ≡ self.old }
     {
-        let whole = (self.gone / SIZE).min(self.full.len()).min(FEW);
-        self.full.drain(..whole);
-        self.gone -= SIZE * whole;
-        self.end -= SIZE * whole;
-    }
-
-    /// Lets go of a few of the chunks of which no row is left.
-    pub(crate) fn settle(&mut self)
-        ensures { self.new ≡ self.old }
-    {
-        self.let_chunks_go();
-        if self.gone == self.end && self.full.is_empty() {
-            self.last.clear();
-            self.gone = 0;
-            self.end = 0;
+        if !self.full.is_empty() {
+            return;
         }
+        let to = self.gone.min(self.last.len());
+        let from = self.weighed.rows.min(to);
+        let more = weight_of(&self.last[from..to]);
+        self.weighed = Weighed {
+            rows: to,
+            units: self.weighed.units.saturating_add(more),
+        };
+    }
+
+    // Whether the last rows that are gone are to be let go, where there are no others.
+    fn is_burdened(&self) -> bool {
+        self.weighed.units >= HEAVY || self.gone == self.end
+    }
+
+    /// Whether `settle` has something to let go of: chunks of which no row is left, all rows, or
+    /// heavy ones.
+    pub(crate) fn has_waste(&self) -> bool {
+        if self.full.is_empty() {
+            self.gone > 0 && self.is_burdened()
+        } else {
+            self.gone >= SIZE
+        }
+    }
+
+    // Takes the first chunk out, where no row of it is left.
+    fn take_chunk(&mut self) -> Option<Chunk>
+        ensures { self.new ≡ self.old }
+    {
+        if self.gone < SIZE {
+            return None;
+        }
+        let chunk = self.full.pop_front()?;
+        self.gone -= SIZE;
+        self.end -= SIZE;
+        Some(chunk)
+    }
+
+    // Lets go of so many of the last rows that are gone as the budget has units for, where there are no
+    // others and these are all or heavy.
+    fn settle_last(&mut self, budget: &mut Budget)
+        ensures { self.new ≡ self.old }
+    {
+        self.weigh();
+        if !self.full.is_empty() || !self.is_burdened() {
+            return;
+        }
+        let count = affordable(&self.last[..self.gone], budget);
+        self.last.drain(..count);
+        self.gone -= count;
+        self.end -= count;
+        self.weighed = Weighed::none();
+        self.weigh();
+    }
+
+    /// Lets go of the chunks of which no row is left, as far as the budget has units.
+    pub(crate) fn settle(&mut self, waste: &mut Waste, budget: &mut Budget)
+        ensures { self.new ≡ self.old }
+    {
+        waste.settle_rows(budget);
+        for _ in 0..self.gone / SIZE {
+            if budget.is_spent() {
+                return;
+            }
+            let Some(chunk) = self.take_chunk() else {
+                break;
+            };
+            waste.put_chunk(chunk);
+            waste.settle_rows(budget);
+        }
+        self.settle_last(budget);
     }
 
     /// The row at an index.
@@ -291,6 +392,7 @@ impl Plain {
                 last,
                 gone: 0,
                 end,
+                weighed: Weighed::none(),
             });
         }
         let full = shares(alloc, &self.full, first, whole)?;
@@ -300,6 +402,7 @@ impl Plain {
             last,
             gone: start - SIZE * first,
             end: stop - SIZE * first,
+            weighed: Weighed::none(),
         })
     }
 }

@@ -264,11 +264,14 @@ impl Seq {
         }
     }
 
-    /// The same lists, of a tree that nobody else holds: the row in its midst is let go.
-    pub(crate) fn into_halves(self) -> Option<(Arc<Seq>, Arc<Seq>)> {
+    /// The same of a tree that nobody else holds.
+    pub(crate) fn into_halves(self) -> Option<(Arc<Seq>, Numbered, Arc<Seq>)>
+        ensures some { IfSome result (λ r. self ≡ arc_value r.0 ++ r.1 ∷ arc_value r.2) }
+        ensures none { IfNone result (self ≡ []) }
+    {
         match self.node {
             SeqNode::Leaf => None,
-            SeqNode::Fork(left, _, _, _, right) => Some((left, right)),
+            SeqNode::Fork(left, own, _, _, right) => Some((left, own, right)),
         }
     }
 }

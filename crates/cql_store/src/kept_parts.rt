@@ -7,12 +7,15 @@ ghost use Rattle.cql_window.specs.Coming.{with_one};
 use crate::coming::come_in;
 use crate::made::{numbered, sort_by_part};
 use crate::parted::parted_by;
-use cql_chunks::{Seq, Waste};
+use cql_chunks::{Seq, Waste, weight};
 use cql_value::Timed;
 use cql_window::Count;
 use std::alloc::{AllocError, Global};
 use std::marker::Model;
 use std::sync::Arc;
+
+// By number, and by part.
+const TREES: usize = 2;
 
 /// Rows in order of acceptance, found by their part too. Those after one more row are made beside
 /// them, and share all but some that are as many as the logarithm of the rows.
@@ -24,6 +27,8 @@ pub struct KeptParts {
     leaf: Arc<Seq>,
     // The number of the next row.
     next: u64,
+    // The units of the rows that came since all were shared.
+    made: usize,
 }
 
 impl Drop for KeptParts {
@@ -34,6 +39,7 @@ impl Drop for KeptParts {
             parts: _,
             leaf: _,
             next: _,
+            made: _,
         } = self;
     }
 }
@@ -52,6 +58,20 @@ impl Model for KeptParts {
     ghost invariant = { λ k. AreNumbered k.next (arc_value k.rows) × AreParted (arc_value k.columns).items (arc_value k.rows) (arc_value k.parts) × (arc_value k.leaf ≡ []) };
 }
 
+// The units of a row and of its places in both trees.
+fn units_of_one(row: &Timed) -> usize {
+    weight(row).saturating_mul(TREES)
+}
+
+// Those of rows.
+fn units_of(rows: &[Timed]) -> usize {
+    let mut units = 0usize;
+    for row in rows {
+        units = units.saturating_add(units_of_one(row));
+    }
+    units
+}
+
 impl KeptParts {
     /// No rows.
     pub fn new(alloc: Global, columns: &[usize]) -> Result<KeptParts, AllocError>
@@ -67,6 +87,7 @@ impl KeptParts {
             parts,
             leaf,
             next: 0,
+            made: 0,
         })
     }
 
@@ -77,6 +98,7 @@ impl KeptParts {
     {
         let own = Arc::new(alloc, Vec::from_slice(alloc, columns)?)?;
         let leaf = Seq::new(alloc)?;
+        let made = units_of(rows.as_slice());
         let mut entries = numbered(alloc, rows)?;
         let next = entries.len() as u64;
         let rows = Seq::of(alloc, &leaf, entries.as_slice())?;
@@ -88,6 +110,7 @@ impl KeptParts {
             parts,
             leaf,
             next,
+            made,
         })
     }
 
@@ -106,6 +129,7 @@ impl KeptParts {
             parts,
             leaf,
             next: self.next,
+            made: 0,
         })
     }
 
@@ -114,6 +138,11 @@ impl KeptParts {
         ensures { result ≡ length self.now }
     {
         self.rows.len()
+    }
+
+    /// The units of the rows that came since all were shared, or of all of them.
+    pub fn made(&self) -> usize {
+        self.made
     }
 
     /// The rows in order of acceptance, as a list that others may share.
@@ -131,6 +160,7 @@ impl KeptParts {
             parts,
             leaf: _,
             next: _,
+            made: _,
         } = self;
         waste.put(rows);
         waste.put(parts);
@@ -153,6 +183,7 @@ impl KeptParts {
             parts,
             leaf,
             next,
+            made,
         } = self;
         let (own, parts) = parted_by(alloc, columns, own, &rows, parts, &leaf)?;
         let Some(after) = next.checked_add(1) else {
@@ -165,6 +196,7 @@ impl KeptParts {
             parts,
             leaf,
             next: after,
+            made: made.saturating_add(units_of_one(row)),
         })
     }
 }

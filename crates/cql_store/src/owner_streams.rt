@@ -6,6 +6,7 @@ ghost use Rattle.cql_store.specs.Stores.{OwnStores, OwnMoves};
 use crate::ready::Ready;
 use crate::store::Store;
 use crate::stub::StubId;
+use cql_chunks::Budget;
 use cql_value::Timed;
 use cql_window::Window;
 use std::alloc::{AllocError, Global};
@@ -103,17 +104,27 @@ impl OwnerStreams {
         self.stores[stream].detach(id);
     }
 
-    /// The store of a stream lets go of a few of the rows that nothing needs any more. Whether there
-    /// is such a stream.
-    pub(crate) fn settle(&mut self, stream: usize) -> bool
+    /// The units of what calls put into the store of a stream since it was asked last, about; and
+    /// whether that store has something to let go of from now on.
+    pub(crate) fn take_made(&mut self, stream: usize) -> (usize, bool)
         ensures { self.new ≡ self.old }
     {
         match self.stores.get_mut(stream) {
-            Some(store) => {
-                store.settle();
-                true
+            Some(store) => (store.take_made(), store.begins_to_wait()),
+            None => (0, false),
+        }
+    }
+
+    /// The store of a stream lets go of as much of what nothing needs any more as the budget has units
+    /// for. Where some are left it has let go of all of it, and waits no more.
+    pub(crate) fn settle(&mut self, stream: usize, budget: &mut Budget)
+        ensures { self.new ≡ self.old }
+    {
+        if let Some(store) = self.stores.get_mut(stream) {
+            store.settle(budget);
+            if !budget.is_spent() {
+                store.end_wait();
             }
-            None => false,
         }
     }
 }

@@ -7,12 +7,13 @@ use crate::moves::{go_to, kept_at, pin_of};
 use crate::ready::Ready;
 use crate::retention_index::{RetentionIndex, mark_all, trim};
 use crate::stub::{Stub, StubId, StubRows, limit_of};
-use cql_chunks::{Chunks, Waste};
+use cql_chunks::{Budget, Chunks, Waste};
 use cql_value::Timed;
 use cql_window::{Window, WindowPin};
 use slab::Slab;
 use std::alloc::{AllocError, Global};
 use std::marker::Model;
+use std::mem;
 
 /// The rows of a stream that some stub on it still needs, and the stubs.
 pub struct Store {
@@ -24,6 +25,9 @@ pub struct Store {
     retention: RetentionIndex,
     // What stubs kept that are gone.
     waste: Waste,
+    // The units of what was put in since that was asked.
+    made: usize,
+    waits: bool,
 }
 
 impl Drop for Store {
@@ -35,6 +39,8 @@ impl Drop for Store {
             stubs: _,
             retention: _,
             waste: _,
+            made: _,
+            waits: _,
         } = self;
     }
 }
@@ -62,6 +68,8 @@ impl Store {
             stubs: Slab::new(alloc),
             retention: RetentionIndex::new(alloc),
             waste: Waste::new(alloc),
+            made: 0,
+            waits: false,
         }
     }
 
@@ -105,7 +113,9 @@ impl Store {
         if count == usize::MAX {
             return Err(AllocError);
         }
+        let values = row.row().len();
         self.rows.push(self.alloc, row)?;
+        self.made = self.made.saturating_add(values);
         mark_all(
             &mut self.stubs,
             &mut self.retention,
@@ -162,6 +172,7 @@ impl Store {
         requires { IsSomeAnd (stub_of self.old ready.id) (IsReady ready.to ready.kept) }
         ensures { IfSome (stub_of self.old ready.id) (λ h. Updates self.old self.new ready.id (Some (advanced ready.to h))) }
     {
+        self.made = self.made.saturating_add(ready.kept.made());
         move_one(
             &mut self.stubs,
             &mut self.retention,
@@ -172,12 +183,35 @@ impl Store {
         self.gone = trim(&mut self.rows, self.gone, &self.retention);
     }
 
-    /// Lets go of a few of the rows that no stub needs any more, and that no call let go of yet.
-    pub fn settle(&mut self)
+    /// Lets go of as much of what no stub needs any more as the budget has units for.
+    pub fn settle(&mut self, budget: &mut Budget)
         ensures { self.new ≡ self.old }
     {
-        self.rows.settle();
-        self.waste.settle();
+        self.rows.settle(&mut self.waste, budget);
+        self.waste.settle(budget);
+    }
+
+    /// The units of what calls put into the store since it was asked last, about.
+    pub(crate) fn take_made(&mut self) -> usize
+        ensures { self.new ≡ self.old }
+    {
+        mem::replace(&mut self.made, 0)
+    }
+
+    /// Whether it has something to let go of and doesn't wait for it yet. It does so from then on.
+    pub(crate) fn begins_to_wait(&mut self) -> bool
+        ensures { self.new ≡ self.old }
+    {
+        let begins = !self.waits && (self.rows.has_waste() || !self.waste.is_empty());
+        self.waits |= begins;
+        begins
+    }
+
+    /// It waits no more.
+    pub(crate) fn end_wait(&mut self)
+        ensures { self.new ≡ self.old }
+    {
+        self.waits = false;
     }
 
     /// How many rows the store holds: as many as the stub that needs the most.

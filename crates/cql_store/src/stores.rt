@@ -6,43 +6,42 @@ ghost use Rattle.cql_store.specs.Stores.{OwnStores, own_at, store_at, held_at, I
 use crate::owner_streams::OwnerStreams;
 use crate::ready::Ready;
 use crate::stub_ref::StubRef;
+use cql_chunks::Budget;
 use cql_tenants::TenantId;
 use cql_value::Timed;
 use cql_window::{Window, WindowPin};
 use std::alloc::{AllocError, Global};
 use std::marker::Model;
 
-/// The stores of all owners' streams, the streams of each owner in order of making.
-#[derive(Drop)]
-pub struct Stores {
-    owners: Vec<OwnerStreams>,
-    turn: NextStream,
-}
+// What one call lets go of at most, beside as much as it made.
+const UNITS: usize = 1024;
 
-// The stream that settles next.
+// A stream of an owner.
 #[derive(Clone, Copy)]
-struct NextStream {
+struct StreamAt {
     owner: usize,
     stream: usize,
 }
 
-impl NextStream {
-    // The next stream of the same owner, or else the first one of the next owner, or of the first.
-    fn next(self, is_stream: bool, is_owner: bool) -> NextStream {
-        match (is_stream, is_owner) {
-            (true, _) => NextStream {
-                owner: self.owner,
-                stream: self.stream.wrapping_add(1),
-            },
-            (false, true) => NextStream {
-                owner: self.owner.wrapping_add(1),
-                stream: 0,
-            },
-            (false, false) => NextStream {
-                owner: 0,
-                stream: 0,
-            },
-        }
+/// The stores of all owners' streams, the streams of each owner in order of making.
+pub struct Stores {
+    owners: Vec<OwnerStreams>,
+    // The streams whose stores have something to let go of, each once; there is room for all.
+    waiting: Vec<StreamAt>,
+    // How many streams there are.
+    streams: usize,
+    // The units of what calls put in since the stores settled last, about.
+    made: usize,
+}
+
+impl Drop for Stores {
+    fn drop(self) {
+        let Stores {
+            owners: _,
+            waiting: _,
+            streams: _,
+            made: _,
+        } = self;
     }
 }
 
@@ -61,10 +60,9 @@ impl Stores {
     {
         Stores {
             owners: Vec::new(alloc),
-            turn: NextStream {
-                owner: 0,
-                stream: 0,
-            },
+            waiting: Vec::new(alloc),
+            streams: 0,
+            made: 0,
         }
     }
 
@@ -83,7 +81,11 @@ impl Stores {
         ensures ok { OnOk result (self.new ≡ set self.old owner (own_at self.old owner ++ [] ∷ [])) }
         ensures err { OnErr result (self.new ≡ self.old) }
     {
-        self.owners[owner.index()].push(alloc)
+        let room = self.streams.saturating_sub(self.waiting.len());
+        self.waiting.reserve(room.saturating_add(1))?;
+        self.owners[owner.index()].push(alloc)?;
+        self.streams = self.streams.saturating_add(1);
+        Ok(())
     }
 
     /// Takes the owner's last stream away, which has no stub. Takes no memory.
@@ -93,6 +95,7 @@ impl Stores {
         ensures { (front : OwnStores) → own_at self.old owner ≡ front ++ [] ∷ [] → self.new ≡ set self.old owner front }
     {
         self.owners[owner.index()].pop();
+        self.streams = self.streams.saturating_sub(1);
     }
 
     /// One more row for every stub on a stream that isn't overrun. A stub for which it is one too
@@ -103,7 +106,9 @@ impl Stores {
         ensures ok { OnOk result (Appends self.old self.new owner stream row) }
         ensures err { OnErr result (self.new ≡ self.old) }
     {
-        self.owners[owner.index()].append(stream, row)
+        self.owners[owner.index()].append(stream, row)?;
+        self.note(owner, stream);
+        Ok(())
     }
 
     /// A stub of the window on a stream, at the cursor `base`, which may hold so many rows. It has
@@ -176,6 +181,7 @@ impl Stores {
         ensures { IfSome (held_at self.old stub_ref) (λ h. Moves self.old self.new stub_ref (Some (advanced ready.to h))) }
     {
         self.owners[stub_ref.owner.index()].advance(stub_ref.stream, ready);
+        self.note(stub_ref.owner, stub_ref.stream);
     }
 
     /// Takes the stub away, and lets go of the rows that it alone needed. Takes no memory.
@@ -185,6 +191,7 @@ impl Stores {
         ensures { Moves self.old self.new stub_ref None }
     {
         self.owners[stub_ref.owner.index()].detach(stub_ref.stream, stub_ref.stub);
+        self.note(stub_ref.owner, stub_ref.stream);
     }
 
     /// How many rows the store of a stream holds: as many as the stub that needs the most.
@@ -195,16 +202,53 @@ impl Stores {
         self.owners[owner.index()].store(stream).rows_held()
     }
 
-    /// The store of one stream lets go of a few of the rows that nothing needs any more; the next call
-    /// settles the next stream's.
+    // Notes what a call on a stream made, and whether the stream's store has something to let go of.
+    // Takes no memory: there is room for each stream.
+    fn note(&mut self, owner: TenantId, stream: usize)
+        ensures { self.new ≡ self.old }
+    {
+        let owner = owner.index();
+        let Some(streams) = self.owners.get_mut(owner) else {
+            return;
+        };
+        let (made, begins) = streams.take_made(stream);
+        self.made = self.made.saturating_add(made);
+        if begins {
+            drop(self.waiting.push(StreamAt { owner, stream }));
+        }
+    }
+
+    /// Whether some store has something to let go of.
+    pub fn has_waste(&self) -> bool {
+        !self.waiting.is_empty()
+    }
+
+    /// Lets go of what nothing needs any more, of all stores together so many units and as many as the
+    /// calls made since the last one. A row and a node of a tree are one unit, and a text of a row is one
+    /// and one more for each further 1,024 bytes.
     pub fn settle(&mut self)
         ensures { self.new ≡ self.old }
     {
-        let turn = self.turn;
-        let (is_stream, is_owner) = match self.owners.get_mut(turn.owner) {
-            Some(streams) => (streams.settle(turn.stream), true),
-            None => (false, false),
-        };
-        self.turn = turn.next(is_stream, is_owner);
+        let mut budget = Budget::new(UNITS.saturating_add(self.made));
+        self.made = 0;
+        for _ in 0..self.waiting.len() {
+            let Some(next) = self.waiting.last().copied() else {
+                return;
+            };
+            settle_at(&mut self.owners, next, &mut budget);
+            if budget.is_spent() {
+                return;
+            }
+            self.waiting.pop();
+        }
+    }
+}
+
+// The store of a stream lets go of what the budget has units for.
+fn settle_at(owners: &mut Vec<OwnerStreams>, next: StreamAt, budget: &mut Budget)
+    ensures { owners.new.items ≡ owners.old.items }
+{
+    if let Some(streams) = owners.get_mut(next.owner) {
+        streams.settle(next.stream, budget);
     }
 }

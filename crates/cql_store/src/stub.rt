@@ -112,6 +112,14 @@ impl StubRows {
         }
     }
 
+    /// The units of what was made of these rows since they were shared last.
+    pub(crate) fn made(&self) -> usize {
+        match &self.rows {
+            None => 0,
+            Some(rows) => rows.made(),
+        }
+    }
+
     /// Lets the rows go, a few of them at a time.
     pub(crate) fn clear(&mut self, waste: &mut Waste)
         ensures { self.new ≡ [] }

@@ -9,18 +9,11 @@ import itertools
 import os
 import re
 import socket
-from typing import Iterator, Optional, Set, Union
+from typing import Iterator, Optional, Union
 
-from .errors import (
-    Error,
-    NoMemory,
-    Overrun,
-    Refused,
-    Revoked,
-    TooManyQueries,
-    UnknownQuery,
-)
-from .looking import Look, Looker, bounded, final_of
+from .columns import operator_of
+from .errors import Error, NoMemory, Overrun, Refused, Revoked, TooManyQueries, UnknownQuery
+from .looking import FEW, Look, Looker, bounded, final_of
 from .session import Session
 from .told import Listing, Query
 
@@ -75,17 +68,25 @@ def _named(listing: Listing, name: Optional[str]) -> Optional[Query]:
     return next((it for it in listing.queries if it.name == name), None)
 
 
+def _is_shown_whole(query: Query) -> bool:
+    """Whether each instant of a query tells all of its rows."""
+    return operator_of(query.text) == "RSTREAM"
+
+
 class OwnLooker:
     """Looks at a copy of a query, which it registers at its first look. It sees the rows that come
     from then on. What a look told is acknowledged at the next one.
 
     `trouble` is why the query itself tells nothing any more, where it is overrun and the copy isn't.
+    With `skips` it passes over instants of a query by RSTREAM where more is final than two looks
+    take, to be soon at the newest.
     """
 
-    def __init__(self, session: Session, query: str) -> None:
+    def __init__(self, session: Session, query: str, skips: bool = False) -> None:
         self.trouble: Optional[Refused] = None
         self._session = session
         self._name = query
+        self._skips = skips
         self._copied: Optional[Query] = None
         self._copy: Optional[str] = None
         self._before: Optional[Look] = None
@@ -156,6 +157,9 @@ class OwnLooker:
         if before and is_same and final is not None and final <= before.next:
             return None
         start = before.next if before else copy.next
+        if before and before.is_behind and final and self._skips and _is_shown_whole(copy):
+            start = max(start, final - FEW)
+            self._session.ack(copy.name, start)
         try:
             # what was told before has been acknowledged
             there = Query(copy.name, copy.text, copy.base, start)
@@ -174,9 +178,9 @@ class OwnLooker:
 class ChoosingLooker:
     """Looks at a query itself, and goes over to a copy where that is needed."""
 
-    def __init__(self, session: Session, query: str) -> None:
+    def __init__(self, session: Session, query: str, skips: bool = False) -> None:
         self._itself = Looker(session, query)
-        self._own = OwnLooker(session, query)
+        self._own = OwnLooker(session, query, skips)
         self._has_spare = True
         self._is_needed = False
         self._shows_copy = False
@@ -216,14 +220,11 @@ class ChoosingLooker:
 AnyLooker = Union[Looker, OwnLooker, ChoosingLooker]
 
 
-def looker_of(session: Session, query: str, copies: Copies) -> AnyLooker:
+def looker_of(session: Session, query: str, copies: Copies, skips: bool) -> AnyLooker:
     """What looks at a query."""
     if copies is Copies.NEVER:
         return Looker(session, query)
     drop_leftovers(session)
-    return OwnLooker(session, query) if copies is Copies.ALWAYS else ChoosingLooker(session, query)
-
-
-def names_of_copies(listing: Listing) -> Set[str]:
-    """The queries of a listing that are copies."""
-    return {it.name for it in listing.queries if is_copy(it.name)}
+    if copies is Copies.ALWAYS:
+        return OwnLooker(session, query, skips)
+    return ChoosingLooker(session, query, skips)

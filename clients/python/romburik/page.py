@@ -179,7 +179,7 @@ class Gallery:
         now = time.monotonic()
         for panel in (it for stream in self._streams for it in stream.panels):
             if panel.query not in self._exhibits:
-                looker = looker_of(self._session, panel.query, self._copies)
+                looker = looker_of(self._session, panel.query, self._copies, True)
                 self._exhibits[panel.query] = _Exhibit(looker)
             self._exhibits[panel.query].wanted_at = now
         for query, exhibit in [*self._exhibits.items()]:

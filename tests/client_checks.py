@@ -1416,11 +1416,20 @@ def copies_see_all(program):
         it.stream("s", {"v": "int"})
         it.query("q", "Select Istream(*) From s [Range 2]")
         child = started(server.port, "watch", "q", "--own")
-        with ending(child), page(server.port, "ka") as address, Events(address, "q") as events:
+        other = started(server.port, "watch", "q")
+        pages = page(server.port, "ka")
+        with ending(child), ending(other), pages as address, Events(address, "q") as events:
             wait_for(lambda: len(names_of_queries(it)) == 2)
             eager_consumer(it, range(20))
             wanted = b"".join(line_of(**block(at, at, at)) for at in range(20))
             yield "a watch by a copy", difference(lines_of(child.stdout, 20), wanted)
+            seen = b""
+            while b'"to":19}' not in seen:
+                seen += lines_of(other.stdout, 1)
+            instants = [json.loads(line)["from"] for line in seen.splitlines()]
+            once = instants == sorted({*instants}) and len(instants) > 5
+            yield "a watch that goes over to one", None if once else f"it has seen {instants}"
+            interrupted(other)
             # the page goes over to a copy as soon as somebody acknowledges
             while events.next("look")["since"] is None:
                 it.beat("s", it.list().streams[0].open)

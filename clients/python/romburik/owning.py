@@ -3,6 +3,7 @@ new. The copy takes one of the tenant's queries; it is dropped at the end, and w
 killed has left is dropped at the next start on the same machine.
 """
 import contextlib
+import dataclasses
 import enum
 import hashlib
 import itertools
@@ -176,14 +177,18 @@ class OwnLooker:
 
 
 class ChoosingLooker:
-    """Looks at a query itself, and goes over to a copy where that is needed."""
+    """Looks at a query itself, and goes over to a copy where that is needed: at the first instants
+    that the query itself wasn't seen at. Each instant is told once."""
 
     def __init__(self, session: Session, query: str, skips: bool = False) -> None:
+        self._session = session
+        self._name = query
         self._itself = Looker(session, query)
         self._own = OwnLooker(session, query, skips)
         self._has_spare = True
         self._is_needed = False
         self._shows_copy = False
+        self._before: Optional[Look] = None
 
     @property
     def trouble(self) -> Optional[Refused]:
@@ -193,28 +198,60 @@ class ChoosingLooker:
         """As of the two, but for TooManyQueries, behind which the query itself is looked at."""
         if self._shows_copy:
             return self._of_copy()
+        # first the copy, which then tells nothing that the query itself isn't asked for behind it
+        own = self._of_copy() if self._is_needed else None
+        before = self._before
         look = self._itself.look()
+        if self._is_needed and self._has_spare and before and _has_missed(before, look):
+            self._shows_copy = True
+            return own
         if look:
-            self._is_needed = look.query.next > look.query.base or look.is_behind
-        if self._is_needed and self._has_spare:
-            own = self._of_copy()
-            if own and own.next > own.first:
-                self._shows_copy = True
-                return own
+            self._before = look
+            self._need(look)
         return look
 
+    def _need(self, look: Look) -> None:
+        """Has a copy made, once somebody acknowledges the query or is far behind."""
+        is_needed = look.query.next > look.query.base or look.is_behind
+        if is_needed and not self._is_needed:
+            self._is_needed = True
+            self._of_copy()
+
     def _of_copy(self) -> Optional[Look]:
+        """What the copy tells of instants that weren't shown."""
+        if not self._has_spare:
+            return None
         try:
-            return self._own.look()
+            own = self._own.look()
         except (TooManyQueries, NoMemory):
             self._has_spare = self._shows_copy = False
             return None
         except UnknownQuery:
             self._shows_copy = self._is_needed = False
+            self._itself = Looker(self._session, self._name)
+            self._before = None
             raise
+        return own if own is None or self._before is None else _behind(own, self._before.next)
 
     def close(self) -> None:
         self._own.close()
+
+
+def _has_missed(before: Look, look: Optional[Look]) -> bool:
+    """Whether a look at the query itself leaves instants out, or lags behind."""
+    if look is None:
+        return before.is_behind
+    return not look.is_new and (look.first > before.next or look.is_behind)
+
+
+def _behind(own: Look, shown: int) -> Optional[Look]:
+    """What a look at a copy tells of the instants from one on, which were shown before by the query
+    itself."""
+    if own.next <= shown:
+        return None
+    first = max(own.first, shown)
+    rest = (block.behind(first) for block in own.blocks if block.last >= first)
+    return dataclasses.replace(own, first=first, blocks=tuple(rest))
 
 
 AnyLooker = Union[Looker, OwnLooker, ChoosingLooker]

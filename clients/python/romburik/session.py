@@ -42,7 +42,7 @@ from .told import (
 WINDOW = 256
 """How many lines are under way at once, where the caller doesn't say."""
 
-SOON = 3.0
+SOON = 2.5
 """After how many seconds it is told what is waited for."""
 
 _ACCEPTED = b'{"ok":true}'

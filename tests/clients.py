@@ -189,11 +189,11 @@ def frame_of(port, query):
 
 
 @contextlib.contextmanager
-def page(port, key, tenant="a"):
-    """The address of a page that is served meanwhile."""
+def page(port, key, tenant="a", *more):
+    """The address of a page that is served meanwhile, with more words."""
     words = [sys.executable, "-m", "romburik", "page", "--port", str(port), "--listen", "0"]
     child = subprocess.Popen(
-        [*words, "--tenant", tenant], env=environment(key), stdout=subprocess.PIPE
+        [*words, "--tenant", tenant, *more], env=environment(key), stdout=subprocess.PIPE
     )
     with ending(child):
         said = lines_of(child.stdout, 1).decode()

@@ -3,7 +3,9 @@
 import contextlib
 import http.client
 import json
+import pathlib
 import signal
+import tempfile
 import urllib.parse
 import urllib.request
 
@@ -319,6 +321,22 @@ def page_is_guarded(program):
                 yield "a caller beside a page", difference(caller.ask(LIST), EMPTY)
 
 
+def page_keeps_its_address(program):
+    """A token that a file keeps, which is its owner's alone."""
+    with Server(program, TENANTS) as server, tempfile.TemporaryDirectory() as folder:
+        path = pathlib.Path(folder, "token")
+        found = []
+        for _ in range(2):
+            with page(server.port, "ka", "a", "--token-file", str(path)) as address:
+                found.append(address.rsplit("/", 2)[1])
+        yield "a token that is kept", difference(found[0], found[1])
+        yield "who may read it", difference(path.stat().st_mode & 0o777, 0o600)
+        path.chmod(0o644)
+        ended = terminal(server.port, "page", "--listen", "0", "--token-file", str(path))
+        said = b"others than its owner" in ended.said
+        yield "a token that others may read", difference((ended.status, said), (2, True))
+
+
 def page_is_live(program):
     """A query's table and points as rows come; a fault, and an overrun; and nothing is taken."""
     columns = line_of(columns=[["k", "text"], ["v", "int"]], do="stream", name="s")
@@ -502,6 +520,7 @@ CHECKS = (
     watch_in_lines,
     watch_at_a_terminal,
     page_is_guarded,
+    page_keeps_its_address,
     page_is_live,
     copies_see_all,
     copies_without_one_to_spare,

@@ -169,8 +169,11 @@ class Gallery:
             listing = self._session.list()
             self._look_at_exhibits()
             self._probe(listing)
-        except (ConnectionLost, Refused) as error:
-            self.trouble = f"waiting: {error}"
+        except ConnectionLost as lost:
+            self.trouble = f"waiting: {lost}; the page goes on by itself once the server is there"
+            return
+        except Refused as refusal:
+            self.trouble = f"waiting: {refusal}"
             return
         self.trouble = None
         self.listing = listing_told(listing, self._states)

@@ -34,6 +34,8 @@ def why(error: Exception) -> str:
             "overrun (60): more rows came than the quota `hold` allows behind what is acknowledged; "
             "drop the query and register it anew"
         )
+    if isinstance(error, UnknownQuery):
+        return f"{error} so far; it is shown once it is made"
     return str(error)
 
 

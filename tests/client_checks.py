@@ -172,6 +172,15 @@ def session_refusals(program):
         wanted = romburik.BadQuery, 9, "Select * Form s", said
         found = type(bad), bad.at, bad.text, str(bad)
         yield "a refusal with a place", difference(found, wanted)
+        for call, given, said, at in (
+            (it.query, ("q", "Select w From s"), "52 UnknownColumn: s has no column w, but v", 7),
+            (it.query, ("q", "Select v From sz"), "30 UnknownStream: there is no stream sz", 14),
+            (it.put, ("s", 1, ["x"]), "40 WrongRow: 'x' stands at v, which takes numbers", None),
+            (it.put, ("sz", 1, [1]), "30 UnknownStream: there is no stream sz of", None),
+        ):
+            error = error_of(call, *given)
+            found = str(error)[: len(said)], error.at
+            yield f"a refusal with its word, {error.number}", difference(found, (said, at))
         later = romburik.Refused.of({"name": "Later", "refused": 99})
         found = type(later), later.name, later.number
         yield "a refusal of a later server", difference(found, (romburik.Refused, "Later", 99))

@@ -37,11 +37,15 @@ class Refused(Error):
     """A command that the server refused, and that changed nothing.
 
     Each refusal that this module knows is a subclass; one of a later server is a `Refused` itself.
+    `why` names the word that is at fault, and `at` the byte of a query's text at which it stands,
+    where the session knows them: of a key, a row, or a name in a query's text.
     """
 
     number: int = 0
     name: str = ""
     meaning: str = "this client doesn't know the number"
+    why: Optional[str] = None
+    at: Optional[int] = None
 
     _by_number: ClassVar[Dict[int, Type["Refused"]]] = {}
 
@@ -52,7 +56,7 @@ class Refused(Error):
             cls._by_number[cls.number] = cls
 
     def __str__(self) -> str:
-        return f"{self.number} {self.name}: {self.meaning}"
+        return f"{self.number} {self.name}: {self.why or self.meaning}"
 
     @classmethod
     def of(cls, reply: Mapping[str, Any]) -> "Refused":

@@ -210,7 +210,7 @@ class View:
         if look.is_new:
             self.at = self.fault = None
             self.rows = ()
-        if look.is_new or before is None or look.first > before.next:
+        if look.is_new or before is None or look.first > before.next or look.since != before.since:
             self._begin(look)
         if look.first == look.next:
             return []

@@ -3,24 +3,18 @@ new. The copy takes one of the tenant's queries; it is dropped at the end, and w
 killed has left is dropped at the next start on the same machine.
 """
 import contextlib
+import dataclasses
 import enum
 import hashlib
 import itertools
 import os
 import re
 import socket
-from typing import Iterator, Optional, Set, Union
+from typing import Iterator, Optional, Union
 
-from .errors import (
-    Error,
-    NoMemory,
-    Overrun,
-    Refused,
-    Revoked,
-    TooManyQueries,
-    UnknownQuery,
-)
-from .looking import Look, Looker, bounded, final_of
+from .columns import operator_of
+from .errors import Error, NoMemory, Overrun, Refused, Revoked, TooManyQueries, UnknownQuery
+from .looking import FEW, Look, Looker, bounded, final_of
 from .session import Session
 from .told import Listing, Query
 
@@ -75,17 +69,25 @@ def _named(listing: Listing, name: Optional[str]) -> Optional[Query]:
     return next((it for it in listing.queries if it.name == name), None)
 
 
+def _is_shown_whole(query: Query) -> bool:
+    """Whether each instant of a query tells all of its rows."""
+    return operator_of(query.text) == "RSTREAM"
+
+
 class OwnLooker:
     """Looks at a copy of a query, which it registers at its first look. It sees the rows that come
     from then on. What a look told is acknowledged at the next one.
 
     `trouble` is why the query itself tells nothing any more, where it is overrun and the copy isn't.
+    With `skips` it passes over instants of a query by RSTREAM where more is final than two looks
+    take, to be soon at the newest.
     """
 
-    def __init__(self, session: Session, query: str) -> None:
+    def __init__(self, session: Session, query: str, skips: bool = False) -> None:
         self.trouble: Optional[Refused] = None
         self._session = session
         self._name = query
+        self._skips = skips
         self._copied: Optional[Query] = None
         self._copy: Optional[str] = None
         self._before: Optional[Look] = None
@@ -156,6 +158,9 @@ class OwnLooker:
         if before and is_same and final is not None and final <= before.next:
             return None
         start = before.next if before else copy.next
+        if before and before.is_behind and final and self._skips and _is_shown_whole(copy):
+            start = max(start, final - FEW)
+            self._session.ack(copy.name, start)
         try:
             # what was told before has been acknowledged
             there = Query(copy.name, copy.text, copy.base, start)
@@ -172,14 +177,18 @@ class OwnLooker:
 
 
 class ChoosingLooker:
-    """Looks at a query itself, and goes over to a copy where that is needed."""
+    """Looks at a query itself, and goes over to a copy where that is needed: at the first instants
+    that the query itself wasn't seen at. Each instant is told once."""
 
-    def __init__(self, session: Session, query: str) -> None:
+    def __init__(self, session: Session, query: str, skips: bool = False) -> None:
+        self._session = session
+        self._name = query
         self._itself = Looker(session, query)
-        self._own = OwnLooker(session, query)
+        self._own = OwnLooker(session, query, skips)
         self._has_spare = True
         self._is_needed = False
         self._shows_copy = False
+        self._before: Optional[Look] = None
 
     @property
     def trouble(self) -> Optional[Refused]:
@@ -189,41 +198,70 @@ class ChoosingLooker:
         """As of the two, but for TooManyQueries, behind which the query itself is looked at."""
         if self._shows_copy:
             return self._of_copy()
+        # first the copy, which then tells nothing that the query itself isn't asked for behind it
+        own = self._of_copy() if self._is_needed else None
+        before = self._before
         look = self._itself.look()
+        if self._is_needed and self._has_spare and before and _has_missed(before, look):
+            self._shows_copy = True
+            return own
         if look:
-            self._is_needed = look.query.next > look.query.base or look.is_behind
-        if self._is_needed and self._has_spare:
-            own = self._of_copy()
-            if own and own.next > own.first:
-                self._shows_copy = True
-                return own
+            self._before = look
+            self._need(look)
         return look
 
+    def _need(self, look: Look) -> None:
+        """Has a copy made, once somebody acknowledges the query or is far behind."""
+        is_needed = look.query.next > look.query.base or look.is_behind
+        if is_needed and not self._is_needed:
+            self._is_needed = True
+            self._of_copy()
+
     def _of_copy(self) -> Optional[Look]:
+        """What the copy tells of instants that weren't shown."""
+        if not self._has_spare:
+            return None
         try:
-            return self._own.look()
+            own = self._own.look()
         except (TooManyQueries, NoMemory):
             self._has_spare = self._shows_copy = False
             return None
         except UnknownQuery:
             self._shows_copy = self._is_needed = False
+            self._itself = Looker(self._session, self._name)
+            self._before = None
             raise
+        return own if own is None or self._before is None else _behind(own, self._before.next)
 
     def close(self) -> None:
         self._own.close()
 
 
+def _has_missed(before: Look, look: Optional[Look]) -> bool:
+    """Whether a look at the query itself leaves instants out, or lags behind."""
+    if look is None:
+        return before.is_behind
+    return not look.is_new and (look.first > before.next or look.is_behind)
+
+
+def _behind(own: Look, shown: int) -> Optional[Look]:
+    """What a look at a copy tells of the instants from one on, which were shown before by the query
+    itself."""
+    if own.next <= shown:
+        return None
+    first = max(own.first, shown)
+    rest = (block.behind(first) for block in own.blocks if block.last >= first)
+    return dataclasses.replace(own, first=first, blocks=tuple(rest))
+
+
 AnyLooker = Union[Looker, OwnLooker, ChoosingLooker]
 
 
-def looker_of(session: Session, query: str, copies: Copies) -> AnyLooker:
+def looker_of(session: Session, query: str, copies: Copies, skips: bool) -> AnyLooker:
     """What looks at a query."""
     if copies is Copies.NEVER:
         return Looker(session, query)
     drop_leftovers(session)
-    return OwnLooker(session, query) if copies is Copies.ALWAYS else ChoosingLooker(session, query)
-
-
-def names_of_copies(listing: Listing) -> Set[str]:
-    """The queries of a listing that are copies."""
-    return {it.name for it in listing.queries if is_copy(it.name)}
+    if copies is Copies.ALWAYS:
+        return OwnLooker(session, query, skips)
+    return ChoosingLooker(session, query, skips)

@@ -169,8 +169,11 @@ class Gallery:
             listing = self._session.list()
             self._look_at_exhibits()
             self._probe(listing)
-        except (ConnectionLost, Refused) as error:
-            self.trouble = f"waiting: {error}"
+        except ConnectionLost as lost:
+            self.trouble = f"waiting: {lost}; the page goes on by itself once the server is there"
+            return
+        except Refused as refusal:
+            self.trouble = f"waiting: {refusal}"
             return
         self.trouble = None
         self.listing = listing_told(listing, self._states)
@@ -179,7 +182,7 @@ class Gallery:
         now = time.monotonic()
         for panel in (it for stream in self._streams for it in stream.panels):
             if panel.query not in self._exhibits:
-                looker = looker_of(self._session, panel.query, self._copies)
+                looker = looker_of(self._session, panel.query, self._copies, True)
                 self._exhibits[panel.query] = _Exhibit(looker)
             self._exhibits[panel.query].wanted_at = now
         for query, exhibit in [*self._exhibits.items()]:

@@ -99,6 +99,7 @@ _RULES = [
         (r"\. @ \*", "name the columns: * stands alone, for all columns of all inputs"),
         (r"SELECT [^@]*(?:\* @ ,|, @ \*)", "* stands alone, for all columns of all inputs"),
         (r"- @ [A-Z_]", "a minus stands before a number alone: 0 - v"),
+        (r"([IDR]STREAM) @ [^( ]", "{0} takes its items in brackets: {0}(*)"),
         (r"SELECT [IDR]STREAM \( @ SELECT", "ISTREAM( SELECT .. ) stands alone, without SELECT before it"),
         (r"FROM [^,@]*,[^,@]*,[^,@]*@ ,", "a block has at most three inputs"),
         (r", @ (FROM|WHERE|GROUP)\b", "a comma stands before {0}"),

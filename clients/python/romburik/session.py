@@ -19,8 +19,9 @@ from typing import (
     Union,
 )
 
-from .errors import Ahead, BadQuery, BadReply, ConnectionLost, Refused, UnknownQuery
+from .errors import Ahead, BadQuery, BadReply, ConnectionLost, Refused, UnknownQuery, WrongRow
 from .lines import Address, Command, Connection, Tls, checked, line_of, put_of
+from .mistakes import mistake
 from .told import (
     Answer,
     Block,
@@ -42,7 +43,7 @@ from .told import (
 WINDOW = 256
 """How many lines are under way at once, where the caller doesn't say."""
 
-SOON = 3.0
+SOON = 2.5
 """After how many seconds it is told what is waited for."""
 
 _ACCEPTED = b'{"ok":true}'
@@ -113,6 +114,8 @@ class Session:
         self._key = key
         self._notice = notice
         self._connection: Optional[Connection] = None
+        # the types of the columns of the streams that were made here
+        self._types: Dict[str, Dict[str, str]] = {}
         self.connect()
 
     def __repr__(self) -> str:
@@ -219,8 +222,27 @@ class Session:
         """The reply to a command, given by the keys of its line."""
         outcome = self._outcome(self.ask(line_of(command)))
         if isinstance(outcome, Refused):
+            self._explain(command, outcome)
             raise outcome
+        if command.get("do") == "stream":
+            columns: Any = command["columns"]
+            self._types[str(command["name"])] = dict(columns)
         return outcome
+
+    def _explain(self, command: Command, refusal: Refused) -> None:
+        """Says which word of a command is at fault, as far as the streams are known: those that a
+        list tells, and the columns of those that this session made."""
+        columns: Dict[str, Iterable[str]] = dict(self._types)
+        streams = {*columns}
+        if refusal.number in (30, 52, 53, 54):
+            with contextlib.suppress(Refused, ConnectionLost):
+                told = self.list()
+                streams = {it.name for it in (*told.streams, *told.readable)}
+                columns.update({it.name: it.columns for it in told.readable if it.columns})
+        known = {name: tuple(it) for name, it in columns.items()}
+        found = mistake(refusal.number, command, known, self._types, streams)
+        if found:
+            refusal.why, refusal.at = found.why, found.at
 
     def call_many(
         self, commands: Iterable[Command], window: int = WINDOW
@@ -270,6 +292,8 @@ class Session:
             for index, outcome in enumerate(self.call_many(commands(), window)):
                 at, row = under_way.popleft()
                 if isinstance(outcome, Refused):
+                    if isinstance(outcome, WrongRow):
+                        self._explain(put_of(stream, at, row), outcome)
                     refused.append(RefusedPut(index, at, row, outcome))
                 else:
                     accepted += 1

@@ -34,6 +34,8 @@ def why(error: Exception) -> str:
             "overrun (60): more rows came than the quota `hold` allows behind what is acknowledged; "
             "drop the query and register it anew"
         )
+    if isinstance(error, UnknownQuery):
+        return f"{error} so far; it is shown once it is made"
     return str(error)
 
 
@@ -145,11 +147,12 @@ def looks(
     session: Session,
     query: str,
     copies: Copies,
+    skips: bool,
     take: Callable[[Look], None],
     trouble: Callable[[Optional[str]], None],
 ) -> None:
     """Looks at a query without an end. What may pass is told to `trouble` once, and None then."""
-    looker = looker_of(session, query, copies)
+    looker = looker_of(session, query, copies, skips)
     told: Optional[str] = None
     try:
         while True:
@@ -193,7 +196,7 @@ def watch_at_terminal(session: Session, query: str, known: Columns, copies: Copi
     def trouble(text: Optional[str]) -> None:
         draw(_NOTE if text is None else f"waiting: {printable(text)}")
 
-    looks(session, query, copies, take, trouble)
+    looks(session, query, copies, True, take, trouble)
 
 
 def watch_in_lines(
@@ -219,7 +222,7 @@ def watch_in_lines(
         if text is not None:
             print(f"romburik: waiting: {text}", file=sys.stderr, flush=True)
 
-    looks(session, query, copies, take, trouble)
+    looks(session, query, copies, False, take, trouble)
 
 
 def watch(

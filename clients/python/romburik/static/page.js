@@ -101,6 +101,7 @@ class Panel {
     });
     this.part("form").addEventListener("submit", (event) => event.preventDefault());
     this.part(".standing").textContent = "waiting for what it tells";
+    this.part(".choices").hidden = true;
     this.plots = null;
     if (typeof Chart === "undefined") say(this.part(".noplot"), this.part(".noplot").textContent);
   }
@@ -121,6 +122,7 @@ class Panel {
 
   take(look) {
     this.part(".text").textContent = look.text;
+    this.part(".choices").hidden = false;
     this.showStanding(look);
     this.showRows(look);
     if (typeof Chart === "undefined") return;
@@ -204,7 +206,7 @@ function asked() {
   return found;
 }
 
-const AWAY = "the page's program doesn't answer, it is tried again; what is shown is old";
+const AWAY = "the page's program doesn't answer, and is tried again; what is shown is old. Where it has ended, start it again: with --token-file it keeps this address";
 const ELSEWHERE = "the page's program was started anew and has another address, which it tells at its start (one word --token-file keeps it)";
 
 function take({ kind, data }) {

@@ -99,6 +99,7 @@ class Plots {
       if (step.fault !== null) this.faults.push([first, last]);
       for (const [number, column, value] of step.points) this.add(number, column, first, last, Number(value));
     }
+    if (this.faults.length > KEPT) this.faults.splice(0, this.faults.length - KEPT);
     this.lines = new Map(Object.entries(look.lines).map(([number, label]) => [Number(number), label]));
     this.isTold = Boolean(look.told);
     this.makeCharts(look.columns);

@@ -7,7 +7,7 @@ pub mod Few
 mod Meant
 mod Firsts
 mod FitExpressions
-mod Once
+pub mod Once
 mod FitConditions
 mod Fits
 mod Joined

@@ -32,7 +32,7 @@ use Rattle.cql_syntax.specs.declared.syntax.SelectBlock.{SelectBlock}
 use Rattle.cql_syntax.specs.declared.syntax.Second.{Second}
 use Rattle.cql_syntax.specs.declared.syntax.Query.{Query}
 pub use Rattle.cql_plan.specs.Fit.{same_kind}
-use Rattle.cql_window.specs.Once.{once}
+pub use Rattle.cql_window.specs.Once.{once, once_from}
 use Rattle.cql_plan.specs.Fit.{is_empty}
 use Rattle.cql_plan.specs.declared.error.PlanFault.TheVariants.{AmbiguousColumn, TypeMismatch}
 use Rattle.cql_plan.specs.declared.expr.Expr.{Expr, fold-Expr}

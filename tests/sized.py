@@ -24,7 +24,7 @@ INPUTS, BLOCKS = 6, 2
 # ---- The formula, in bytes. Each coefficient is what was measured, and some more.
 
 # What a row weighs beside the bytes of its texts: by itself, for each column, and for each text.
-ROW, COLUMN, TEXT = 200, 24, 64
+ROW, COLUMN, TEXT = 130, 24, 64
 # A stream's rows go so many at a time.
 CHUNK = 128
 # What a window of parts takes for each row that it keeps, beside the row.

@@ -1,13 +1,13 @@
 -- Lemmas on what is read of a put.
-use Rattle.std.proofs.Common.{◌≡◌, ℕ, Bool, true, false, ◌&&◌, List, [], ◌∷◌, ◌++◌, Option, Some, None, is_some, option_map, option_and_then, Vec, Global, Bor, bytes_eq, refl, sym, ap, ◌∙◌}
+use Rattle.std.proofs.Common.{◌≡◌, ℕ, Bool, true, false, ◌&&◌, List, ◌∷◌, Option, Some, None, is_some, option_map, Vec, Global, Bor, bytes_eq, refl, sym, ap, ◌∙◌}
 use Rattle.std.specs.Prelude.{codes, Result, Ok, Err, IfOk, OnOk}
 use Rattle.std.specs.List.{list_any}
 use Rattle.std.proofs.lemmas.Bool.{false≢true}
 use Rattle.std.proofs.lemmas.Slice.Eq.{bytes_eq-Decides}
 use Rattle.json.specs.Token.{Token}
-use Rattle.json.specs.Json.{value, parse_map, after_end_array}
+use Rattle.json.specs.Json.{value, after_end_array}
 use Rattle.json.proofs.Grammar.{value_is, closed_array}
-use Rattle.serde_json.specs.Data.{Num, unsigned, Data, number, string, object, Items, no_items, item, Members, put}
+use Rattle.serde_json.specs.Data.{Num, unsigned, Data, number, string, object, Items, item, Members, put}
 use Rattle.serde_json.specs.Find.{get_member}
 use Rattle.serde_json.specs.Read.{of_json, number_of, converted}
 use Rattle.serde_json.proofs.Views.{get_member-put, get_member-put_other}
@@ -39,42 +39,10 @@ no_value depth ts r d (Some s) is read =
 pub going_on : (depth : ℕ) (ts r : List Token) (d : Data) → Reads depth ts d r → after_end_array ts ≡ None
 going_on depth ts r d read = no_value depth ts r d (after_end_array ts) refl read
 
--- ---- lists that grow at their end
+-- ---- lists
 
-abbrev pub items_before : Items → Items → Items
-items_before no_items rest = rest
-items_before (item d ds) rest = item d (items_before ds rest)
-
-before_none : (ds : Items) → items_before ds no_items ≡ ds
-before_none no_items = refl
-before_none (item d ds) = ap (item d) (before_none ds)
-
-before_one : (ds : Items) (d : Data) (rest : Items) → items_before ds (item d rest) ≡ items_before (items_before ds (item d no_items)) rest
-before_one no_items d rest = refl
-before_one (item e ds) d rest = ap (item e) (before_one ds d rest)
-
-pub none_before : (o : Option (Items × List Token)) → o ≡ parse_map (items_before no_items) o
-none_before None = refl
-none_before (Some p) = refl
-
-pub one_before : (ds : Items) (d : Data) (o : Option (Items × List Token)) → parse_map (items_before ds) (parse_map (item d) o) ≡ parse_map (items_before (items_before ds (item d no_items))) o
-one_before ds d None = refl
-one_before ds d (Some p) = ap (λ es. Some (es, p.1)) (before_one ds d p.0)
-
-pub all_before : (ds : Items) (after : List Token) → parse_map (items_before ds) (Some (no_items, after)) ≡ Some (ds, after)
-all_before ds after = ap (λ es. Some (es, after)) (before_none ds)
-
-behind : (o : Option Value) (more : Option (List Value)) (x : Value) → option_and_then (λ y. option_map (λ ys. y ∷ ys) (option_map (λ ys. ys ++ x ∷ []) more)) o ≡ option_map (λ ys. ys ++ x ∷ []) (option_and_then (λ y. option_map (λ ys. y ∷ ys) more) o)
-behind None more x = refl
-behind (Some y) None x = refl
-behind (Some y) (Some ys) x = refl
-
-values_push : (ds : Items) (d : Data) (x : Value) → value_of d ≡ Some x → all_of value_of (items_before ds (item d no_items)) ≡ option_map (λ ys. ys ++ x ∷ []) (all_of value_of ds)
-values_push no_items d x is = rw is
-values_push (item e ds) d x is = ap (λ more. option_and_then (λ y. option_map (λ ys. y ∷ ys) more) (value_of e)) (values_push ds d x is) ∙ behind (value_of e) (all_of value_of ds) x
-
-pub one_more_value : (ds : Items) (d : Data) (xs : List Value) (x : Value) → all_of value_of ds ≡ Some xs → value_of d ≡ Some x → all_of value_of (items_before ds (item d no_items)) ≡ Some (xs ++ x ∷ [])
-one_more_value ds d xs x done is = values_push ds d x is ∙ ap (option_map (λ ys. ys ++ x ∷ [])) done
+pub one_value_before : (d : Data) (ds : Items) (x : Value) (xs : List Value) → value_of d ≡ Some x → all_of value_of ds ≡ Some xs → all_of value_of (item d ds) ≡ Some (x ∷ xs)
+one_value_before d ds x xs is rest = rw (is, rest)
 
 -- ---- members that come one after another
 

@@ -1,5 +1,5 @@
 -- What is read of a put, beside the members of its line; for private clauses.
-use Rattle.std.specs.Prelude.{◌≡◌, ℕ, Bool, true, false, List, codes, Option, Some, None, option_map, option_and_then, length, Ok}
+use Rattle.std.specs.Prelude.{◌≡◌, ℕ, ◌≤◌, Bool, true, false, List, codes, Option, Some, None, option_map, option_and_then, length, Ok}
 use Rattle.json.specs.Token.{Token}
 use Rattle.json.specs.Json.{value, items, members}
 use Rattle.serde_json.specs.Data.{Data, number, unsigned, string, object, Items, Members, no_members, put}
@@ -30,6 +30,10 @@ ReadsRow depth before vs after = (d : Data) × Reads depth before d after × (va
 -- the rest of a list
 abbrev pub ReadsItems : ℕ → List Token → List Value → List Token → Type 0
 ReadsItems depth before vs after = (ds : Items) × (converted of_items (items (value depth) (length before) before) ≡ Some (ds, after)) × (all_of value_of ds ≡ Some vs)
+
+-- the same, with as many turns as there are tokens or more
+abbrev pub ReadsRest : ℕ → List Token → List Value → List Token → Type 0
+ReadsRest depth before vs after = (ds : Items) × ((n : ℕ) → length before ≤ n → converted of_items (items (value depth) n before) ≡ Some (ds, after)) × (all_of value_of ds ≡ Some vs)
 
 -- ---- what was read
 

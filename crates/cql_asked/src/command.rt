@@ -100,7 +100,7 @@ fn value_of(alloc: Global, tree: &Tree<'_>) -> Result<Value, LineFault>
 fn row_of(alloc: Global, items: &[Tree<'_>]) -> Result<Row, LineFault>
     ensures { Means (ok_or (all_of value_of (items_view items.now)) LineFault.BadKey) result }
 {
-    let mut values = Vec::new(alloc);
+    let mut values = Vec::with_capacity(alloc, items.len())?;
     for item in items {
         values.push(value_of(alloc, item)?)?;
     }

@@ -3,11 +3,11 @@
 //! Most lines are puts. One that has what a put has and nothing else, and is written plainly, is read
 //! in one pass, with no index and no tree. Whatever else a line is, and why it is refused, is told by
 //! its tree.
-ghost use Rattle.std.specs.Prelude.{◌≡◌, ◌<◌, length, Some, Ok, option_map, IfOk, OnOk};
+ghost use Rattle.std.specs.Prelude.{◌≡◌, ◌<◌, length, Some, Ok, option_map, reverse, IfOk, OnOk};
 ghost use Rattle.serde_json.specs.Data.{string, number, unsigned, no_members};
 ghost use Rattle.serde_json.specs.Read.{read};
 ghost use Rattle.cql_asked.specs.Command.{of_data};
-ghost use Rattle.cql_asked.specs.Put.{Reads, ReadsValue, ReadsRow, ReadsItems, ReadsMembers, Holds, Adds, Takes, IsCall};
+ghost use Rattle.cql_asked.specs.Put.{Reads, ReadsValue, ReadsRow, ReadsRest, ReadsItems, ReadsMembers, Holds, Adds, Takes, IsCall};
 
 use crate::named::Named;
 use cql_core::Command;
@@ -17,6 +17,9 @@ use cql_lines::{NotPlain, Reader};
 use cql_value::{Row, Text, Value};
 use json::Token;
 use std::alloc::{AllocError, AllocFailed, Global};
+
+// A row of more values is read by its line's tree: no stream takes it.
+const MOST_VALUES: usize = 16;
 
 /// Why no put was read.
 #[derive(Clone, Copy, Drop)]
@@ -108,16 +111,44 @@ fn next_value(alloc: Global, reader: &mut Reader<'_>) -> Result<Value, NoPut>
     }
 }
 
+// The values up to the bracket that closes their row, the last one first, where so many stand before them
+// already: what is known at the bracket is how many there are in all, so that they get as much room and no more.
+#[cycle(values)]
+#[inline(always)]
+fn last_values(alloc: Global, reader: &mut Reader<'_>, before: usize) -> Result<Vec<Value>, NoPut>
+    ensures ok { IfOk result (λ v. ReadsRest 125 reader.old (reverse v.items) reader.new) }
+    ensures shorter { OnOk result (length reader.new < length reader.old) }
+{
+    if reader.take_end_array() {
+        let values = Vec::with_capacity(alloc, before)?;
+        return Ok(values);
+    }
+    if before >= MOST_VALUES {
+        return Err(NoPut::Other);
+    }
+    values_from(alloc, reader, before)
+}
+
+// The same, where a value is next.
+#[cycle(values)]
+fn values_from(alloc: Global, reader: &mut Reader<'_>, before: usize) -> Result<Vec<Value>, NoPut>
+    requires { before < MOST_VALUES }
+    ensures ok { IfOk result (λ v. ReadsRest 125 reader.old (reverse v.items) reader.new) }
+    ensures shorter { OnOk result (length reader.new < length reader.old) }
+{
+    let value = next_value(alloc, reader)?;
+    let mut values = last_values(alloc, reader, before + 1)?;
+    values.push(value)?;
+    Ok(values)
+}
+
 // The values up to the bracket that closes their row.
 fn next_values(alloc: Global, reader: &mut Reader<'_>) -> Result<Vec<Value>, NoPut>
     ensures ok { IfOk result (λ v. ReadsItems 125 reader.old v.items reader.new) }
     ensures shorter { OnOk result (length reader.new < length reader.old) }
 {
-    let mut values = Vec::new(alloc);
-    'values: while !reader.take_end_array() {
-        let value = next_value(alloc, reader)?;
-        values.push(value)?;
-    }
+    let mut values = last_values(alloc, reader, 0)?;
+    values.reverse();
     Ok(values)
 }
 

@@ -35,10 +35,10 @@ here x xs = (zero, omega arith, refl)
 pub there : {A : Type 0} (y x : A) (xs : List A) → Contains xs x → Contains (y ∷ xs) x
 there y x xs c = (suc c.0, (let lt : c.0 < length xs = c.1 in omega arith), c.2)
 
-nothing : {A : Type 0} (x : A) → Contains [] x → ⊥
+pub nothing : {A : Type 0} (x : A) → Contains [] x → ⊥
 nothing x c = let lt : c.0 < 0 = c.1 in absurd (omega arith)
 
-cases : {A : Type 0} (y x : A) (xs : List A) → Contains (y ∷ xs) x → (y ≡ x) ⊎ Contains xs x
+pub cases : {A : Type 0} (y x : A) (xs : List A) → Contains (y ∷ xs) x → (y ≡ x) ⊎ Contains xs x
 cases {A} y x xs c = at c.0 c.1 c.2
   where
     at : (k : ℕ) → k < length (y ∷ xs) → slice_index_or (y ∷ xs) k x ≡ x → (y ≡ x) ⊎ Contains xs x

@@ -18,6 +18,7 @@ use Rattle.cql_syntax.specs.declared.syntax.Selection.{Selection}
 use Rattle.cql_syntax.specs.declared.syntax.Selection.TheVariants as selection
 use Rattle.cql_syntax.specs.declared.syntax.SelectBlock.{SelectBlock}
 use Rattle.cql_syntax.specs.declared.syntax.Second.{Second}
+use Rattle.cql_window.specs.Once.{once}
 use Rattle.cql_plan.specs.declared.expr.Expr.TheVariants as e
 use Rattle.cql_plan.specs.declared.node.Item.{Item}
 use Rattle.cql_plan.specs.declared.node.Item.TheVariants as i
@@ -41,6 +42,7 @@ use Rattle.cql_plan.specs.Plan.{last_of, last_node, IsBlock, IsCombined}
 use Rattle.cql_plan.proofs.Each.{passes}
 use Rattle.cql_plan.proofs.FitExpressions.{passed, ok_is, each_ok, column_found, column_type, is_number, expression_typed, among}
 use Rattle.cql_plan.proofs.FitConditions.{where_typed}
+use Rattle.cql_plan.proofs.Once.{all_once, all_grouped_once}
 
 -- ---- items
 
@@ -225,8 +227,8 @@ body_well sources block c h =
         condition = subst (λ columns. is_typed_condition columns w.0 ≡ true) (columns_of_row sources) (where_typed fields block.condition w.0 w.1);
         items = record {
           items = fit.typed;
-          groups = groups_fit fields block.groups groups zip;
-          grouped = λ h. fit.allowed (same_grouped block grouped groups (shown_in n.0) refl (λ none. no_groups block.groups groups (group_of fields) none zip) fit.same h);
+          groups = all_once (HasColumn (kinds_of fields)) [] groups tt (groups_fit fields block.groups groups zip);
+          grouped = λ h. all_grouped_once groups (shown_in n.0) (fit.allowed (same_grouped block grouped (once groups) (shown_in n.0) refl (λ none. ap once (no_groups block.groups groups (group_of fields) none zip)) fit.same h));
         };
         joined = ap (λ l. l ∷ []) (columns_of_row sources);
         distinct = shown.0;

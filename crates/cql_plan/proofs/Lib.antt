@@ -7,6 +7,7 @@ pub mod Few
 mod Meant
 mod Firsts
 mod FitExpressions
+pub mod Once
 mod FitConditions
 mod Fits
 mod Joined

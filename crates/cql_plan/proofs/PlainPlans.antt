@@ -9,6 +9,7 @@ use Rattle.cql_syntax.specs.declared.syntax.Selection.TheVariants as selection
 use Rattle.cql_syntax.specs.declared.syntax.SelectBlock.{SelectBlock}
 use Rattle.cql_syntax.specs.declared.syntax.Second.{Second}
 use Rattle.cql_syntax.specs.declared.syntax.Query.{Query}
+use Rattle.cql_window.specs.Once.{once}
 use Rattle.cql_plan.specs.declared.condition.Condition.{Condition}
 use Rattle.cql_plan.specs.declared.condition.Condition.TheVariants.{Always}
 use Rattle.cql_plan.specs.declared.expr.Expr.TheVariants.{Column as column}
@@ -80,6 +81,7 @@ shaped : (row fields : List Field) (groups : List ℕ) (items : List TypedItem) 
 shaped row fields groups items r g i =
     let shown : shown_in items ≡ columns_from 0 (kinds_of fields) = ap shown_in i ∙ all_shown 0 row ∙ ap (λ l. columns_from 0 (kinds_of l)) r in
     let kinds : kinds_of row ≡ kinds_of fields = ap kinds_of r in
+    let none : once groups ≡ [] = ap once g in
     cc
 
 body_plain : (sources : List BlockInput) (source : BlockInput) (block : SelectBlock) (c : Checked) → sources ≡ source ∷ []

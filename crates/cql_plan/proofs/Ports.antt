@@ -17,7 +17,7 @@ use Rattle.cql_window.specs.declared.window.Window.{Window}
 use Rattle.cql_window.specs.declared.window.Window.TheVariants.{Range, Rows, All as all, Parts}
 use Rattle.cql_window.specs.Projection.{projected}
 use Rattle.cql_window.specs.Through.{wide_window, PartsWithin}
-use Rattle.cql_window.specs.Once.{once, once_from}
+use Rattle.cql_window.specs.Once.{once}
 use Rattle.cql_plan.specs.declared.plan.Input.{Input}
 use Rattle.cql_plan.specs.declared.plan.OutputKind.{OutputKind}
 use Rattle.cql_plan.specs.declared.plan.Planned.{Planned}
@@ -33,6 +33,7 @@ use Rattle.cql_plan.specs.Ports.{ports_in, ports, PartsAmong, HavePorts}
 use Rattle.cql_plan.specs.PortsRead.{IsReadAs, AreReadAs, IsPortsLaw}
 use Rattle.cql_plan.proofs.Each.{passes}
 use Rattle.cql_plan.proofs.FitExpressions.{here, there, passed, ok_is, each_ok, column_found}
+use Rattle.cql_plan.proofs.Once.{all_once}
 
 -- ---- one input
 
@@ -60,19 +61,6 @@ columns_below fields [] [] zip = tt
 columns_below fields [] (p ∷ columns) zip = absurd zip
 columns_below fields (n ∷ names) [] zip = absurd zip
 columns_below fields (n ∷ names) (p ∷ columns) zip = (column_below fields n p zip.0, columns_below fields names columns zip.1)
-
-all_of : (P : ℕ → Type 0) (kept : List ℕ) (i : ℕ) → AllByRecursion P kept → P i → AllByRecursion P (kept ++ i ∷ [])
-all_of P [] i held here = (here, tt)
-all_of P (j ∷ js) i held here = (held.0, all_of P js i held.1 here)
-
--- what holds of all columns holds of each once
-all_once : (P : ℕ → Type 0) (kept is : List ℕ) → AllByRecursion P kept → AllByRecursion P is → AllByRecursion P (once_from kept is)
-all_once P kept [] held rest = held
-all_once P kept (i ∷ is) held rest = by (λ c. all_once P c is) (list_any (λ j. nat_eq j i) kept)
-  where
-    by : ((c : List ℕ) → AllByRecursion P c → AllByRecursion P is → AllByRecursion P (once_from c is)) → (t : Bool) → AllByRecursion P (if t then once_from kept is else once_from (kept ++ i ∷ []) is)
-    by more true = more kept held rest.1
-    by more false = more (kept ++ i ∷ []) (all_of P kept i held rest.0) rest.1
 
 abbrev Within : List Field → Window → Type 0
 Within fields window = PartsWithin window (length (kinds_of fields))

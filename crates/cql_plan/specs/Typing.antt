@@ -32,6 +32,7 @@ use Rattle.cql_syntax.specs.declared.syntax.SelectBlock.{SelectBlock}
 use Rattle.cql_syntax.specs.declared.syntax.Second.{Second}
 use Rattle.cql_syntax.specs.declared.syntax.Query.{Query}
 pub use Rattle.cql_plan.specs.Fit.{same_kind}
+pub use Rattle.cql_window.specs.Once.{once, once_from}
 use Rattle.cql_plan.specs.Fit.{is_empty}
 use Rattle.cql_plan.specs.declared.error.PlanFault.TheVariants.{AmbiguousColumn, TypeMismatch}
 use Rattle.cql_plan.specs.declared.expr.Expr.{Expr, fold-Expr}
@@ -221,9 +222,9 @@ selected_of items = record { items = shown_in items; kinds = kinds_in items }
 abbrev pub join_of : List BlockInput → Condition → Node
 join_of sources condition = node.Join (record { ports = ports_of sources; condition = condition })
 
--- the items over the joined row
+-- the items over the joined row; a column by which it is grouped stands once, however often it is named
 abbrev pub shape_of : List Field → List ℕ → List TypedItem → Node
-shape_of row groups items = node.Shape (record { columns = kinds_of row; items = shown_in items; groups = groups })
+shape_of row groups items = node.Shape (record { columns = kinds_of row; items = shown_in items; groups = once groups })
 
 -- what a block gives that passed its checks: its inputs, its nodes, and the types of its columns
 abbrev pub checked_of : Bool → List Input → Node → List Field → List ℕ → List TypedItem → Checked

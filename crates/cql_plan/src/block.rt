@@ -14,6 +14,7 @@ use crate::source::{BlockInput, are_apart, joined_of, sources};
 use crate::typed::where_of;
 use cql_syntax::syntax::SelectBlock;
 use cql_value::{ColumnType, Items};
+use cql_window::once_each;
 use std::alloc::{AllocError, Global};
 
 /// What a block gives that passed its checks: its inputs, its nodes and the types of its columns.
@@ -70,6 +71,7 @@ fn checked_of(
     ensures { IfOk result (λ c. c ≡ spec.checked_of block.now.distinct inputs join row.now groups typed.items) }
 {
     let columns = kinds_of(alloc, row)?;
+    let groups = once_each(alloc, groups.as_slice())?;
     let Selected { items, kinds } = selected_of(alloc, typed)?;
     let shape = Node::Shape(Shape {
         columns,

@@ -111,14 +111,25 @@ class OwnLooker:
 
     def close(self) -> None:
         """Drops the copy, if the server lets it."""
-        if self._copy is None:
+        name, self._copy = self._copy, None
+        if name is None:
             return
         with contextlib.suppress(Error):
-            if not self._session.is_open:
-                self._session.timeout = AT_THE_END
-                self._session.connect()
-            self._session.drop(self._copy)
-        self._copy = None
+            if self._session.is_open:
+                self._session.drop(name)
+            else:
+                self._drop_anew(name)
+
+    def _drop_anew(self, name: str) -> None:
+        """Drops the copy over a connection that is made for that alone, and doesn't wait for long."""
+        session = self._session
+        patience, session.timeout = session.timeout, AT_THE_END
+        try:
+            session.connect()
+            session.drop(name)
+        finally:
+            session.close()
+            session.timeout = patience
 
     def _note_trouble(self, query: Query) -> None:
         """Asks the query itself for no instant at all, to which an overrun is told too."""

@@ -151,8 +151,14 @@ class OwnLooker:
         self._forget()
         taken = {it.name for it in listing.queries}
         name = next(it for it in _names() if it not in taken)
-        base = self._session.query(name, query.text)
-        self._copy, self._copied = name, query
+        # noted first, so that it is dropped also where this is broken off before the reply
+        self._copy = name
+        try:
+            base = self._session.query(name, query.text)
+        except Refused:
+            self._copy = None
+            raise
+        self._copied = query
         return Query(name, query.text, base, base)
 
     def _forget(self) -> None:

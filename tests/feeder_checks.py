@@ -740,7 +740,7 @@ def bridge(program):
 def installed(program):
     """What `make install` puts, which runs from there; the service file is a closed one."""
     with tempfile.TemporaryDirectory() as folder, Server(program, TENANTS) as server:
-        words = ["make", "install", f"SERVER={program}", f"DESTDIR={folder}", "PREFIX=/opt/cql"]
+        words = ["make", "install", f"SERVER={os.path.abspath(program)}", f"DESTDIR={folder}", "PREFIX=/opt/cql"]
         ran = subprocess.run(words, cwd=TOP, capture_output=True, timeout=SECONDS, check=False)
         yield "an installation", None if ran.returncode == 0 else ran.stderr.decode()
         bare = environment()

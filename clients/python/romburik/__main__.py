@@ -91,7 +91,8 @@ def _run(given: argparse.Namespace) -> int:
         )
     with _session(given, given.tenant, _key(given)) as session:
         if given.view[:1] in (["watch"], ["page"]):
-            signal.signal(signal.SIGTERM, _interrupt)
+            for one in (signal.SIGTERM, signal.SIGHUP):
+                signal.signal(one, _interrupt)
         if given.view[:1] == ["watch"]:
             watch(session, given.view[1], {}, given.table, given.copies)
         if given.view == ["page"]:

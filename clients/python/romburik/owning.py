@@ -111,14 +111,25 @@ class OwnLooker:
 
     def close(self) -> None:
         """Drops the copy, if the server lets it."""
-        if self._copy is None:
+        name, self._copy = self._copy, None
+        if name is None:
             return
         with contextlib.suppress(Error):
-            if not self._session.is_open:
-                self._session.timeout = AT_THE_END
-                self._session.connect()
-            self._session.drop(self._copy)
-        self._copy = None
+            if self._session.is_open:
+                self._session.drop(name)
+            else:
+                self._drop_anew(name)
+
+    def _drop_anew(self, name: str) -> None:
+        """Drops the copy over a connection that is made for that alone, and doesn't wait for long."""
+        session = self._session
+        patience, session.timeout = session.timeout, AT_THE_END
+        try:
+            session.connect()
+            session.drop(name)
+        finally:
+            session.close()
+            session.timeout = patience
 
     def _note_trouble(self, query: Query) -> None:
         """Asks the query itself for no instant at all, to which an overrun is told too."""
@@ -140,8 +151,14 @@ class OwnLooker:
         self._forget()
         taken = {it.name for it in listing.queries}
         name = next(it for it in _names() if it not in taken)
-        base = self._session.query(name, query.text)
-        self._copy, self._copied = name, query
+        # noted first, so that it is dropped also where this is broken off before the reply
+        self._copy = name
+        try:
+            base = self._session.query(name, query.text)
+        except Refused:
+            self._copy = None
+            raise
+        self._copied = query
         return Query(name, query.text, base, base)
 
     def _forget(self) -> None:

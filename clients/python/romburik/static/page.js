@@ -229,6 +229,8 @@ async function start() {
   byId("allstreams").open = matchMedia("(min-width: 45em)").matches;
   for (const { query, order, search } of asked()) add(query, order, search);
   keep();
+  // a page that the browser brings back had gone from the stream
+  addEventListener("pageshow", ({ persisted }) => { if (persisted) keep(); });
   matchMedia("(prefers-color-scheme: dark)").addEventListener("change", () => {
     for (const { plots } of panels) if (plots) plots.draw();
   });

@@ -26,8 +26,8 @@ seq_send = both_send-Seq arc_send (search (sendable, numbered.the_send, numbered
 pub seq_sync : IsSync seq.the_row
 seq_sync = both_sync-Seq arc_send (search (sendable, numbered.the_send, numbered.the_field_send) depth 20) (search sendable) (search sendable) arc_sync (search (sendable, numbered.the_sync, numbered.the_field_sync) depth 20) (search sendable) (search sendable)
 
-pub waste_send : IsSend waste.the_row
+pub waste_send : IsSend (waste.the_field).row
 waste_send = search (sendable, seq_send, seq_sync, timed.the_send, vec.the_send, arc.the_send, heap.the_send, heap.the_sync, frees.the_frees) depth 20
 
-pub waste_sync : IsSync waste.the_row
+pub waste_sync : IsSync (waste.the_field).row
 waste_sync = search (sendable, seq_send, seq_sync, timed.the_sync, vec.the_sync, arc.the_sync, heap.the_send, heap.the_sync, frees.the_frees) depth 20

@@ -3,3 +3,4 @@ pub mod Taken
 pub mod Beside
 pub mod Chunks
 pub mod Form
+pub mod Waiting

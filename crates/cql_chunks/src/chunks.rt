@@ -125,14 +125,6 @@ impl Chunks {
         }
     }
 
-    /// Whether `settle` has something to let go of.
-    pub fn has_waste(&self) -> bool {
-        match &self.form {
-            Form::Plain(plain) => plain.has_waste(),
-            Form::Tree(_) => false,
-        }
-    }
-
     /// Lets go of the chunks of which no row is left, as far as the budget has units, and of heavy rows
     /// at the front where there is no full chunk. The rows of a chunk that it has too few units for are
     /// in the waste then.

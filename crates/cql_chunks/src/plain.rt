@@ -25,16 +25,7 @@ struct Weighed {
     units: usize,
 }
 
-impl Weighed {
-    fn none() -> Weighed {
-        Weighed { rows: 0, units: 0 }
-    }
-
-    // None where the last rows begin anew.
-    fn unless(self, is_new: bool) -> Weighed {
-        if is_new { Weighed::none() } else { self }
-    }
-}
+const UNWEIGHED: Weighed = Weighed { rows: 0, units: 0 };
 
 /// A list of rows. Full chunks of it are shared with those who take a part of it; the last rows,
 /// fewer than a chunk, are its own.
@@ -161,24 +152,15 @@ fn copies_in(
     copies_of(alloc, slice_in(chunk, from, to))
 }
 
-// What rows weigh together.
-fn weight_of(rows: &[Timed]) -> usize {
-    let mut units = 0usize;
-    for row in rows {
-        units = units.saturating_add(weight(row));
-    }
-    units
-}
-
 // How many rows at the front the budget has units for, which it spends.
 fn affordable(rows: &[Timed], budget: &mut Budget) -> usize
     ensures { result ≤ length rows.now }
 {
     for (index, row) in rows.iter().enumerate() {
-        if budget.is_spent() {
+        if budget.units == 0 {
             return index;
         }
-        budget.spend(weight(row));
+        budget.units = budget.units.saturating_sub(weight(row));
     }
     rows.len()
 }
@@ -193,7 +175,7 @@ impl Plain {
             last: Vec::new(alloc),
             gone: 0,
             end: 0,
-            weighed: Weighed::none(),
+            weighed: UNWEIGHED,
         }
     }
 
@@ -215,7 +197,11 @@ impl Plain {
             return Err(AllocError);
         }
         close(alloc, &mut self.full, &mut self.last)?;
-        self.weighed = self.weighed.unless(self.last.is_empty());
+        self.weighed = if self.last.is_empty() {
+            UNWEIGHED
+        } else {
+            self.weighed
+        };
         self.last.push(row)?;
         self.end += 1;
         Ok(())
@@ -240,28 +226,13 @@ impl Plain {
         if !self.full.is_empty() {
             return;
         }
-        let to = self.gone.min(self.last.len());
-        let from = self.weighed.rows.min(to);
-        let more = weight_of(&self.last[from..to]);
-        self.weighed = Weighed {
-            rows: to,
-            units: self.weighed.units.saturating_add(more),
-        };
-    }
-
-    // Whether the last rows that are gone are to be let go, where there are no others.
-    fn is_burdened(&self) -> bool {
-        self.weighed.units >= HEAVY || self.gone == self.end
-    }
-
-    /// Whether `settle` has something to let go of: chunks of which no row is left, all rows, or
-    /// heavy ones.
-    pub(crate) fn has_waste(&self) -> bool {
-        if self.full.is_empty() {
-            self.gone > 0 && self.is_burdened()
-        } else {
-            self.gone >= SIZE
+        let rows = self.gone.min(self.last.len());
+        let from = self.weighed.rows.min(rows);
+        let mut units = self.weighed.units;
+        for row in &self.last[from..rows] {
+            units = units.saturating_add(weight(row));
         }
+        self.weighed = Weighed { rows, units };
     }
 
     // Takes the first chunk out, where no row of it is left.
@@ -283,15 +254,21 @@ impl Plain {
         ensures { self.new ≡ self.old }
     {
         self.weigh();
-        if !self.full.is_empty() || !self.is_burdened() {
+        let is_heavy = self.weighed.units >= HEAVY;
+        if !self.full.is_empty() || (!is_heavy && self.gone < self.end) {
             return;
         }
         let count = affordable(&self.last[..self.gone], budget);
         self.last.drain(..count);
         self.gone -= count;
         self.end -= count;
-        self.weighed = Weighed::none();
+        self.weighed = UNWEIGHED;
         self.weigh();
+        // room that stays amid heavy rows keeps what they took from the system
+        if self.end == 0 && is_heavy {
+            self.last.shrink_to_fit();
+            self.full.shrink_to_fit();
+        }
     }
 
     /// Lets go of the chunks of which no row is left, as far as the budget has units.
@@ -300,13 +277,14 @@ impl Plain {
     {
         waste.settle_rows(budget);
         for _ in 0..self.gone / SIZE {
-            if budget.is_spent() {
+            if budget.units == 0 {
                 return;
             }
             let Some(chunk) = self.take_chunk() else {
                 break;
             };
-            waste.put_chunk(chunk);
+            // unless another holds the chunk
+            waste.rows = chunk.into_rows();
             waste.settle_rows(budget);
         }
         self.settle_last(budget);
@@ -392,7 +370,7 @@ impl Plain {
                 last,
                 gone: 0,
                 end,
-                weighed: Weighed::none(),
+                weighed: UNWEIGHED,
             });
         }
         let full = shares(alloc, &self.full, first, whole)?;
@@ -402,7 +380,7 @@ impl Plain {
             last,
             gone: start - SIZE * first,
             end: stop - SIZE * first,
-            weighed: Weighed::none(),
+            weighed: UNWEIGHED,
         })
     }
 }

@@ -12,6 +12,7 @@ use cql_value::Timed;
 use cql_window::Count;
 use std::alloc::{AllocError, Global};
 use std::marker::Model;
+use std::slice;
 use std::sync::Arc;
 
 // By number, and by part.
@@ -58,16 +59,11 @@ impl Model for KeptParts {
     ghost invariant = { λ k. AreNumbered k.next (arc_value k.rows) × AreParted (arc_value k.columns).items (arc_value k.rows) (arc_value k.parts) × (arc_value k.leaf ≡ []) };
 }
 
-// The units of a row and of its places in both trees.
-fn units_of_one(row: &Timed) -> usize {
-    weight(row).saturating_mul(TREES)
-}
-
-// Those of rows.
+// The units of rows in both trees.
 fn units_of(rows: &[Timed]) -> usize {
     let mut units = 0usize;
     for row in rows {
-        units = units.saturating_add(units_of_one(row));
+        units = units.saturating_add(weight(row).saturating_mul(TREES));
     }
     units
 }
@@ -196,7 +192,7 @@ impl KeptParts {
             parts,
             leaf,
             next: after,
-            made: made.saturating_add(units_of_one(row)),
+            made: made.saturating_add(units_of(slice::from_ref(row))),
         })
     }
 }

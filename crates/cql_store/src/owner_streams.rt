@@ -110,7 +110,7 @@ impl OwnerStreams {
         ensures { self.new ≡ self.old }
     {
         match self.stores.get_mut(stream) {
-            Some(store) => (store.take_made(), store.begins_to_wait()),
+            Some(store) => store.take_made(),
             None => (0, false),
         }
     }
@@ -122,7 +122,7 @@ impl OwnerStreams {
     {
         if let Some(store) = self.stores.get_mut(stream) {
             store.settle(budget);
-            if !budget.is_spent() {
+            if budget.units > 0 {
                 store.end_wait();
             }
         }

@@ -13,7 +13,17 @@ use cql_window::{Window, WindowPin};
 use slab::Slab;
 use std::alloc::{AllocError, Global};
 use std::marker::Model;
-use std::mem;
+
+// What came and went since that was asked last.
+#[derive(Clone, Copy)]
+struct Made {
+    // The units of what was put in, about.
+    units: usize,
+    // So many rows were gone then.
+    gone: usize,
+    // Whether the store waits since to let go of something.
+    waits: bool,
+}
 
 /// The rows of a stream that some stub on it still needs, and the stubs.
 pub struct Store {
@@ -25,9 +35,7 @@ pub struct Store {
     retention: RetentionIndex,
     // What stubs kept that are gone.
     waste: Waste,
-    // The units of what was put in since that was asked.
-    made: usize,
-    waits: bool,
+    made: Made,
 }
 
 impl Drop for Store {
@@ -40,7 +48,6 @@ impl Drop for Store {
             retention: _,
             waste: _,
             made: _,
-            waits: _,
         } = self;
     }
 }
@@ -68,8 +75,11 @@ impl Store {
             stubs: Slab::new(alloc),
             retention: RetentionIndex::new(alloc),
             waste: Waste::new(alloc),
-            made: 0,
-            waits: false,
+            made: Made {
+                units: 0,
+                gone: 0,
+                waits: false,
+            },
         }
     }
 
@@ -115,7 +125,7 @@ impl Store {
         }
         let values = row.row().len();
         self.rows.push(self.alloc, row)?;
-        self.made = self.made.saturating_add(values);
+        self.made.units = self.made.units.saturating_add(values);
         mark_all(
             &mut self.stubs,
             &mut self.retention,
@@ -172,7 +182,7 @@ impl Store {
         requires { IsSomeAnd (stub_of self.old ready.id) (IsReady ready.to ready.kept) }
         ensures { IfSome (stub_of self.old ready.id) (λ h. Updates self.old self.new ready.id (Some (advanced ready.to h))) }
     {
-        self.made = self.made.saturating_add(ready.kept.made());
+        self.made.units = self.made.units.saturating_add(ready.kept.made());
         move_one(
             &mut self.stubs,
             &mut self.retention,
@@ -191,27 +201,26 @@ impl Store {
         self.waste.settle(budget);
     }
 
-    /// The units of what calls put into the store since it was asked last, about.
-    pub(crate) fn take_made(&mut self) -> usize
+    /// The units of what calls put into the store since it was asked last, about; and whether it has
+    /// something to let go of from now on, for which it didn't wait.
+    pub(crate) fn take_made(&mut self) -> (usize, bool)
         ensures { self.new ≡ self.old }
     {
-        mem::replace(&mut self.made, 0)
+        let made = self.made;
+        let waits = made.waits || self.gone != made.gone || !self.waste.is_empty();
+        self.made = Made {
+            units: 0,
+            gone: self.gone,
+            waits,
+        };
+        (made.units, waits && !made.waits)
     }
 
-    /// Whether it has something to let go of and doesn't wait for it yet. It does so from then on.
-    pub(crate) fn begins_to_wait(&mut self) -> bool
-        ensures { self.new ≡ self.old }
-    {
-        let begins = !self.waits && (self.rows.has_waste() || !self.waste.is_empty());
-        self.waits |= begins;
-        begins
-    }
-
-    /// It waits no more.
+    /// It waits no more: it has let go of all that it needs not.
     pub(crate) fn end_wait(&mut self)
         ensures { self.new ≡ self.old }
     {
-        self.waits = false;
+        self.made.waits = false;
     }
 
     /// How many rows the store holds: as many as the stub that needs the most.

@@ -229,14 +229,16 @@ impl Stores {
     pub fn settle(&mut self)
         ensures { self.new ≡ self.old }
     {
-        let mut budget = Budget::new(UNITS.saturating_add(self.made));
+        let mut budget = Budget {
+            units: UNITS.saturating_add(self.made),
+        };
         self.made = 0;
         for _ in 0..self.waiting.len() {
             let Some(next) = self.waiting.last().copied() else {
                 return;
             };
             settle_at(&mut self.owners, next, &mut budget);
-            if budget.is_spent() {
+            if budget.units == 0 {
                 return;
             }
             self.waiting.pop();

@@ -20,6 +20,7 @@ ghost use Rattle.cql_value.specs.Schema.{HasTypes};
 ghost use Rattle.cql_store.specs.Next.{FitsWindow};
 ghost use Rattle.cql_value.specs.declared.schema.ColumnType.TheVariants.{Number};
 
+use cql_chunks::Budget;
 use cql_store::law::next_law;
 use cql_store::{Store, StubId};
 use cql_value::{Items, Row, Timed, Value};
@@ -32,6 +33,9 @@ use std::process::ExitCode;
 
 /// The greatest instant, and a number of rows that no stub has.
 const GREATEST: u64 = 4_611_686_018_427_387_903;
+
+// How much is let go behind each call.
+const UNITS: usize = 1024;
 
 // What is done with a pin before it is let go.
 #[derive(Clone, Copy)]
@@ -90,6 +94,7 @@ impl Fed {
         let at = row.at();
         if self.opened <= at && at <= GREATEST {
             self.store.append(row)?;
+            self.store.settle(&mut Budget { units: UNITS });
             self.opened = at;
         }
         Ok(())
@@ -100,6 +105,7 @@ impl Fed {
         next_law();
         if self.store.may_advance(id, self.opened) {
             self.store.detach(id);
+            self.store.settle(&mut Budget { units: UNITS });
         }
     }
 
@@ -128,6 +134,7 @@ impl Fed {
         if self.store.may_advance(id, to) {
             let ready = self.store.ready(id, to)?;
             self.store.advance(ready);
+            self.store.settle(&mut Budget { units: UNITS });
             self.opened = self.opened.max(to);
         }
         Ok(())

@@ -1,5 +1,6 @@
 // The answer to a fetch.
 ghost use Rattle.std.specs.Prelude.{◌≡◌, ◌↔◌, ◌⊎◌, ◌≤◌, ◌<◌, ◌+◌, ◌*◌, ℕ, length, IfOk, IfSome, OnOk, IsTrue};
+ghost use Rattle.std.specs.Arc.{arc_value};
 ghost use Rattle.std.specs.List.{All, Contains};
 ghost use Rattle.cql_bag.specs.Bag.{Counts};
 ghost use Rattle.cql_ops.specs.Bench.{IsBench, bench_model};
@@ -39,8 +40,21 @@ pub fn answer<O: Operator>(
     ensures bench { IsBench O.model_of bench.new }
     ensures pin { IfOk result (λ a. a.pin ≡ pin) }
 {
-    bench.cancellation().clear();
     let pin = Arc::new(alloc, pin)?;
+    answer_shared(alloc, bench, pin)
+}
+
+/// As `answer`, of a pin that may be shared.
+pub(crate) fn answer_shared<O: Operator>(
+    alloc: Global,
+    bench: &mut BenchOf<O>,
+    pin: Arc<Pin>,
+) -> Result<Answer, AllocError>
+    requires { IsBench O.model_of bench.old }
+    ensures bench { IsBench O.model_of bench.new }
+    ensures pin { IfOk result (λ a. a.pin ≡ arc_value pin) }
+{
+    bench.cancellation().clear();
     if pin.is_passing() {
         let (blocks, turns) = pass(alloc, &pin, bench.cancellation())?;
         return Ok(Answer::new(pin, Items::from_vec(blocks), turns, true));
@@ -84,12 +98,15 @@ pub(crate) fn evaluate<O: Operator>(
     let mut left = instants.as_slice();
     let mut rows = Room::new(alloc);
     let until = next_of(left, end);
+    let told_before = bench.told();
+    let mut lists: u64 = 0;
     let (mut shown, went_on) = begin(alloc, bench, pin, kept, &mut runs, &mut rows, until)?;
     while let Some((_, later)) = left.split_first() {
-        bench.cancellation().look()?;
+        bench.look(told_before, lists, later.len())?;
         left = later;
         let until = next_of(left, end);
         change(alloc, bench, pin, &mut shown, &mut runs, &mut rows, until)?;
+        lists = lists.saturating_add(bench.listed(shown.last.bag.size()));
     }
     let last = remember(alloc, bench, pin, shown);
     Ok((runs.finish(), 1 + instants.len() as u64, went_on, last))

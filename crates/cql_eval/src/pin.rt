@@ -5,11 +5,15 @@ ghost use Rattle.cql_plan.specs.Ports.{IsPlain};
 ghost use Rattle.cql_plan.specs.declared.plan.OutputKind.TheVariants.{Rstream};
 ghost use Rattle.cql_eval.specs.Pin.{IsPin};
 
+use cql_ops::element_weight;
 use cql_plan::{OutputKind, Plan};
 use cql_value::slices_equal;
-use cql_window::{Window, WindowPin};
+use cql_window::WindowPin;
 use std::marker::Model;
 use std::sync::Arc;
+
+// So many rows at most are weighed one by one: the others are taken to be as these.
+const WEIGHED: usize = 1024;
 
 /// A query with the rows of its inputs that its windows need, and the instants that are asked for.
 /// It shares its plan and its rows with what it was taken out of.
@@ -99,16 +103,6 @@ impl Pin {
         self.from
     }
 
-    // Whether some window is one of parts.
-    pub(crate) fn has_parts(&self) -> bool {
-        for window in self.windows() {
-            if matches!(window.window(), Window::Parts { .. }) {
-                return true;
-            }
-        }
-        false
-    }
-
     // Whether its plan tells what comes into one window and leaves it, row for row: then no bench is
     // needed, nor anything of an earlier answer.
     pub(crate) fn is_passing(&self) -> bool
@@ -147,9 +141,9 @@ impl Pin {
         self.windows.as_slice()
     }
 
-    // How many rows its windows hold before the first instant that is asked for, and how many come
-    // after these.
-    fn counts(&self) -> (usize, usize) {
+    /// How many rows its windows hold before the first instant that is asked for, and how many come
+    /// after these.
+    pub(crate) fn counts(&self) -> (usize, usize) {
         let mut held: usize = 0;
         let mut unseen: usize = 0;
         for window in self.windows() {
@@ -159,24 +153,20 @@ impl Pin {
         (held, unseen)
     }
 
-    /// How many rows its windows have in all.
-    pub(crate) fn rows(&self) -> usize {
-        let (held, unseen) = self.counts();
-        held.saturating_add(unseen)
+    /// About how many bytes the rows have that are in its windows from its end on, and that no bench was
+    /// told.
+    pub(crate) fn weight_to_come(&self) -> u64 {
+        let mut bytes: u64 = 0;
+        for window in self.windows() {
+            bytes = bytes.saturating_add(weight_from(window, self.next));
+        }
+        bytes
     }
 
-    /// How many rows its windows hold before the first instant that is asked for.
-    pub(crate) fn rows_held(&self) -> usize {
-        let (held, _) = self.counts();
-        held
-    }
-
-    /// How many times at most rows of its windows come or leave: of those that are held before the
-    /// first instant only as they leave, where the bench has them.
-    pub(crate) fn rows_to_push(&self, goes_on: bool) -> usize {
-        let (held, unseen) = self.counts();
-        let held = if goes_on { 0 } else { held };
-        held.saturating_add(unseen).saturating_add(unseen)
+    /// Whether nobody else has its plan: then its query was dropped. Of one that was taken out twice it
+    /// isn't known.
+    pub(crate) fn is_forsaken(&self) -> bool {
+        Arc::strong_count(&self.plan) == 1
     }
 
     /// Whether another pin is of the same plan, with the same limit. Takes no memory.
@@ -198,4 +188,24 @@ impl Pin {
             && slices_equal(&self.windows, &other.windows)
             && self.plan.is_equal(&other.plan)
     }
+}
+
+// About how many bytes the rows of a window have that come at an instant or later. They are looked at from
+// the last one on.
+fn weight_from(window: &WindowPin, instant: u64) -> u64 {
+    let rows = window.unseen();
+    let many = rows.len();
+    let few = many.min(WEIGHED);
+    let mut bytes: u64 = 0;
+    for back in 0..few {
+        let element = rows.get(many - 1 - back);
+        if element.at() < instant {
+            return bytes;
+        }
+        bytes = bytes.saturating_add(element_weight(element.row()));
+    }
+    if few == many {
+        return bytes;
+    }
+    (bytes / WEIGHED as u64).saturating_mul(many as u64)
 }

@@ -13,8 +13,9 @@ use crate::projected_walk::ProjectedWalk;
 use crate::shown::{LastTold, WalkState, ask, keep};
 use crate::walks::{advance, retreat};
 use cql_bag::Room;
-use cql_ops::{BenchOf, Cancellation, Operator};
+use cql_ops::{BenchOf, Operator, PLACE};
 use cql_value::Items;
+use cql_window::Window;
 use std::alloc::{AllocError, Global};
 use std::marker::Model;
 use std::sync::Arc;
@@ -56,12 +57,6 @@ impl Model for LastAnswer {
 }
 
 impl LastAnswer {
-    pub(crate) fn new(pin: Arc<Pin>, last: LastTold) -> LastAnswer
-        ensures { result ≡ record { pin = arc_value pin; last = last } }
-    {
-        LastAnswer { pin, last }
-    }
-
     fn pin(&self) -> &Pin
         ensures { result.now ≡ self.now.pin }
     {
@@ -71,7 +66,7 @@ impl LastAnswer {
     // How many times at most rows come or leave as a bench is taken back to where a pin begins.
     fn rows_back(&self, pin: &Pin) -> usize {
         if pin.from() < self.pin.next() {
-            self.pin.rows_to_push(true)
+            self.pin.counts().1.saturating_mul(2)
         } else {
             0
         }
@@ -95,7 +90,7 @@ pub(crate) enum Wanted<'a> {
     StandingFor(Global, &'a Pin),
     // One that stands for no query.
     Spare,
-    // One that stands for a query, and was put back before the time.
+    // One that keeps something, and was put back before the time, or whose query is gone.
     Unused(u64),
 }
 
@@ -107,6 +102,8 @@ pub(crate) enum Wanted<'a> {
 pub struct Warm<O> {
     pub bench: BenchOf<O>,
     pub kept: Option<LastAnswer>,
+    /// About how many bytes it keeps since it was put back last.
+    pub weight: u64,
     // No more rows were pushed since the operators were started.
     pushed: usize,
     // When it was put back, in seconds.
@@ -122,31 +119,27 @@ impl<O: Operator> Warm<O> {
         Warm {
             bench,
             kept: None,
+            weight: 0,
             pushed: 0,
             used: 0,
         }
-    }
-
-    /// The flag by which an answer of its bench is given up.
-    pub fn cancellation(&self) -> &Cancellation {
-        self.bench.cancellation()
-    }
-
-    /// Whether it stands for no query.
-    pub fn is_empty(&self) -> bool {
-        self.kept.is_none()
     }
 
     // Whether it is what is looked for.
     pub(crate) fn is_wanted(&self, wanted: &Wanted<'_>) -> bool {
         match (wanted, &self.kept) {
             (Wanted::GoingOn(alloc, pin), Some(kept)) => {
-                seems_same(*alloc, pin, kept, kept.pin().next())
+                matches!(seem_same(*alloc, pin, kept, kept.pin().next()), Ok(true))
             }
             (Wanted::StandingFor(alloc, pin), Some(kept)) => {
-                kept.pin().has(pin.from()) && seems_same(*alloc, pin, kept, pin.from())
+                kept.pin().has(pin.from())
+                    && matches!(seem_same(*alloc, pin, kept, pin.from()), Ok(true))
             }
-            (Wanted::Unused(since), Some(_)) => self.used < *since,
+            (Wanted::Unused(since), kept) => {
+                let is_old = self.used < *since;
+                self.weight > 0
+                    && (is_old || matches!(kept, Some(kept) if kept.pin().is_forsaken()))
+            }
             (Wanted::Spare, None) => true,
             _ => false,
         }
@@ -158,6 +151,7 @@ impl<O: Operator> Warm<O> {
         ensures { IsWarm O.model_of self.new }
     {
         self.kept = None;
+        self.weight = 0;
         self.bench.clear(alloc);
     }
 
@@ -168,10 +162,16 @@ impl<O: Operator> Warm<O> {
         requires kept { IfSome last (λ r. IsKept (arc_value pin.now) r (bench_model O.model_of self.old.bench)) }
         ensures { IsWarm O.model_of self.new }
     {
-        self.kept = kept_of(pin, last, self.pushed);
-        if self.kept.is_none() {
+        self.kept = kept_of(pin, last, self.pushed, self.bench.is_past());
+        let Some(kept) = &self.kept else {
+            self.weight = 0;
             self.bench.clear(alloc);
-        }
+            return;
+        };
+        let places = kept.last.bag.size().saturating_mul(PLACE);
+        let rows = self.bench.weight().saturating_add(pin.weight_to_come());
+        // what is kept weighs something, whatever is counted
+        self.weight = rows.saturating_add(places).max(1);
     }
 
     /// The blocks of a pin, as `answer` gives them. Without memory the pin is given up, and what was
@@ -181,22 +181,40 @@ impl<O: Operator> Warm<O> {
         ensures warm { IsWarm O.model_of self.new }
         ensures pin { IfOk result (λ a. a.pin ≡ pin) }
     {
-        self.bench.cancellation().clear();
         let pin = Arc::new(alloc, pin)?;
+        self.answer_shared(alloc, pin)
+    }
+
+    // As `answer`, of a pin that may be shared.
+    pub(crate) fn answer_shared(
+        &mut self,
+        alloc: Global,
+        pin: Arc<Pin>,
+    ) -> Result<Answer, AllocError>
+        requires { IsWarm O.model_of self.old }
+        ensures warm { IsWarm O.model_of self.new }
+        ensures pin { IfOk result (λ a. a.pin ≡ arc_value pin) }
+    {
+        self.bench.cancellation().clear();
         let asked: &Pin = &pin;
         if asked.from() == asked.next() {
             let blocks = nothing_asked(alloc, asked);
             return Ok(Answer::new(pin, Items::from_vec(blocks), 0, false));
         }
         let kept = match self.kept.take() {
-            Some(kept) if kept.rows_back(asked) <= asked.rows_held().max(FEW_BACK) => Some(kept),
+            Some(kept) if kept.rows_back(asked) <= asked.counts().0.max(FEW_BACK) => Some(kept),
             _ => None,
         };
         let before = match &kept {
             Some(kept) => self.pushed.saturating_add(kept.rows_back(asked)),
             None => 0,
         };
-        self.pushed = before.saturating_add(asked.rows_to_push(kept.is_some()));
+        let (held, unseen) = asked.counts();
+        // of the rows that are held the bench has those already
+        let held = if kept.is_some() { 0 } else { held };
+        self.pushed = before
+            .saturating_add(held)
+            .saturating_add(unseen.saturating_mul(2));
         match evaluate(alloc, &mut self.bench, asked, kept) {
             Ok((blocks, turns, went_on, last)) => {
                 self.keep(alloc, &pin, last);
@@ -211,21 +229,32 @@ impl<O: Operator> Warm<O> {
 }
 
 // What is kept of a pin and the relation at its end, where no window is one of parts, with which no
-// pin goes on, where its windows have no more rows than `MOST`, and where no more were pushed than a start over these would be worth: operators may keep
-// a change for each.
-fn kept_of(pin: &Arc<Pin>, last: Option<LastTold>, pushed: usize) -> Option<LastAnswer>
+// pin goes on, where its windows have no more rows than `MOST`, and where no more were pushed than a start
+// over these would be worth, in rows and in bytes: operators may keep a change for each.
+fn kept_of(
+    pin: &Arc<Pin>,
+    last: Option<LastTold>,
+    pushed: usize,
+    is_past: bool,
+) -> Option<LastAnswer>
     ensures { IfSome result (λ k. (o : BenchModel) → IfSome last (λ r. IsKept (arc_value pin.now) r o) → StandsBehind k o) }
 {
     let last = last?;
-    if pin.has_parts() {
+    if is_past {
         return None;
     }
-    let rows = pin.rows();
+    for window in pin.windows() {
+        if matches!(window.window(), Window::Parts { .. }) {
+            return None;
+        }
+    }
+    let (held, unseen) = pin.counts();
+    let rows = held.saturating_add(unseen);
     if rows > MOST || pushed > rows.saturating_mul(4).saturating_add(FEW) {
         return None;
     }
     match Arc::try_clone(pin) {
-        Ok(pin) => Some(LastAnswer::new(pin, last)),
+        Ok(pin) => Some(LastAnswer { pin, last }),
         Err(AllocError) => None,
     }
 }
@@ -264,13 +293,7 @@ fn are_held_same<'a, 'b>(first: &[ProjectedWalk<'a>], second: &[ProjectedWalk<'b
     true
 }
 
-// Whether the kept pin seems to hold at a cursor what a pin holds where it begins. Without memory it
-// seems not to.
-fn seems_same(alloc: Global, pin: &Pin, kept: &LastAnswer, cursor: u64) -> bool {
-    matches!(seem_same(alloc, pin, kept, cursor), Ok(true))
-}
-
-// The same, where there is memory.
+// Whether the kept pin seems to hold at a cursor what a pin holds where it begins.
 fn seem_same(alloc: Global, pin: &Pin, kept: &LastAnswer, cursor: u64) -> Result<bool, AllocError> {
     let before = kept.pin();
     if !before.has_plan_of(pin) {
@@ -278,21 +301,15 @@ fn seem_same(alloc: Global, pin: &Pin, kept: &LastAnswer, cursor: u64) -> Result
     }
     let ended = walks_at(alloc, before, Some(cursor))?;
     let begun = walks_at(alloc, pin, Some(pin.from()))?;
-    Ok(seem_held_same(&ended, &begun))
-}
-
-// Whether walks seem to hold what others do, each in its place.
-fn seem_held_same<'a, 'b>(first: &[ProjectedWalk<'a>], second: &[ProjectedWalk<'b>]) -> bool {
-    let inputs = first.len();
-    if inputs != second.len() {
-        return false;
+    if ended.len() != begun.len() {
+        return Ok(false);
     }
-    for input in 0..inputs {
-        if !first[input].seems_same(&second[input]) {
-            return false;
+    for input in 0..ended.len() {
+        if !ended[input].seems_same(&begun[input]) {
+            return Ok(false);
         }
     }
-    true
+    Ok(true)
 }
 
 // The walks over a pin at its first cursor, where the kept one holds the same there, on its way or at

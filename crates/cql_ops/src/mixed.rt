@@ -10,6 +10,7 @@ use crate::distinct::DistinctOp;
 use crate::error::OpError;
 use crate::operator::Operator;
 use crate::set_operation::SetOperation;
+use crate::weight::{Load, Weight};
 use cql_bag::Change;
 use cql_plan::{Fault, Node, OperatorKind};
 use std::alloc::Global;
@@ -51,6 +52,15 @@ impl<J: Operator, S: Operator> Operator for Mixed<J, S> {
             Mixed::Shape(op) => op.heed(cancellation),
             Mixed::Distinct(op) => op.heed(cancellation),
             Mixed::SetOp(op) => op.heed(cancellation),
+        }
+    }
+
+    fn weight(&self) -> Weight {
+        match self {
+            Mixed::Join(op) => op.weight(),
+            Mixed::Shape(op) => op.weight(),
+            Mixed::Distinct(op) => op.weight(),
+            Mixed::SetOp(op) => op.weight(),
         }
     }
 
@@ -124,5 +134,7 @@ pub fn mixed_bench<J: Operator, S: Operator>(
         },
         set_op: Mixed::SetOp(SetOperation::new(alloc)),
         cancellation: Cancellation::never(),
+        load: Load::none(),
+        room: u64::MAX,
     }
 }

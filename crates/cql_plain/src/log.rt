@@ -10,7 +10,7 @@ use std::marker::Model;
 /// All changes of a bag since a start, and how many of them were told.
 #[derive(Drop)]
 pub(crate) struct Log {
-    changes: Vec<Change>,
+    pub changes: Vec<Change>,
     told: usize,
 }
 

@@ -10,7 +10,7 @@ use cql_connections::{Door, Floor, House, Hub, Limits};
 use cql_core::{BenchOf, Operator, TenantTable};
 use cql_hall::{Bare, Gate, Hall, Kept};
 use cql_sessions::{
-    Answers, Audited, Callable, Ending, Guest, Service, SharedPool, audit_sessions,
+    Answers, Audited, Callable, Ending, Guest, Rooms, Service, SharedPool, audit_sessions,
 };
 use crossbeam_channel::Receiver;
 use std::alloc::Global;
@@ -21,11 +21,12 @@ use std::thread::Threads;
 use std::time::Clock;
 
 /// The benches of a server: one for each thread, and those that all threads borrow, of which each
-/// goes on with the query that it answered last.
+/// goes on with the query that it answered last; and how much they may keep, and an answer may weigh.
 #[derive(Drop)]
 pub struct Benches<O: Operator> {
     pub own: Vec<BenchOf<O>>,
     pub shared: Vec<BenchOf<O>>,
+    pub rooms: Rooms,
 }
 
 /// Serves the callers of a listener: so many sessions, or for ever where that is 0; a connection
@@ -34,14 +35,15 @@ pub struct Benches<O: Operator> {
 /// each bench of its own gives one caller after another a turn, as does one more that computes no
 /// answers. Callers are tenants of the table, over one core. An answer is made by a shared bench, or
 /// where all are lent by the thread's own; what a shared one keeps of a query is let go of once
-/// nobody has used it for a minute.
+/// nobody has used it for a minute, a second after the query was dropped, where there is no room for it,
+/// and where a request for memory is refused.
 ///
 /// A session ends, as at a read or write that fails, where its caller takes longer than the limits
 /// allow: where the login line isn't whole in time, whatever has come of it; and where a read, or
 /// a write of which nothing is taken, has waited for too long.
 ///
-/// An answer that takes longer than the limits allow is given up, and its fetch is told `NoMemory`
-/// (70), as where a request for memory is refused.
+/// An answer that takes longer than the limits allow, or weighs more, is given up, and its fetch is told
+/// `NoMemory` (70), as where a request for memory is refused.
 ///
 /// Under `audit` each call and what it was told is kept. At the end the calls that the seats have
 /// counted have to be those of the journal, and all that was told has to agree with it: then the
@@ -79,9 +81,9 @@ where
     if audit && sessions == 0 {
         return Err(Failure::NoSessions);
     }
-    let Benches { own, shared } = benches;
+    let Benches { own, shared, rooms } = benches;
     let answers = Answers::new(alloc, limits.answer, own.len())?;
-    let pool = SharedPool::new(rt, alloc, shared, answers)?;
+    let pool = SharedPool::new(rt, alloc, shared, answers, rooms)?;
     if audit {
         serve_kept(
             rt, alloc, hub, limits, out, table, own, &pool, sessions, gate,

@@ -6,7 +6,7 @@ use crate::files::callers_with_files;
 use crate::forms::{keyed_lists, plain_lists};
 use cql_connections::{Hub, Limits, Watch};
 use cql_core::{Operator, TenantTable};
-use cql_sessions::benches_of;
+use cql_sessions::{Rooms, benches_of};
 use cql_wire::{Config, JoinForm, NoConfig, TableFault, Watched, config_of, given_table};
 use std::alloc::Global;
 use std::env::Env;
@@ -145,7 +145,11 @@ where
 {
     let own = benches_of(alloc, own)?;
     let shared = benches_of(alloc, shared)?;
-    let benches = Benches { own, shared };
+    let rooms = Rooms {
+        warm: u64::from(config.warm_room) << 20,
+        answer: u64::from(config.room) << 20,
+    };
+    let benches = Benches { own, shared, rooms };
     let listener = match TcpListener::bind(rt, (Ipv4Addr::LOCALHOST, config.port)) {
         Ok(listener) => listener,
         Err(error) => {

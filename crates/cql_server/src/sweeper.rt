@@ -12,17 +12,13 @@ use std::sync::Wait;
 use std::thread::{Builder, Scope};
 use std::time::Clock;
 
-// How often benches that nobody used are looked for, in seconds.
-const PERIOD: u32 = 15;
-
 // Tells the gate each second, with which rows are held where it wants that, gives up answers that
-// take too long, and now and then lets go of what nobody used, until the sender is let go.
+// take too long, and lets go of what nobody used or will use, until the sender is let go.
 fn sweep_on<R: Wait + Clock, C: Callable<R, G>, G: Gate, O: Operator>(
     service: &Service<'_, R, C, G>,
     pool: &SharedPool<O>,
     stopped: &Receiver<()>,
 ) {
-    let mut left = PERIOD;
     for _ in service.rt.forever() {
         if !pool.second(service.rt, stopped) {
             return;
@@ -31,11 +27,7 @@ fn sweep_on<R: Wait + Clock, C: Callable<R, G>, G: Gate, O: Operator>(
         if service.gate.wants_held() {
             tell_held(service);
         }
-        left = left.saturating_sub(1);
-        if left == 0 {
-            pool.sweep(service.rt);
-            left = PERIOD;
-        }
+        pool.sweep(service.rt);
     }
 }
 

@@ -29,4 +29,4 @@ pub use ending::Ending;
 pub use guest::{Connected, Guest, May, WaitsFor};
 pub use session_buffers::SessionBuffers;
 pub use sessions::{SessionEnd, session};
-pub use shared_pool::{Borrowing, SharedPool, borrowing};
+pub use shared_pool::{Borrowing, Rooms, SharedPool, borrowing};

@@ -17,6 +17,14 @@ const UNUSED: u64 = 40;
 // How often answers are looked at that may take only so long: so many times a second.
 const LOOKS: u64 = 4;
 
+/// How many bytes benches may keep together that nobody has borrowed, and how many an answer may weigh,
+/// with what its bench keeps for it.
+#[derive(Clone, Copy)]
+pub struct Rooms {
+    pub warm: u64,
+    pub answer: u64,
+}
+
 /// A pool that threads share.
 pub struct SharedPool<O: Operator> {
     alloc: Global,
@@ -24,6 +32,8 @@ pub struct SharedPool<O: Operator> {
     count: usize,
     begun: Instant,
     answers: Answers,
+    // how many bytes an answer may weigh
+    room: u64,
 }
 
 impl<O: Operator> Drop for SharedPool<O> {
@@ -34,23 +44,26 @@ impl<O: Operator> Drop for SharedPool<O> {
             count: _,
             begun: _,
             answers: _,
+            room: _,
         } = self;
     }
 }
 
 impl<O: Operator> SharedPool<O> {
-    /// Of these benches, none of which stands for a query, for threads whose answers are these.
+    /// Of these benches, none of which stands for a query, for threads whose answers are these. What they
+    /// keep, and what an answer weighs, stays within these rooms.
     pub fn new<R: Clock>(
         rt: &R,
         alloc: Global,
         benches: Vec<BenchOf<O>>,
         answers: Answers,
+        rooms: Rooms,
     ) -> Result<SharedPool<O>, AllocError>
         requires { All (IsBench O.model_of) benches.items }
     {
         let count = benches.len();
-        let benches = with_flags(alloc, benches, &answers)?;
-        let pool = Pool::new(alloc, benches)?;
+        let benches = with_flags(alloc, benches, rooms.answer)?;
+        let pool = Pool::new(alloc, benches, rooms.warm)?;
         let Ok(begun) = Instant::now(rt) else {
             return Err(AllocError);
         };
@@ -60,6 +73,7 @@ impl<O: Operator> SharedPool<O> {
             count,
             begun,
             answers,
+            room: rooms.answer,
         })
     }
 
@@ -71,30 +85,72 @@ impl<O: Operator> SharedPool<O> {
         }
     }
 
-    // Takes out a bench that stands for a query and that nobody used of late.
-    fn take_unused<R: Wait + Clock>(&self, rt: &R) -> Option<Warm<O>>
+    // Takes out a bench that keeps something, and that nobody used since then or whose query is gone.
+    fn take_unused<R: Wait>(&self, rt: &R, since: u64) -> Option<Warm<O>>
         ensures { IfSome result (IsWarm O.model_of) }
     {
-        let since = self.seconds(rt).saturating_sub(UNUSED);
         self.pool.lock(rt).take_unused(since)
     }
 
-    fn put<R: Wait + Clock>(&self, rt: &R, bench: Warm<O>)
-        requires { IsWarm O.model_of bench }
+    // Takes out the bench that was used longest ago, where there is no room for so many bytes more.
+    fn take_excess<R: Wait>(&self, rt: &R, weight: u64) -> Option<Warm<O>>
+        ensures { IfSome result (IsWarm O.model_of) }
     {
-        let now = self.seconds(rt);
-        self.pool.lock(rt).put(bench, now);
+        self.pool.lock(rt).take_excess(weight)
     }
 
-    /// What benches that nobody used of late stand for is let go of, outside the lock.
-    pub fn sweep<R: Wait + Clock>(&self, rt: &R) {
+    // Puts a bench back, or gives it back where there is no room for what it keeps.
+    fn put<R: Wait + Clock>(&self, rt: &R, bench: Warm<O>) -> Option<Warm<O>>
+        requires { IsWarm O.model_of bench }
+        ensures { IfSome result (IsWarm O.model_of) }
+    {
+        let now = self.seconds(rt);
+        self.pool.lock(rt).put(bench, now)
+    }
+
+    // Puts a bench back that keeps nothing any more, which is let go of outside the lock.
+    fn put_cleared<R: Wait + Clock>(&self, rt: &R, bench: Warm<O>)
+        requires { IsWarm O.model_of bench }
+    {
+        let mut bench = bench;
+        bench.clear(self.alloc);
+        let _ = self.put(rt, bench);
+    }
+
+    // Puts a bench back. Of the others those that were used longest ago let go of what they keep, where
+    // there is no room for it; and it does so itself where others took that room meanwhile.
+    fn put_back<R: Wait + Clock>(&self, rt: &R, bench: Warm<O>)
+        requires { IsWarm O.model_of bench }
+    {
         for _ in 0..self.count {
-            let Some(mut bench) = self.take_unused(rt) else {
-                return;
+            let Some(other) = self.take_excess(rt, bench.weight) else {
+                break;
             };
-            bench.clear(self.alloc);
-            self.put(rt, bench);
+            self.put_cleared(rt, other);
         }
+        if let Some(bench) = self.put(rt, bench) {
+            self.put_cleared(rt, bench);
+        }
+    }
+
+    // What benches keep that nobody used since then, or whose queries are gone, is let go of, outside the
+    // lock. Whether there was anything.
+    fn let_go<R: Wait + Clock>(&self, rt: &R, since: u64) -> bool {
+        let mut some = false;
+        for _ in 0..self.count {
+            let Some(bench) = self.take_unused(rt, since) else {
+                break;
+            };
+            self.put_cleared(rt, bench);
+            some = true;
+        }
+        some
+    }
+
+    /// What benches stand for that nobody used of late, or whose queries are gone, is let go of.
+    pub fn sweep<R: Wait + Clock>(&self, rt: &R) {
+        let since = self.seconds(rt).saturating_sub(UNUSED);
+        let _ = self.let_go(rt, since);
     }
 
     /// Waits for a second, and gives up late answers meanwhile. Whether the sender is still there.
@@ -114,36 +170,35 @@ impl<O: Operator> SharedPool<O> {
     }
 }
 
-// Where answers may take only so long, each bench heeds a flag of its own from now on.
+// Each bench heeds a flag of its own from now on, and gives up an answer of more than so many bytes.
 fn with_flags<O: Operator>(
     alloc: Global,
     benches: Vec<BenchOf<O>>,
-    answers: &Answers,
+    room: u64,
 ) -> Result<Vec<BenchOf<O>>, AllocError>
     requires { All (IsBench O.model_of) benches.items }
     ensures { IfOk result (λ v. All (IsBench O.model_of) v.items) }
 {
     let mut all = Vec::with_capacity(alloc, benches.len())?;
     for bench in benches {
-        let one = with_flag(alloc, bench, answers)?;
+        let one = with_flag(alloc, bench, room)?;
         all.push(one)?;
     }
     Ok(all)
 }
 
-// The bench, which heeds a flag of its own where answers may take only so long.
+// The bench, which heeds a flag of its own, and gives up an answer of more than so many bytes.
 fn with_flag<O: Operator>(
     alloc: Global,
     bench: BenchOf<O>,
-    answers: &Answers,
+    room: u64,
 ) -> Result<BenchOf<O>, AllocError>
     requires { IsBench O.model_of bench }
     ensures { IfOk result (IsBench O.model_of) }
 {
     let mut bench = bench;
-    if answers.are_limited() {
-        bench.heed(Cancellation::new(alloc)?)?;
-    }
+    bench.bound(room);
+    bench.heed(Cancellation::new(alloc)?)?;
     Ok(bench)
 }
 
@@ -171,7 +226,7 @@ impl<'a, R: Wait + Clock, O: Operator> Lender<O> for Borrower<'a, R, O> {
         let lent = self.shared.pool.lock(self.rt).take(alloc, pin);
         match lent {
             Some(bench) => {
-                self.begin(bench.cancellation());
+                self.begin(bench.bench.cancellation());
                 Some(bench)
             }
             None => {
@@ -182,11 +237,15 @@ impl<'a, R: Wait + Clock, O: Operator> Lender<O> for Borrower<'a, R, O> {
     }
 
     // The slot is left before another thread may borrow the bench.
-    fn take_back(&mut self, bench: Warm<O>)
+    fn take_back(&mut self, _alloc: Global, bench: Warm<O>)
         requires { IsWarm O.model_of bench }
     {
         self.shared.answers.end(self.rt, self.thread);
-        self.shared.put(self.rt, bench);
+        self.shared.put_back(self.rt, bench);
+    }
+
+    fn let_go(&mut self, _alloc: Global) -> bool {
+        self.shared.let_go(self.rt, u64::MAX)
     }
 }
 
@@ -207,7 +266,7 @@ where
     requires { IsBench O.model_of own }
     ensures { IfOk result (λ p. IsBench O.model_of p.cold) }
 {
-    let bench = with_flag(alloc, own, &shared.answers)?;
+    let bench = with_flag(alloc, own, shared.room)?;
     let own = bench.cancellation().share()?;
     Ok(Pooled::new(
         bench,

@@ -46,6 +46,10 @@ pub struct Config {
     /// How many benches go on with the queries that they answered last, up to 1,024; at 0 each
     /// answer begins anew.
     pub warm: u16,
+    /// How many MiB benches may keep together while nobody uses them, 1 to 65,536.
+    pub warm_room: u32,
+    /// How many MiB an answer may weigh, with what its bench keeps for it, 1 to 65,536.
+    pub room: u32,
     /// Every how many seconds what was done is told, up to 86,400; at 0 never.
     pub log: u32,
     /// Whether each call is kept, and checked after the last session.
@@ -74,6 +78,8 @@ where
     ensures idle { IfOk result (λ c. c.idle ≤ 86400) }
     ensures answer { IfOk result (λ c. c.answer ≤ 86400) }
     ensures warm { IfOk result (λ c. c.warm ≤ 1024) }
+    ensures warm_room { IfOk result (λ c. (1 ≤ c.warm_room) × (c.warm_room ≤ 65536)) }
+    ensures room { IfOk result (λ c. (1 ≤ c.room) × (c.room ≤ 65536)) }
     ensures log { IfOk result (λ c. c.log ≤ 86400) }
 {
     let words = match words_of(rt) {
@@ -110,6 +116,8 @@ fn read_words(alloc: Global, words: &[String]) -> Result<Config, Error>
     ensures idle { IfOk result (λ c. c.idle ≤ 86400) }
     ensures answer { IfOk result (λ c. c.answer ≤ 86400) }
     ensures warm { IfOk result (λ c. c.warm ≤ 1024) }
+    ensures warm_room { IfOk result (λ c. (1 ≤ c.warm_room) × (c.warm_room ≤ 65536)) }
+    ensures room { IfOk result (λ c. (1 ≤ c.room) × (c.room ≤ 65536)) }
     ensures log { IfOk result (λ c. c.log ≤ 86400) }
 {
     let matches = command(alloc)?.try_get_matches_from(words)?;
@@ -123,6 +131,8 @@ fn read_words(alloc: Global, words: &[String]) -> Result<Config, Error>
         answer: number(&matches, "answer", 0, 86_400),
         join: join_form(matches.get_str("join")),
         warm: number(&matches, "warm", 0, 1024) as u16,
+        warm_room: number(&matches, "warm-room", 1, 65_536),
+        room: number(&matches, "room", 1, 65_536),
         log: number(&matches, "log", 0, 86_400),
         audit: matches.get_flag("audit"),
         check: matches.get_flag("check"),
@@ -156,6 +166,8 @@ enum Takes {
     Count(&'static str, i64, i64),
     // A number of seconds: what it is where none is given, and the most.
     Seconds(&'static str, i64),
+    // A number of MiB: what it is where none is given, the least and the most.
+    Mebibytes(&'static str, i64, i64),
     // A form of joins.
     Form,
     Nothing,
@@ -211,6 +223,16 @@ const WORDS: &[Word] = &[
         "How many answers are kept to go on from, or 0 for none",
     ),
     Word(
+        "warm-room",
+        Takes::Mebibytes("256", 1, 65_536),
+        "How much answers that are kept may take together, 1 to 65536",
+    ),
+    Word(
+        "room",
+        Takes::Mebibytes("256", 1, 65_536),
+        "How much one answer may take before it is given up, 1 to 65536",
+    ),
+    Word(
         "log",
         Takes::Seconds("0", 86_400),
         "How often counts are told on standard error, with who comes and leaves, or 0 for nothing",
@@ -246,6 +268,14 @@ fn argument<'a>(alloc: Global, word: &'static Word) -> Arg<'a> {
             valued(
                 argument,
                 "N",
+                default,
+                value_parser!(u32).range(least..=most),
+            )
+        }
+        Takes::Mebibytes(default, least, most) => {
+            valued(
+                argument,
+                "MIB",
                 default,
                 value_parser!(u32).range(least..=most),
             )

@@ -8,6 +8,9 @@ use std::alloc::AllocError;
 use std::process::ExitCode;
 use std::{env, io};
 
+// So many bytes benches may keep together while they aren't used.
+const WARM: u64 = 256 << 20;
+
 fn main(rt: HostRuntime) -> ExitCode {
     let outcome = match outcome(&rt) {
         Ok(outcome) => outcome,
@@ -36,7 +39,7 @@ fn outcome(rt: &HostRuntime) -> Result<ExitReport, AllocError> {
         plain_bench(alloc),
         plain_bench(alloc),
     ]?;
-    let mut bench = Pooled::new(plain_bench(alloc), Pool::new(alloc, benches)?);
+    let mut bench = Pooled::new(plain_bench(alloc), Pool::new(alloc, benches, WARM)?);
     let words = args.skip(1).collect::<Vec<String>>(alloc)?;
     let mut reader = Watched::new(rt.reader());
     let mut writer = Watched::new(io::writer(rt));

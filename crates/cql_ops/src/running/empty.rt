@@ -6,6 +6,7 @@ ghost use Rattle.cql_ops.specs.Bench.{AreKinds, IsBench, block_model};
 use crate::bench::{BenchOf, BlockOf};
 use crate::operator::Operator;
 use crate::running::steps::start;
+use crate::weight::Load;
 use cql_plan::{Condition, Join, Node, OperatorKind, SetOp, Shape};
 use cql_syntax::syntax::SetOperator;
 use cql_value::Items;
@@ -60,6 +61,7 @@ impl<O: Operator> BenchOf<O> {
         requires { IsBench O.model_of self.old }
         ensures { IsBench O.model_of self.new }
     {
+        self.load = Load::none();
         self.left.clear(alloc);
         self.right.clear(alloc);
         empty(alloc, &mut self.set_op);

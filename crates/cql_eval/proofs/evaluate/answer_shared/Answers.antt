@@ -1,6 +1,6 @@
 use Rattle.std.proofs.lemmas.Grind.{common_steps}
 use Rattle.std.proofs.Common.{arith}
-use Rattle.cql_eval.proofs.evaluate.answer.Goals as goal
+use Rattle.cql_eval.proofs.evaluate.answer_shared.Goals as goal
 
 pub returns-clause-pin : goal.returns-clause-pin
 returns-clause-pin g c = grind (arith, common_steps)

@@ -1,6 +1,6 @@
 use Rattle.std.proofs.lemmas.Grind.{common_steps}
 use Rattle.std.proofs.Common.{arith}
-use Rattle.cql_eval.proofs.warm.Warm.answer.Goals as goal
+use Rattle.cql_eval.proofs.warm.Warm.answer_shared.Goals as goal
 
 pub evaluate-requires-clause-kept : goal.evaluate-requires-clause-kept
 evaluate-requires-clause-kept g c = grind (arith, common_steps)
@@ -8,8 +8,8 @@ evaluate-requires-clause-kept g c = grind (arith, common_steps)
 pub new-requires-in-Ok : goal.new-requires-in-Ok
 new-requires-in-Ok g c = grind (arith, common_steps)
 
-pub new-requires-then-from-next : goal.new-requires-then-from-next
-new-requires-then-from-next g c = grind (arith, common_steps)
+pub new-requires : goal.new-requires
+new-requires g c = grind (arith, common_steps)
 
 pub nothing_asked-blocks-requires : goal.nothing_asked-blocks-requires
 nothing_asked-blocks-requires g c = grind (arith, common_steps)

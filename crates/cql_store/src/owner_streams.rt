@@ -104,8 +104,8 @@ impl OwnerStreams {
         self.stores[stream].detach(id);
     }
 
-    /// The units of what calls put into the store of a stream since it was asked last, about; and
-    /// whether that store has something to let go of from now on.
+    /// The units of what the stubs on a stream put in since that was asked last; and whether the
+    /// stream's store has something to let go of from now on.
     pub(crate) fn take_made(&mut self, stream: usize) -> (usize, bool)
         ensures { self.new ≡ self.old }
     {

@@ -17,7 +17,7 @@ use std::marker::Model;
 // What came and went since that was asked last.
 #[derive(Clone, Copy)]
 struct Made {
-    // The units of what was put in, about.
+    // The units of what stubs have put in.
     units: usize,
     // So many rows were gone then.
     gone: usize,
@@ -123,9 +123,7 @@ impl Store {
         if count == usize::MAX {
             return Err(AllocError);
         }
-        let values = row.row().len();
         self.rows.push(self.alloc, row)?;
-        self.made.units = self.made.units.saturating_add(values);
         mark_all(
             &mut self.stubs,
             &mut self.retention,
@@ -201,8 +199,8 @@ impl Store {
         self.waste.settle(budget);
     }
 
-    /// The units of what calls put into the store since it was asked last, about; and whether it has
-    /// something to let go of from now on, for which it didn't wait.
+    /// The units of what its stubs put in since it was asked last; and whether it has something to let
+    /// go of from now on, for which it didn't wait.
     pub(crate) fn take_made(&mut self) -> (usize, bool)
         ensures { self.new ≡ self.old }
     {

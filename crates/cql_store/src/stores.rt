@@ -13,7 +13,7 @@ use cql_window::{Window, WindowPin};
 use std::alloc::{AllocError, Global};
 use std::marker::Model;
 
-// What one call lets go of at most, beside as much as it made.
+// What one call lets go of at most, beside as much as it put in: more than a row of a line weighs.
 const UNITS: usize = 1024;
 
 // A stream of an owner.
@@ -30,7 +30,7 @@ pub struct Stores {
     waiting: Vec<StreamAt>,
     // How many streams there are.
     streams: usize,
-    // The units of what calls put in since the stores settled last, about.
+    // The units of what stubs put in since the stores settled last.
     made: usize,
 }
 

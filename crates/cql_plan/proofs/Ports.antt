@@ -1,7 +1,7 @@
 -- The inputs of a plan beside the ports of its joins.
-use Rattle.std.proofs.Common.{◌≡◌, ℕ, zero, suc, ◌<◌, nat_eq, Bool, true, false, if◌then◌else◌, List, [], ◌∷◌, ◌++◌, length, refl, sym, ap, ◌∙◌, subst}
+use Rattle.std.proofs.Common.{◌≡◌, ℕ, zero, suc, ◌<◌, List, [], ◌∷◌, ◌++◌, length, refl, sym, ap, ◌∙◌, subst}
 use Rattle.std.specs.Prelude.{Option, Some, None, Ok, slice_get}
-use Rattle.std.specs.List.{AllByRecursion, AllZip, Contains, cons_option, list_any}
+use Rattle.std.specs.List.{AllByRecursion, AllZip, Contains, cons_option}
 use Rattle.std.proofs.lemmas.List.{append-nil, length-map}
 use Rattle.std.proofs.lemmas.Option.{slice_get_within}
 use Rattle.cql_value.specs.declared.schema.Column.{Column}

@@ -11,7 +11,7 @@ TEST_TIME := half an hour to an hour and a half on four cores, by how fast they 
 PREFIX := /usr/local
 DESTDIR :=
 # the server that `make serve` runs, built and not proved
-UNPROVED := crates/cqld/out/cqld-unproved
+UNPROVED := out/cqld-unproved
 
 .PHONY: help run build serve install test look drive bench check clauses lemmas goals steps edits answers
 

@@ -826,6 +826,7 @@ MISTAKES = (
     ("Select * From reading r, bonds b Where r.room = b.room", 30, "bonds"),
     ("Select * From reading Union All Select * From readin", 30, "readin"),
     ("Select * From c.reading", 30, "c.reading"),
+    ("Select * From a.reading, bonds", 30, "bonds"),
     ("Select room, temperature From reading", 52, "temperature"),
     ("Select degree From reading", 52, "degree"),
     ("Select * From reading Where temp > 3", 52, "temp"),

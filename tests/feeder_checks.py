@@ -762,6 +762,16 @@ def installed(program):
             check=False,
         )
         yield "a terminal that is installed", difference(ran.stdout, b"> " + LIST + b"< " + EMPTY)
+        completion = f"{folder}/opt/cql/share/bash-completion/completions/romburik"
+        asked = f"source {completion}; COMP_WORDS=(romburik --tok); COMP_CWORD=1; _romburik romburik"
+        ran = subprocess.run(
+            ["bash", "-c", asked + '; echo "${COMPREPLY[@]}"'],
+            env={**bare, "PATH": f"{folder}/opt/cql/bin:{bare['PATH']}"},
+            capture_output=True,
+            timeout=SECONDS,
+            check=False,
+        )
+        yield "a word that is completed", difference(ran.stdout, b"--token-file\n")
         for name in "cqld", "romburik":
             manual = pathlib.Path(folder, f"opt/cql/share/man/man1/{name}.1").read_text()
             yield f"a manual of {name}", None if "\\-\\-port" in manual else "it has no --port"

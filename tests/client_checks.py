@@ -806,6 +806,12 @@ def rows_of_a_file(program):
             ended = terminal(server.port, "put", "t", "--csv", path, "--at", "now")
             said = f"romburik: no column of {path} is called now: when, n, v\n"
             yield "a column that is none", difference(ended, Ended(2, said.encode(), b""))
+        with file_of(b"when,n,v\n1970-01-01T00:00:19.500+00:00,z,3\n") as path:
+            words = ["--csv", path, "--at", "when", "--epoch", "ms"]
+            it.stream("m", {"n": "text", "v": "int"})
+            ended = terminal(server.port, "put", "m", *words)
+            found = ended.status, it.list().streams[-1].open
+            yield "a time in milliseconds", difference(found, (0, 19_500))
         it.beat("t", 20)
         wanted = romburik.Rows(9, 9, (("7", -1),)), romburik.Rows(10, 10, (("8", 2),))
         yield "rows before one that is none", difference(it.fetch("r").blocks, wanted)

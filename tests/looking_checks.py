@@ -460,7 +460,9 @@ def copies_on_a_new_server(program):
                 for at in range(instants):
                     it.put("s", at, [at])
                     it.beat("s", at)
-                    it.ack("q", it.fetch("q").next)
+                    # of the first server the looker has seen much before it goes over
+                    if at >= 40 or instants < 40:
+                        it.ack("q", it.fetch("q").next)
                     look = looker.look()
                     seen += [block.first for block in look.blocks] if look else []
             yield f"a copy over {instants} instants", difference(seen[-2:], [instants - 2, instants - 1])

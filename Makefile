@@ -11,7 +11,7 @@ TEST_TIME := half an hour to an hour and a half on four cores, by how fast they 
 PREFIX := /usr/local
 DESTDIR :=
 # the server that `make serve` runs, built and not proved
-UNPROVED := crates/cqld/out/cqld-unproved
+UNPROVED := out/cqld-unproved
 
 .PHONY: help run build serve install test look drive bench check clauses lemmas goals steps edits answers
 
@@ -65,7 +65,7 @@ install:
 	mkdir -p $(DESTDIR)/etc/systemd/system $(DESTDIR)$(PREFIX)/share/man/man1
 	sed 's|/usr/local|$(PREFIX)|' examples/service/cqld.service > $(DESTDIR)/etc/systemd/system/cqld.service
 	$(SERVER) --help | examples/service/manual.py cqld 1 'serves continuous queries' > $(DESTDIR)$(PREFIX)/share/man/man1/cqld.1
-	PYTHONPATH=clients/python COLUMNS=80 python3 -m romburik --help | examples/service/manual.py romburik 1 'a terminal for cqld' > $(DESTDIR)$(PREFIX)/share/man/man1/romburik.1
+	PYTHONPATH=clients/python COLUMNS=80 python3 -B -m romburik --help | examples/service/manual.py romburik 1 'a terminal for cqld' > $(DESTDIR)$(PREFIX)/share/man/man1/romburik.1
 	install -D -m 644 examples/service/completion.bash $(DESTDIR)$(PREFIX)/share/bash-completion/completions/cqld
 	ln -sf cqld $(DESTDIR)$(PREFIX)/share/bash-completion/completions/romburik
 	@echo 'Installed. The next steps are in docs/OPERATING.md, "As a service".'

@@ -64,6 +64,7 @@ from romburik import Session
 from romburik.calling import add_words, check_words, session_of
 from romburik.columns import inputs_of
 from romburik.looking import final_of
+from romburik.owning import is_copy
 
 Line = Dict[str, Any]
 
@@ -212,7 +213,10 @@ class Feeder:
                 fits.append(number)
         # heartbeats that change nothing may have come in or not
         if not fits or any(line["do"] == "put" for line in lines[fits[0] : fits[-1]]):
-            raise CannotGoOn("it isn't known which lines came in; start the server anew")
+            raise CannotGoOn(
+                "it isn't known which lines came in; start the server anew, and feed it by --scale, "
+                "which gives each row an instant of its own"
+            )
         return fits[-1]
 
     def _settled(self, session: Session) -> Dict[str, int]:
@@ -277,7 +281,8 @@ class Feeder:
         fed = {it.name: it.open for it in listing.streams if it.name in self._streams}
         final = min(fed.values(), default=0)
         slowest = final
-        for query in listing.queries:
+        # who looks at a copy of a query is nobody to wait for
+        for query in (it for it in listing.queries if not is_copy(it.name)):
             told = final_of(listing, query)
             offset = min(self._offset(query.name), final if told is None else told)
             if offset > query.next:

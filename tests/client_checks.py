@@ -806,6 +806,12 @@ def rows_of_a_file(program):
             ended = terminal(server.port, "put", "t", "--csv", path, "--at", "now")
             said = f"romburik: no column of {path} is called now: when, n, v\n"
             yield "a column that is none", difference(ended, Ended(2, said.encode(), b""))
+        with file_of(b"when,n,v\n1970-01-01T00:00:19.500+00:00,z,3\n") as path:
+            words = ["--csv", path, "--at", "when", "--epoch", "ms"]
+            it.stream("m", {"n": "text", "v": "int"})
+            ended = terminal(server.port, "put", "m", *words)
+            found = ended.status, it.list().streams[-1].open
+            yield "a time in milliseconds", difference(found, (0, 19_500))
         it.beat("t", 20)
         wanted = romburik.Rows(9, 9, (("7", -1),)), romburik.Rows(10, 10, (("8", 2),))
         yield "rows before one that is none", difference(it.fetch("r").blocks, wanted)
@@ -826,6 +832,7 @@ MISTAKES = (
     ("Select * From reading r, bonds b Where r.room = b.room", 30, "bonds"),
     ("Select * From reading Union All Select * From readin", 30, "readin"),
     ("Select * From c.reading", 30, "c.reading"),
+    ("Select * From a.reading, bonds", 30, "bonds"),
     ("Select room, temperature From reading", 52, "temperature"),
     ("Select degree From reading", 52, "degree"),
     ("Select * From reading Where temp > 3", 52, "temp"),

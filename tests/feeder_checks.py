@@ -283,10 +283,18 @@ def feeder_waits_for_consumers(program):
         with Server(program, tenants("a")) as server, session(server) as it:
             feed.feed(server.port)
             wait_for(lambda: [one.next for one in it.list().queries] == [30] * 3)
+            # who looks at a copy that he doesn't acknowledge holds nobody up
+            look = romburik.OwnLooker(it, "came").look()
+            yield "a copy at the feeder's place", difference(look.since <= 50, True)
+            for query in TEXTS:
+                # at once, since the feeder reads it meanwhile
+                (feed.folder / "next").write_text('{"next":40}')
+                os.replace(feed.folder / "next", feed.offsets / query)
+            wait_for(lambda: [one.next for one in it.list().queries][:3] == [40] * 3)
             time.sleep(SILENCE)
             listing = it.list()
-            found = [one.next for one in listing.queries], listing.streams[0].open < 50
-        yield "consumers that are away", difference(found, ([30] * 3, True))
+            found = [one.next for one in listing.queries][:3], listing.streams[0].open < 60
+        yield "consumers that are away", difference(found, ([40] * 3, True))
 
 
 def feeder_is_started_anew(program):
@@ -321,8 +329,8 @@ def feeder_is_started_anew(program):
             feed.feed(server.port)
             status = feed.children["feed"].wait(SECONDS)
             said = (feed.folder / "errors").read_text()
-    wanted = 1, "feed: it isn't known which lines came in; start the server anew\n"
-    yield "a feeder in doubt", difference((status, said), wanted)
+    wanted = 1, "feed: it isn't known which lines came in; start the server anew, and feed it by --sc"
+    yield "a feeder in doubt", difference((status, said[: len(wanted[1])]), wanted)
 
 
 # ---- A chain of a feeder, a query, a stage, a second query and its consumer.
@@ -754,6 +762,16 @@ def installed(program):
             check=False,
         )
         yield "a terminal that is installed", difference(ran.stdout, b"> " + LIST + b"< " + EMPTY)
+        completion = f"{folder}/opt/cql/share/bash-completion/completions/romburik"
+        asked = f"source {completion}; COMP_WORDS=(romburik --tok); COMP_CWORD=1; _romburik romburik"
+        ran = subprocess.run(
+            ["bash", "-c", asked + '; echo "${COMPREPLY[@]}"'],
+            env={**bare, "PATH": f"{folder}/opt/cql/bin:{bare['PATH']}"},
+            capture_output=True,
+            timeout=SECONDS,
+            check=False,
+        )
+        yield "a word that is completed", difference(ran.stdout, b"--token-file\n")
         for name in "cqld", "romburik":
             manual = pathlib.Path(folder, f"opt/cql/share/man/man1/{name}.1").read_text()
             yield f"a manual of {name}", None if "\\-\\-port" in manual else "it has no --port"

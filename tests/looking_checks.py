@@ -442,6 +442,32 @@ def copies_see_all(program):
         yield "queries behind all copies", difference(names_of_queries(it), ["q"])
 
 
+def copies_on_a_new_server(program):
+    """A looker that has gone over to a copy sees all of a server that was started anew."""
+    port = free_port()
+    with contextlib.ExitStack() as open_ones:
+        looker = None
+        for instants in (50, 3):
+            with Server(program, TENANTS, port=port) as server, session(server) as it:
+                it.stream("s", {"v": "int"})
+                it.query("q", "Select Istream(*) From s [Now]")
+                if looker is None:
+                    other = open_ones.enter_context(session(server))
+                    looker = romburik.ChoosingLooker(other, "q")
+                other.connect()
+                looker.look()
+                seen = []
+                for at in range(instants):
+                    it.put("s", at, [at])
+                    it.beat("s", at)
+                    # of the first server the looker has seen much before it goes over
+                    if at >= 40 or instants < 40:
+                        it.ack("q", it.fetch("q").next)
+                    look = looker.look()
+                    seen += [block.first for block in look.blocks] if look else []
+            yield f"a copy over {instants} instants", difference(seen[-2:], [instants - 2, instants - 1])
+
+
 def copies_without_one_to_spare(program):
     """Where the quota of queries is used up the query itself is looked at, unless --own asks for
     more."""
@@ -523,6 +549,7 @@ CHECKS = (
     page_keeps_its_address,
     page_is_live,
     copies_see_all,
+    copies_on_a_new_server,
     copies_without_one_to_spare,
     looks_are_bounded,
     revoked_queries_stay_so,

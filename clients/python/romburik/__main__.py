@@ -194,6 +194,7 @@ def _parser() -> argparse.ArgumentParser:
         "--quiet", action="store_true", help="tells no lines that are sent, and no plain ok"
     )
     _add_words_of_views(parser)
+    _add_words_of_put(parser)
     return parser
 
 
@@ -230,6 +231,9 @@ def _add_words_of_views(parser: argparse.ArgumentParser) -> None:
         metavar="FILE",
         help="keeps the random part of the page's address, which then stays over new starts",
     )
+
+
+def _add_words_of_put(parser: argparse.ArgumentParser) -> None:
     rows = parser.add_argument_group("put STREAM")
     rows.add_argument("--csv", metavar="FILE", help="the rows, below a line of the columns' names")
     rows.add_argument(
@@ -262,8 +266,10 @@ def _given(words: Optional[Sequence[str]]) -> argparse.Namespace:
         parser.error("put STREAM takes --csv and --at, and nothing else does")
     if given.view and (given.file or given.follow or given.script or given.ping):
         parser.error("watch, page and put go with no --file, --script, --follow or --ping")
-    if not is_page and (given.listen is not None or given.epoch or given.token_file):
-        parser.error("--listen, --epoch and --token-file go with page")
+    if not is_page and (given.listen is not None or given.token_file):
+        parser.error("--listen and --token-file go with page")
+    if given.epoch and not (is_page or is_put):
+        parser.error("--epoch goes with page and put")
     if given.script is not None and (given.tenant is not None or given.key_file is not None):
         parser.error("--script has its tenants and keys, and goes with no --tenant or --key-file")
     if given.script is None and given.tenant is None:

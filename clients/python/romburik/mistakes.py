@@ -164,10 +164,13 @@ class _Typing:
         self._streams = streams
 
     def unknown_stream(self) -> Optional[Mistake]:
-        for one in (it for block in self._blocks for it in block.inputs):
-            if one.stream not in self._streams:
-                said = f"there is no stream {one.stream} that may be read"
-                return Mistake(said + _meant(one.stream, self._streams), one.at)
+        inputs = [it for block in self._blocks for it in block.inputs]
+        missing = [it for it in inputs if it.stream not in self._streams]
+        # what stands before the dot may be the tenant's own name
+        sure = [it for it in missing if it.stream.partition(".")[2] not in self._streams]
+        for one in (sure or missing)[:1]:
+            said = f"there is no stream {one.stream} that may be read"
+            return Mistake(said + _meant(one.stream, self._streams), one.at)
         return None
 
     def unknown_column(self) -> Optional[Mistake]:

@@ -248,6 +248,8 @@ class ChoosingLooker:
             self._itself = Looker(self._session, self._name)
             self._before = None
             raise
+        if own and own.is_new and self._shows_copy:
+            self._before = None  # of a server that was started anew, or of another query
         return own if own is None or self._before is None else _behind(own, self._before.next)
 
     def close(self) -> None:

@@ -231,9 +231,9 @@ async function start() {
   keep();
   // a page that the browser brings back had gone from the stream
   addEventListener("pageshow", ({ persisted }) => { if (persisted) keep(); });
-  matchMedia("(prefers-color-scheme: dark)").addEventListener("change", () => {
-    for (const { plots } of panels) if (plots) plots.draw();
-  });
+  const drawAll = () => panels.forEach(({ plots }) => plots && plots.draw());
+  matchMedia("(prefers-color-scheme: dark)").addEventListener("change", drawAll);
+  document.addEventListener("visibilitychange", drawAll);
 }
 
 start().catch(() => { byId("trouble").textContent = AWAY; });

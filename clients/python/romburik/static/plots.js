@@ -196,6 +196,7 @@ class Plots {
   }
 
   draw() {
+    if (document.hidden) return; // it is drawn once the tab is seen
     const spans = [...this.values.values()].filter((it) => it.length).map((it) => [it[0][0], it[it.length - 1][1]]);
     const edges = [...spans, ...this.faults.slice(-1)];
     const least = Math.min(...edges.map(([first]) => first));

@@ -16,7 +16,7 @@ use std::marker::Model;
 
 // What came and went since that was asked last.
 #[derive(Clone, Copy)]
-struct Made {
+struct Unsettled {
     // The units of what stubs have put in.
     units: usize,
     // So many rows were gone then.
@@ -35,7 +35,7 @@ pub struct Store {
     retention: RetentionIndex,
     // What stubs kept that are gone.
     waste: Waste,
-    made: Made,
+    made: Unsettled,
 }
 
 impl Drop for Store {
@@ -75,7 +75,7 @@ impl Store {
             stubs: Slab::new(alloc),
             retention: RetentionIndex::new(alloc),
             waste: Waste::new(alloc),
-            made: Made {
+            made: Unsettled {
                 units: 0,
                 gone: 0,
                 waits: false,
@@ -206,7 +206,7 @@ impl Store {
     {
         let made = self.made;
         let waits = made.waits || self.gone != made.gone || !self.waste.is_empty();
-        self.made = Made {
+        self.made = Unsettled {
             units: 0,
             gone: self.gone,
             waits,

@@ -27,13 +27,13 @@ use Rattle.cql_plan.specs.Node.{with_type}
 use Rattle.cql_algebra.specs.Equalities.{equality_step, equalities}
 use Rattle.cql_algebra.specs.Examples.{one, two}
 use Rattle.cql_algebra.specs.GroupChanges.{IsKeyChange, IsKeyChangeLaw, IsOneGroupLaw, IsOfGroups, IsOfGroupsLaw, IsFewer, IsFewerLaw, AreEnds, AreEndsLaw, over_groups}
-use Rattle.cql_algebra.specs.Groups.{IsKeyLaw, IsGroup, IsGroupLaw, IsGroupedColumnLaw, HasRowForEachKey, IsKeysLaw, AreGroups, IsGroupsLaw}
+use Rattle.cql_algebra.specs.Groups.{IsKeyLaw, IsOnceKeyLaw, IsGroup, IsGroupLaw, IsGroupedColumnLaw, HasRowForEachKey, IsKeysLaw, AreGroups, IsGroupsLaw}
 use Rattle.cql_algebra.specs.Join.{joined}
 use Rattle.cql_algebra.specs.JoinChanges.{AreLinked, IsJoinedMore, IsJoinedMoreLaw, IsJoinedLess, IsJoinedLessLaw, IsLookUpLaw}
 use Rattle.cql_algebra.specs.JoinLaws.{IsJoinedLaw, IsJoinedTypesLaw}
 use Rattle.cql_algebra.specs.KeptGroups.{Group, Groups, port_in, rows_at, IsGroupOf, AreKept, AreTheGroups, AreTheGroupsLaw, IsKeptValue, IsKeptValueLaw, AreElseSame, IsPushLaw, IsCanPushLaw, IsSampleLaw}
 use Rattle.cql_algebra.specs.PlanLaws.{IsItemTypesLaw, IsGroupTypesLaw, IsNodeTypesLaw, IsChangeTypesLaw}
-use Rattle.cql_algebra.specs.Shape.{with_first, group_of, item_over, shape_value}
+use Rattle.cql_algebra.specs.Shape.{with_first, key_of, group_of, item_over, shape_value}
 use Rattle.cql_algebra.specs.ShapeLaws.{IsValued, IsExpressionLaw, IsPlain, IsPlainItemsLaw, IsOverflow, IsOverflowLaw}
 use Rattle.cql_algebra.specs.Sums.{once}
 use Rattle.cql_algebra.specs.Told.{Choice, IsHeldAt, told_by, IsNoneLaw, sifted, IsSiftLaw}
@@ -129,6 +129,13 @@ plain_items_law_at law = law (i.Value (Column 0) ∷ []) pairs pairs_are
 
 key_law_at : IsKeyLaw → AllZip (λ at v. slice_get (two 1 4) at ≡ Some v) (0 ∷ []) (one 1)
 key_law_at law = law pair (0 ∷ []) (two 1 4) refl has_columns
+
+-- the column that is said twice, and rows that agree in it
+twice : AllByRecursion (HasColumn pair) (0 ∷ 0 ∷ [])
+twice = ((type.Number, refl), ((type.Number, refl), tt))
+
+once_key_law_at : IsOnceKeyLaw → key_of (0 ∷ []) (two 1 4) ≡ key_of (0 ∷ []) (two 1 6)
+once_key_law_at law = (law pair (0 ∷ 0 ∷ []) (two 1 4) (two 1 6) refl refl twice).1 refl
 
 group_law_at : IsGroupLaw → IsGroup (0 ∷ []) pairs (one 1)
 group_law_at law = law (0 ∷ []) pairs (one 1) pairs_are

@@ -27,10 +27,11 @@ import argparse
 import json
 import os
 import select
+import signal
 import subprocess
 import sys
 import time
-from typing import BinaryIO, Dict, List, Optional, Sequence, Union
+from typing import BinaryIO, Dict, List, NoReturn, Optional, Sequence, Union
 
 
 def say(text: str) -> None:
@@ -120,6 +121,11 @@ def subscription(words: argparse.Namespace) -> List[str]:
     return ["mosquitto_sub", *where, *keeps, "-q", "1", "-t", words.topic, "-F", "%U %x %t"]
 
 
+def interrupt(*_: object) -> NoReturn:
+    """Ends as by Ctrl-C, so that mosquitto_sub ends too."""
+    raise KeyboardInterrupt
+
+
 def main(given: Optional[Sequence[str]] = None) -> int:
     parser = argparse.ArgumentParser(description="Writes messages of MQTT into a feeder's log.")
     parser.add_argument("--topic", required=True)
@@ -132,6 +138,7 @@ def main(given: Optional[Sequence[str]] = None) -> int:
     parser.add_argument("--ms", action="store_true", help="times are milliseconds")
     parser.add_argument("--beat", type=float, default=5.0, help="seconds of silence (5)")
     words = parser.parse_args(given)
+    signal.signal(signal.SIGTERM, interrupt)
     try:
         bridge = Bridge(words)
         with subprocess.Popen(subscription(words), stdout=subprocess.PIPE) as child:

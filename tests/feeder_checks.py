@@ -329,7 +329,10 @@ def feeder_is_started_anew(program):
             feed.feed(server.port)
             status = feed.children["feed"].wait(SECONDS)
             said = (feed.folder / "errors").read_text()
-    wanted = 1, "feed: it isn't known which lines came in; start the server anew, and feed it by --sc"
+    wanted = (
+        1,
+        "feed: it isn't known which lines came in; start the server anew, and feed it by --sc",
+    )
     yield "a feeder in doubt", difference((status, said[: len(wanted[1])]), wanted)
 
 
@@ -718,7 +721,8 @@ def bridge(program):
             "mosquitto_sub", "-p", str(port), "-t", "alerts", "-C", "1", stdout=subprocess.PIPE
         )
         words = "--topic", "home/+", "--stream", "r", "--log", str(log), "--beat", "0.2"
-        start(sys.executable, EXAMPLES / "bridge.py", *words, "--broker-port", str(port), **silent)
+        words = *words, "--broker-port", str(port)
+        bridged = start(sys.executable, EXAMPLES / "bridge.py", *words, **silent)
         with Server(program, TENANTS) as server:
             where = "--port", str(server.port), "--tenant", "a", "--offsets", str(offsets)
             files = "--setup", f"{folder}/setup", "--log", str(log), "--scale", "100"
@@ -743,12 +747,21 @@ def bridge(program):
                 subprocess.run([*send, message], check=True, timeout=SECONDS)
             alert = json.loads(lines_of(told.stdout, 1))
         yield "an alert by MQTT", difference(alert["rows"], [["home/hall", 21]])
+        # it ends what it has started
+        bridged.terminate()
+        yield "a bridge's end", difference(bridged.wait(SECONDS), 0)
 
 
 def installed(program):
     """What `make install` puts, which runs from there; the service file is a closed one."""
     with tempfile.TemporaryDirectory() as folder, Server(program, TENANTS) as server:
-        words = ["make", "install", f"SERVER={os.path.abspath(program)}", f"DESTDIR={folder}", "PREFIX=/opt/cql"]
+        words = [
+            "make",
+            "install",
+            f"SERVER={os.path.abspath(program)}",
+            f"DESTDIR={folder}",
+            "PREFIX=/opt/cql",
+        ]
         ran = subprocess.run(words, cwd=TOP, capture_output=True, timeout=SECONDS, check=False)
         yield "an installation", None if ran.returncode == 0 else ran.stderr.decode()
         bare = environment()
@@ -763,7 +776,9 @@ def installed(program):
         )
         yield "a terminal that is installed", difference(ran.stdout, b"> " + LIST + b"< " + EMPTY)
         completion = f"{folder}/opt/cql/share/bash-completion/completions/romburik"
-        asked = f"source {completion}; COMP_WORDS=(romburik --tok); COMP_CWORD=1; _romburik romburik"
+        asked = (
+            f"source {completion}; COMP_WORDS=(romburik --tok); COMP_CWORD=1; _romburik romburik"
+        )
         ran = subprocess.run(
             ["bash", "-c", asked + '; echo "${COMPREPLY[@]}"'],
             env={**bare, "PATH": f"{folder}/opt/cql/bin:{bare['PATH']}"},

@@ -2,3 +2,4 @@ pub mod Buffered
 pub mod Held
 pub mod Line
 pub mod Place
+pub mod Short

@@ -1,5 +1,5 @@
 //! Bytes that are yet to be written, of which there is room for so many and no more.
-ghost use Rattle.std.specs.Prelude.{◌||◌, is_err, OnOk, OnErr, ◌≡◌, ◌+◌, ◌<◌, ◌≤◌, ◌↔◌, ◌++◌, [], ◌∷◌, length, decimal, IfOk, IsTrue};
+ghost use Rattle.std.specs.Prelude.{◌||◌, is_err, OnOk, OnErr, ◌≡◌, ◌≢◌, ◌+◌, ◌<◌, ◌≤◌, ◌↔◌, ◌++◌, [], ◌∷◌, length, decimal, IfOk, IsTrue};
 ghost use Rattle.std.specs.Io.KnownBytes.{Appends};
 ghost use Rattle.cql_lines.specs.Watched.{inner_of, has_failed, Grows};
 ghost use Rattle.cql_reply.specs.Buffered.{Buffers};
@@ -110,6 +110,7 @@ impl Room {
         ensures ok { OnOk result (Appends (W.contents (inner_of writer.old)) (W.contents (inner_of writer.new)) self.old.bytes) }
         ensures emptied { OnOk result (self.new.bytes ≡ []) }
         ensures err { OnErr result (Grows (W.contents (inner_of writer.old)) (W.contents (inner_of writer.new)) self.old.bytes) }
+        ensures cause { OnErr result (self.old.bytes ≢ []) }
         ensures size { self.new.size ≡ self.old.size }
         ensures failed { has_failed writer.new ≡ (has_failed writer.old || is_err result) }
     {

@@ -7,8 +7,8 @@ use Rattle.cql_value.specs.declared.value.Value.TheVariants.{Number, Text}
 use Rattle.cql_algebra.specs.declared.told.Output.{Output}
 use Rattle.cql_algebra.specs.declared.told.Output.TheVariants.{Rows, Signed, Fault}
 use Rattle.cql_algebra.specs.declared.told.Block.{Block}
-use Rattle.cql_reply.specs.declared.list_place.Stage.{Stage}
-use Rattle.cql_reply.specs.declared.list_place.Stage.TheVariants.{Opening as ListOpening, First as FirstItem, Later as LaterItem, Inside, Shut}
+use Rattle.cql_reply.specs.declared.list_place.ListStage.{ListStage}
+use Rattle.cql_reply.specs.declared.list_place.ListStage.TheVariants.{Opening as ListOpening, First as FirstItem, Later as LaterItem, Inside, Shut}
 use Rattle.cql_reply.specs.declared.list_place.ListPlace.{ListPlace}
 use Rattle.cql_reply.specs.declared.value_place.ValuePlace.{ValuePlace}
 use Rattle.cql_reply.specs.declared.value_place.ValuePlace.TheVariants.{Opening, At, Told}
@@ -24,7 +24,7 @@ use Rattle.cql_reply.specs.Line.{items_text, list_text, value_text, row_text, ro
 -- ---- lists
 
 -- an item comes next, or the rest of one
-abbrev pub IsOpen : Stage → Type 0
+abbrev pub IsOpen : ListStage → Type 0
 IsOpen ListOpening = ⊥
 IsOpen FirstItem = ⊤
 IsOpen LaterItem = ⊤
@@ -32,7 +32,7 @@ IsOpen Inside = ⊤
 IsOpen Shut = ⊥
 
 -- what is to come of a list, by the items from the place's own on
-abbrev pub items_rest : {A P : Type 0} → (A → List ℕ) → (A → P → List ℕ) → Stage → P → List A → List ℕ
+abbrev pub items_rest : {A P : Type 0} → (A → List ℕ) → (A → P → List ℕ) → ListStage → P → List A → List ℕ
 items_rest text rest ListOpening inner items = list_text text items
 items_rest text rest FirstItem inner items = items_text text false items
 items_rest text rest LaterItem inner items = items_text text true items

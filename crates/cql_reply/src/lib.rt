@@ -3,12 +3,14 @@
 #![tactic(auto)]
 
 mod block_place;
+mod byte_room;
 mod line_place;
 mod list_place;
-mod part;
-mod room;
 mod row_place;
+mod text_place;
 mod value_place;
+mod weight;
 
+pub use byte_room::ByteRoom;
 pub use line_place::LinePlace;
-pub use room::Room;
+pub use weight::weight_of;

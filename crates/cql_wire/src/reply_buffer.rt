@@ -15,7 +15,7 @@ use arrayvec::ArrayVec;
 use cql_asked::LineFault;
 use cql_core::{Answer, Listing, Reply};
 use cql_lines::{Watched, WriteFault};
-use cql_reply::{LinePlace, Room};
+use cql_reply::{ByteRoom, LinePlace};
 use std::alloc::{AllocError, Global};
 use std::io::Write;
 use std::marker::Model;
@@ -32,7 +32,7 @@ type ShortLine = ArrayVec<u8, SHORT>;
 /// The bytes that were buffered and are not yet written, at most 65,536.
 #[derive(Drop)]
 pub struct ReplyBuffer {
-    room: Room,
+    room: ByteRoom,
 }
 
 impl Model for ReplyBuffer {
@@ -51,7 +51,7 @@ impl ReplyBuffer {
         ensures { IfOk result (λ buffer. buffer ≡ []) }
     {
         Ok(ReplyBuffer {
-            room: Room::new(alloc, ROOM)?,
+            room: ByteRoom::new(alloc, ROOM)?,
         })
     }
 

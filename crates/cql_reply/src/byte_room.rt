@@ -17,12 +17,12 @@ pub const PIECE: usize = 64;
 
 /// Bytes that are yet to be written: room for so many is taken once.
 #[derive(Drop)]
-pub struct Room {
+pub struct ByteRoom {
     bytes: Vec<u8>,
     size: usize,
 }
 
-impl Model for Room {
+impl Model for ByteRoom {
     ghost use Rattle.std.specs.Prelude.{◌≤◌, length, vec_capacity};
     ghost use Rattle.cql_reply.specs.Held.{Held};
 
@@ -33,12 +33,12 @@ impl Model for Room {
     ghost invariant = { λ r. (length r.bytes.items ≤ r.size) × (r.size ≤ vec_capacity r.bytes) };
 }
 
-impl Room {
-    /// Room for so many bytes.
+impl ByteRoom {
+    /// ByteRoom for so many bytes.
     pub fn new(alloc: Global, size: usize) -> Result<Self, AllocError>
         ensures { IfOk result (λ room. room ≡ record { bytes = []; size = size }) }
     {
-        Ok(Room {
+        Ok(ByteRoom {
             bytes: Vec::with_capacity(alloc, size)?,
             size,
         })

@@ -2,4 +2,3 @@ pub mod Buffered
 pub mod Held
 pub mod Line
 pub mod Place
-pub mod Short

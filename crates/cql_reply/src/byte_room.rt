@@ -1,5 +1,5 @@
 //! Bytes that are yet to be written, of which there is room for so many and no more.
-ghost use Rattle.std.specs.Prelude.{◌||◌, is_err, OnOk, OnErr, ◌≡◌, ◌≢◌, ◌+◌, ◌<◌, ◌≤◌, ◌↔◌, ◌++◌, [], ◌∷◌, length, decimal, IfOk, IsTrue};
+ghost use Rattle.std.specs.Prelude.{◌||◌, is_err, OnOk, OnErr, ◌≡◌, ◌≢◌, ◌+◌, ◌<◌, ◌≤◌, ◌↔◌, ◌++◌, [], ◌∷◌, length, take, decimal, IfOk, IsTrue};
 ghost use Rattle.std.specs.Io.KnownBytes.{Appends};
 ghost use Rattle.cql_lines.specs.Watched.{inner_of, has_failed, Grows};
 ghost use Rattle.cql_reply.specs.Buffered.{Buffers};
@@ -57,6 +57,15 @@ impl ByteRoom {
         ensures { self.new ≡ record { bytes = []; size = self.old.size } }
     {
         self.bytes.clear();
+    }
+
+    // Lets go what it holds behind so many bytes.
+    pub fn cut(&mut self, len: usize)
+        requires { len ≤ length self.old.bytes }
+        ensures bytes { self.new.bytes ≡ take len self.old.bytes }
+        ensures size { self.new.size ≡ self.old.size }
+    {
+        self.bytes.truncate(len);
     }
 
     // Whether there is room for any step.

@@ -23,6 +23,9 @@ use std::marker::Model;
 /// How many bytes are buffered at most.
 pub const ROOM: usize = 65_536;
 
+/// The line of a command that did what it asks for: mostly it is told this.
+const DONE: &[u8] = b"{\"ok\":true}\n";
+
 /// How many bytes a reply without blocks or a list may have.
 const SHORT: usize = 128;
 
@@ -151,7 +154,7 @@ impl ReplyBuffer {
         ensures failed { has_failed writer.new ≡ (has_failed writer.old || is_err result) }
     {
         match reply {
-            Reply::Ok => self.put_short(writer, ShortReply::Done),
+            Reply::Ok => self.put(writer, DONE),
             Reply::Base(base) => self.put_short(writer, ShortReply::Base(*base)),
             Reply::Blocks(answer) => self.room.put_blocks(writer, answer.blocks(), answer.next()),
             Reply::Listing(listing) => self.put_listing(alloc, writer, listing),

@@ -5,10 +5,10 @@ use Rattle.cql_wire.proofs.Buffering.{told_as, told_blocks}
 use Rattle.cql_wire.proofs.reply_buffer.ReplyBuffer.put_reply.Goals as goal
 
 pub returns-in-Ok-clause-buffers : goal.returns-in-Ok-clause-buffers
-returns-in-Ok-clause-buffers g c = told_as _ _ _ Done _ _ _ (ap reply_model c.in-Ok.is) refl c.put_short.ensures.buffers
+returns-in-Ok-clause-buffers g c = told_as _ _ _ Done _ _ _ (ap reply_model c.in-Ok.is) refl c.put.ensures.buffers
 
 pub returns-in-Base-clause-buffers : goal.returns-in-Base-clause-buffers
-returns-in-Base-clause-buffers g c = told_as _ _ _ (Based c.in-Base.base) _ _ _ (ap reply_model c.in-Base.is) refl c.put_short-in-Base.ensures.buffers
+returns-in-Base-clause-buffers g c = told_as _ _ _ (Based c.in-Base.base) _ _ _ (ap reply_model c.in-Base.is) refl c.put_short.ensures.buffers
 
 pub returns-in-Refused-clause-buffers : goal.returns-in-Refused-clause-buffers
 returns-in-Refused-clause-buffers g c = told_as _ _ _ (Refused c.in-Refused.refusal) _ _ _ (ap reply_model c.in-Refused.is) refl c.put_short-in-Refused.ensures.buffers

@@ -13,7 +13,7 @@ use std::io::Write;
 use std::marker::Model;
 
 /// The longest part of a line that isn't cut, and so the room that any step has.
-pub const PIECE: usize = 64;
+const PIECE: usize = 64;
 
 /// Bytes that are yet to be written: room for so many is taken once.
 #[derive(Drop)]
@@ -59,8 +59,8 @@ impl ByteRoom {
         self.bytes.clear();
     }
 
-    // Lets go what it holds behind so many bytes.
-    pub fn cut(&mut self, len: usize)
+    /// Lets go what it holds behind so many bytes.
+    pub(crate) fn cut(&mut self, len: usize)
         requires { len ≤ length self.old.bytes }
         ensures bytes { self.new.bytes ≡ take len self.old.bytes }
         ensures size { self.new.size ≡ self.old.size }
@@ -68,22 +68,22 @@ impl ByteRoom {
         self.bytes.truncate(len);
     }
 
-    // Whether there is room for any step.
-    pub fn has_room(&self) -> bool
+    /// Whether there is room for any step.
+    pub(crate) fn has_room(&self) -> bool
         ensures { IsTrue result ↔ (length self.now.bytes + 64 ≤ self.now.size) }
     {
         self.size - self.bytes.len() >= PIECE
     }
 
-    // How many more bytes there is room for.
+    /// How many more bytes there is room for.
     pub fn left(&self) -> usize
         ensures { result + length self.now.bytes ≡ self.now.size }
     {
         self.size - self.bytes.len()
     }
 
-    // Holds one byte more. Takes no memory.
-    pub fn push(&mut self, byte: u8)
+    /// Holds one byte more. Takes no memory.
+    pub(crate) fn push(&mut self, byte: u8)
         requires { length self.old.bytes < self.old.size }
         ensures bytes { self.new.bytes ≡ self.old.bytes ++ byte ∷ [] }
         ensures len { length self.new.bytes ≡ length self.old.bytes + 1 }
@@ -92,7 +92,7 @@ impl ByteRoom {
         let _ = self.bytes.push(byte);
     }
 
-    // Holds these bytes too. Takes no memory.
+    /// Holds these bytes too. Takes no memory.
     pub fn put(&mut self, bytes: &[u8])
         requires { length self.old.bytes + length bytes.now ≤ self.old.size }
         ensures bytes { self.new.bytes ≡ self.old.bytes ++ bytes.now }
@@ -102,8 +102,8 @@ impl ByteRoom {
         let _ = self.bytes.extend_from_slice(bytes);
     }
 
-    // Holds the digits of a number too. Takes no memory.
-    pub fn put_number(&mut self, number: u64)
+    /// Holds the digits of a number too. Takes no memory.
+    pub(crate) fn put_number(&mut self, number: u64)
         requires { length self.old.bytes + 20 ≤ self.old.size }
         ensures bytes { self.new.bytes ≡ self.old.bytes ++ decimal number }
         ensures len { length self.new.bytes ≤ length self.old.bytes + 20 }

@@ -2,10 +2,11 @@
 use Rattle.std.proofs.Common.{◌≡◌, ℕ, List, [], ◌∷◌, ◌++◌, Option, Result, Ok, Err, OnOk, OnErr, refl, sym, ap, subst, ◌∙◌, append_assoc, append-nil}
 use Rattle.std.specs.Io.KnownBytes.{Appends}
 use Rattle.std.proofs.KnownBytes.{Appends-nil, Appends-trans}
-use Rattle.cql_core.specs.ReplyModel.{ReplyModel}
 use Rattle.cql_lines.specs.declared.watched.WriteFault.{WriteFault}
+use Rattle.cql_algebra.specs.declared.told.Block.{Block}
+use Rattle.cql_core.specs.ReplyModel.{ReplyModel, Blocks}
 use Rattle.cql_wire.specs.Buffered.{Leaves, Buffers, BuffersReply}
-use Rattle.cql_wire.specs.Line.{AppendsReply, GrowsReply}
+use Rattle.cql_wire.specs.Line.{IsLineOf, told_line, blocks_line}
 use Rattle.cql_lines.specs.Watched.{Grows}
 use Rattle.cql_lines.proofs.Writing.{Grows-within}
 
@@ -30,15 +31,19 @@ buffers_more a b c written held bytes left (Err fault) before buffers =
     Grows-within a b c front (held ++ bytes) [] (written ++ bytes) first
     (ap (λ l. l ++ bytes) is ∙ append_assoc front held bytes ∙ ap (λ l. front ++ l) (sym (append-nil (held ++ bytes)))) buffers
 
--- what was buffered was written, and then the line of a reply was
-pub reply_behind : (a b c : Option (List ℕ)) (held : List ℕ) (told : ReplyModel) (left : List ℕ) (r : Result (Unit {0}) WriteFault) → Appends a b held → left ≡ []
-    → OnOk r (AppendsReply b c told) → OnErr r (GrowsReply b c told) → BuffersReply a c held told left r
-reply_behind a b c held told left (Ok u) before none ok err =
-    let (line, of, appends) = ok in
-    (line, of, buffers_behind a b c held line left (Ok u) before none appends tt)
-reply_behind a b c held told left (Err fault) before none ok err =
-    let (line, of, grows) = err in
-    (line, of, buffers_behind a b c held line left (Err fault) before none tt grows)
+-- ---- replies
+
+-- the line of what is told was buffered
+pub told_as : (a b : Option (List ℕ)) (held : List ℕ) (told model : ReplyModel) (left : List ℕ) (r : Result (Unit {0}) WriteFault) → model ≡ told → IsLineOf told (told_line told) → Buffers a b (held ++ told_line told) left r
+    → BuffersReply a b held model left r
+told_as a b held told model left r is of buffers = subst (λ m. BuffersReply a b held m left r) (sym is) (told_line told, of, buffers)
+
+-- the line of blocks was
+pub told_blocks : (a b : Option (List ℕ)) (held inside : List ℕ) (blocks shown : List Block) (next end : ℕ) (model : ReplyModel) (left : List ℕ) (r : Result (Unit {0}) WriteFault) → held ≡ inside → shown ≡ blocks → end ≡ next → model ≡ Blocks blocks next
+    → Buffers a b (inside ++ blocks_line shown end) left r → BuffersReply a b held model left r
+told_blocks a b held inside blocks shown next end model left r same is ends tells buffers =
+    told_as a b held (Blocks blocks next) model left r tells refl
+    (subst (λ n. Buffers a b (held ++ blocks_line blocks n) left r) ends (subst (λ l. Buffers a b (held ++ blocks_line l end) left r) is (subst (λ h. Buffers a b (h ++ blocks_line shown end) left r) (sym same) buffers)))
 
 -- ---- what is left
 

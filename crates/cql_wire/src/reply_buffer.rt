@@ -1,22 +1,30 @@
 //! Replies that are buffered and then written together.
-ghost use Rattle.std.specs.Prelude.{◌≡◌, ◌≢◌, ◌≤◌, ◌++◌, ◌||◌, [], length, is_err, IfOk, OnOk, OnErr};
+ghost use Rattle.std.specs.Prelude.{◌≡◌, ◌≢◌, ◌+◌, ◌<◌, ◌≤◌, ◌++◌, ◌||◌, [], true, false, length, is_err, IfOk, OnOk, OnErr};
 ghost use Rattle.std.specs.Io.KnownBytes.{Appends};
 ghost use Rattle.cql_core.specs.Steps.{reply_model};
+ghost use Rattle.cql_core.specs.ReplyModel.{Listed};
+ghost use Rattle.cql_reply.specs.Place.{line_rest};
 ghost use Rattle.cql_wire.specs.Buffered.{Buffers, BuffersReply};
 ghost use Rattle.cql_wire.specs.Line.{fault_line};
+ghost use Rattle.cql_wire.specs.Short.{short_line};
 ghost use Rattle.cql_lines.specs.Watched.{inner_of, has_failed, Grows};
 
-use crate::reply::{long_line, write_fault, write_reply};
+use crate::reply::listing::listing_line;
+use crate::reply::{ShortReply, write_short};
 use arrayvec::ArrayVec;
 use cql_asked::LineFault;
-use cql_core::Reply;
+use cql_core::{Answer, Listing, Reply};
 use cql_lines::{Watched, WriteFault};
+use cql_reply::{ByteRoom, LinePlace};
 use std::alloc::{AllocError, Global};
 use std::io::Write;
 use std::marker::Model;
 
 /// How many bytes are buffered at most.
 pub const ROOM: usize = 65_536;
+
+/// The line of a command that did what it asks for: mostly it is told this.
+const DONE: &[u8] = b"{\"ok\":true}\n";
 
 /// How many bytes a reply without blocks or a list may have.
 const SHORT: usize = 128;
@@ -27,17 +35,17 @@ type ShortLine = ArrayVec<u8, SHORT>;
 /// The bytes that were buffered and are not yet written, at most 65,536.
 #[derive(Drop)]
 pub struct ReplyBuffer {
-    bytes: Vec<u8>,
+    room: ByteRoom,
 }
 
 impl Model for ReplyBuffer {
-    ghost use Rattle.std.specs.Prelude.{List, ℕ, ◌≤◌, length, vec_capacity};
+    ghost use Rattle.std.specs.Prelude.{List, ℕ, ◌≡◌};
 
     ghost Value = { List ℕ };
 
-    ghost view = { λ g. g.bytes.items };
+    ghost view = { λ g. g.room.bytes };
 
-    ghost invariant = { λ g. (length g.bytes.items ≤ 65536) × (65536 ≤ vec_capacity g.bytes) };
+    ghost invariant = { λ g. g.room.size ≡ 65536 };
 }
 
 impl ReplyBuffer {
@@ -46,7 +54,7 @@ impl ReplyBuffer {
         ensures { IfOk result (λ buffer. buffer ≡ []) }
     {
         Ok(ReplyBuffer {
-            bytes: Vec::with_capacity(alloc, ROOM)?,
+            room: ByteRoom::new(alloc, ROOM)?,
         })
     }
 
@@ -59,19 +67,14 @@ impl ReplyBuffer {
         ensures cause { OnErr result (self.old ≢ []) }
         ensures failed { has_failed writer.new ≡ (has_failed writer.old || is_err result) }
     {
-        if self.bytes.is_empty() {
-            return Ok(());
-        }
-        writer.write_all(self.bytes.as_slice())?;
-        self.bytes.clear();
-        Ok(())
+        self.room.flush(writer)
     }
 
     /// Lets go what is buffered.
     pub fn clear(&mut self)
         ensures { self.new ≡ [] }
     {
-        self.bytes.clear();
+        self.room.clear();
     }
 
     /// Buffers bytes, without memory. Where they don't fit, what is buffered is written, and then
@@ -81,12 +84,32 @@ impl ReplyBuffer {
         ensures fits { length (self.old ++ bytes.now) ≤ 65536 → (writer.new ≡ writer.old) × (self.new ≡ self.old ++ bytes.now) }
         ensures failed { has_failed writer.new ≡ (has_failed writer.old || is_err result) }
     {
-        if bytes.len() > ROOM - self.bytes.len() {
+        if bytes.len() > self.room.left() {
             self.flush(writer)?;
             return writer.write_all(bytes);
         }
-        let _ = self.bytes.extend_from_slice(bytes);
+        self.room.put(bytes);
         Ok(())
+    }
+
+    // Buffers a short line.
+    fn put_short<W: Write>(
+        &mut self,
+        writer: &mut Watched<W>,
+        reply: ShortReply,
+    ) -> Result<(), WriteFault>
+        ensures buffers { Buffers (W.contents (inner_of writer.old)) (W.contents (inner_of writer.new)) (self.old ++ short_line reply) self.new result }
+        ensures failed { has_failed writer.new ≡ (has_failed writer.old || is_err result) }
+    {
+        let mut line = Watched::new(ShortLine::new());
+        match write_short(&mut line, reply) {
+            Ok(()) => self.put(writer, line.into_inner().as_slice()),
+            // doesn't come, since no such line is longer than `SHORT`; but no clause says so
+            Err(_) => {
+                self.flush(writer)?;
+                write_short(writer, reply)
+            }
+        }
     }
 
     /// Buffers the refusal of a line that is no command. Takes no memory.
@@ -98,40 +121,29 @@ impl ReplyBuffer {
         ensures buffers { Buffers (W.contents (inner_of writer.old)) (W.contents (inner_of writer.new)) (self.old ++ fault_line fault.now) self.new result }
         ensures failed { has_failed writer.new ≡ (has_failed writer.old || is_err result) }
     {
-        let mut line = Watched::new(ShortLine::new());
-        match write_fault(&mut line, fault) {
-            Ok(()) => self.put(writer, line.into_inner().as_slice()),
-            // doesn't come, since no such line is longer than `SHORT`; but no clause says so
-            Err(_) => {
-                self.flush(writer)?;
-                write_fault(writer, fault)
-            }
-        }
+        self.put_short(writer, ShortReply::Fault(*fault))
     }
 
-    // Buffers the line of a reply, which is short unless it tells blocks or a list.
-    fn put_short<W: Write>(
+    // Buffers the line of a list, which takes memory; where there is none for it, the line of
+    // `NoMemory` (70) in its place.
+    fn put_listing<W: Write>(
         &mut self,
         alloc: Global,
         writer: &mut Watched<W>,
-        reply: &Reply,
+        listing: &Listing,
     ) -> Result<(), WriteFault>
-        ensures buffers { BuffersReply (W.contents (inner_of writer.old)) (W.contents (inner_of writer.new)) self.old (reply_model reply.now) self.new result }
+        ensures buffers { BuffersReply (W.contents (inner_of writer.old)) (W.contents (inner_of writer.new)) self.old (Listed listing.now) self.new result }
         ensures failed { has_failed writer.new ≡ (has_failed writer.old || is_err result) }
     {
-        let mut line = Watched::new(ShortLine::new());
-        match write_reply(alloc, &mut line, reply) {
-            Ok(()) => self.put(writer, line.into_inner().as_slice()),
-            // as for a fault
-            Err(_) => {
-                self.flush(writer)?;
-                write_reply(alloc, writer, reply)
-            }
+        match listing_line(alloc, listing) {
+            Ok(line) => self.put(writer, line.as_bytes()),
+            Err(_) => self.put_fault(writer, &LineFault::NoMemory),
         }
     }
 
-    /// Buffers the line of a reply. Only those of blocks and of a list take memory; where there is
-    /// none for it, the line of `NoMemory` (70) is buffered in its place.
+    /// Buffers the line of a reply. That of blocks goes through the buffer as it is written, and is
+    /// nowhere whole. Only that of a list takes memory; where there is none for it, the line of
+    /// `NoMemory` (70) is buffered in its place.
     pub fn put_reply<W: Write>(
         &mut self,
         alloc: Global,
@@ -141,10 +153,24 @@ impl ReplyBuffer {
         ensures buffers { BuffersReply (W.contents (inner_of writer.old)) (W.contents (inner_of writer.new)) self.old (reply_model reply.now) self.new result }
         ensures failed { has_failed writer.new ≡ (has_failed writer.old || is_err result) }
     {
-        match long_line(alloc, reply) {
-            Some(Ok(line)) => self.put(writer, line.as_bytes()),
-            Some(Err(_)) => self.put_fault(writer, &LineFault::NoMemory),
-            None => self.put_short(alloc, writer, reply),
+        match reply {
+            Reply::Ok => self.put(writer, DONE),
+            Reply::Base(base) => self.put_short(writer, ShortReply::Base(*base)),
+            Reply::Blocks(answer) => self.room.put_blocks(writer, answer.blocks(), answer.next()),
+            Reply::Listing(listing) => self.put_listing(alloc, writer, listing),
+            Reply::Refused(refusal) => self.put_short(writer, ShortReply::Refused(*refusal)),
         }
+    }
+
+    /// Moves what is to come of an answer's line behind what is buffered, as far as there is room;
+    /// whether all of it has come. Takes no memory. Unless all has, less than 64 bytes of room are
+    /// left.
+    pub fn fill(&mut self, answer: &Answer, place: &mut LinePlace) -> bool
+        ensures told { self.new ++ line_rest answer.now.blocks answer.now.pin.next place.new ≡ self.old ++ line_rest answer.now.blocks answer.now.pin.next place.old }
+        ensures grows { length self.old ≤ length self.new }
+        ensures done { result ≡ true → line_rest answer.now.blocks answer.now.pin.next place.new ≡ [] }
+        ensures full { result ≡ false → 65536 < length self.new + 64 }
+    {
+        place.fill(answer.blocks(), answer.next(), &mut self.room)
     }
 }

@@ -1,9 +1,19 @@
-use Rattle.std.proofs.Common.{subst}
-use Rattle.std.specs.Prelude.{IfSome}
-use Rattle.cql_asked.specs.declared.fault.LineFault.TheVariants.{NoMemory}
+use Rattle.std.proofs.Common.{refl, sym, ap}
+use Rattle.cql_core.specs.ReplyModel.{Done, Based, Refused}
 use Rattle.cql_core.specs.Steps.{reply_model}
-use Rattle.cql_wire.specs.Line.{fault_line, IsLineOf}
+use Rattle.cql_wire.proofs.Buffering.{told_as, told_blocks}
 use Rattle.cql_wire.proofs.reply_buffer.ReplyBuffer.put_reply.Goals as goal
 
-pub returns-in-Some-Err-clause-buffers : goal.returns-in-Some-Err-clause-buffers
-returns-in-Some-Err-clause-buffers g c = (fault_line NoMemory, subst (λ o. IfSome o (λ _. IsLineOf (reply_model c.args.reply.now) (fault_line NoMemory))) c.in-Some-Err.is c.long_line.ensures.without, c.put_fault.ensures.buffers)
+pub returns-in-Ok-clause-buffers : goal.returns-in-Ok-clause-buffers
+returns-in-Ok-clause-buffers g c = told_as _ _ _ Done _ _ _ (ap reply_model c.in-Ok.is) refl c.put.ensures.buffers
+
+pub returns-in-Base-clause-buffers : goal.returns-in-Base-clause-buffers
+returns-in-Base-clause-buffers g c = told_as _ _ _ (Based c.in-Base.base) _ _ _ (ap reply_model c.in-Base.is) refl c.put_short.ensures.buffers
+
+pub returns-in-Refused-clause-buffers : goal.returns-in-Refused-clause-buffers
+returns-in-Refused-clause-buffers g c = told_as _ _ _ (Refused c.in-Refused.refusal) _ _ _ (ap reply_model c.in-Refused.is) refl c.put_short-in-Refused.ensures.buffers
+
+pub returns-in-Blocks-clause-buffers : goal.returns-in-Blocks-clause-buffers
+returns-in-Blocks-clause-buffers g c =
+    told_blocks _ _ _ c.self.inside.room.bytes c.in-Blocks.answer.blocks c.blocks-in-Blocks.result.now c.in-Blocks.answer.pin.next c.next.result _ _ _ (sym c.self.view_is) c.blocks-in-Blocks.ensures.value c.next.ensures (ap reply_model c.in-Blocks.is)
+    c.put_blocks.ensures.buffers

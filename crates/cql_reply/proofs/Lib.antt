@@ -1,0 +1,4 @@
+mod Buffering
+mod Escaping
+mod Plain
+mod Telling

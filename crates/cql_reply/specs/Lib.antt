@@ -1,0 +1,4 @@
+pub mod Buffered
+pub mod Held
+pub mod Line
+pub mod Place

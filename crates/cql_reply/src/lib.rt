@@ -1,0 +1,16 @@
+//! The line of an answer, written as there is room for it: what is kept of it is the answer and a
+//! place in its line, and no text of the line.
+#![tactic(auto)]
+
+mod block_place;
+mod byte_room;
+mod line_place;
+mod list_place;
+mod row_place;
+mod text_place;
+mod value_place;
+mod weight;
+
+pub use byte_room::ByteRoom;
+pub use line_place::LinePlace;
+pub use weight::weight_of;

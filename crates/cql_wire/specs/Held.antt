@@ -1,0 +1,32 @@
+-- What is to come of a reply that is held.
+use Rattle.std.specs.Prelude.{ℕ, List, [], Option, Some, None}
+use Rattle.cql_core.specs.declared.reply.Reply.{Reply}
+use Rattle.cql_core.specs.declared.reply.Reply.TheVariants as reply
+use Rattle.cql_reply.specs.declared.line_place.LinePlace.{LinePlace}
+use Rattle.cql_reply.specs.Place.{line_rest}
+use Rattle.cql_wire.specs.Line.{blocks_line}
+
+-- the line of an answer; of other replies none is held
+abbrev pub answer_line : Reply → List ℕ
+answer_line reply.Ok = []
+answer_line (reply.Base base) = []
+answer_line (reply.Blocks answer) = blocks_line answer.blocks answer.pin.next
+answer_line (reply.Listing listing) = []
+answer_line (reply.Refused refusal) = []
+
+-- what is to come of it from a place on
+abbrev pub reply_rest : Reply → LinePlace → List ℕ
+reply_rest reply.Ok place = []
+reply_rest (reply.Base base) place = []
+reply_rest (reply.Blocks answer) place = line_rest answer.blocks answer.pin.next place
+reply_rest (reply.Listing listing) place = []
+reply_rest (reply.Refused refusal) place = []
+
+-- a reply of its own, or else the one that is lent
+abbrev pub reply_in_hand : Option Reply → Option Reply → Option Reply
+reply_in_hand None lent = lent
+reply_in_hand (Some own) lent = Some own
+
+abbrev pub rest_in_hand : Option Reply → LinePlace → List ℕ
+rest_in_hand None place = []
+rest_in_hand (Some reply) place = reply_rest reply place

@@ -1,0 +1,96 @@
+//! A reply whose line its caller takes bit by bit.
+ghost use Rattle.std.specs.Prelude.{◌≡◌, ◌+◌, ◌<◌, ◌++◌, [], true, false, length, option_copied};
+ghost use Rattle.cql_core.specs.declared.reply.Reply.{Reply as reply_type};
+ghost use Rattle.cql_wire.specs.Held.{answer_line, reply_rest, reply_in_hand, rest_in_hand};
+
+use crate::reply_buffer::ReplyBuffer;
+use cql_core::Reply;
+use cql_reply::{LinePlace, weight_of};
+
+/// The reply to a fetch whose line is told as its caller takes it, and how far it is told. No text of the
+/// line is held. The reply is its own, or somebody else's, who lends it at each call.
+pub struct HeldReply {
+    reply: Option<Reply>,
+    place: LinePlace,
+    // what it weighs, in bytes, once that was asked
+    weight: usize,
+}
+
+impl Drop for HeldReply {
+    fn drop(self) {
+        let HeldReply {
+            reply: _,
+            place: _,
+            weight: _,
+        } = self;
+    }
+}
+
+impl HeldReply {
+    /// One of which nothing is told yet: its own, or a lent one.
+    pub fn new(reply: Option<Reply>) -> HeldReply
+        ensures reply { result.reply ≡ reply }
+        ensures begins { (known : reply_type) → reply_rest known result.place ≡ answer_line known }
+    {
+        HeldReply {
+            reply,
+            place: LinePlace::start(),
+            weight: 0,
+        }
+    }
+
+    /// Moves what is to come of the line behind what is buffered, as far as there is room; whether all of
+    /// it has come. Unless all has, less than 64 bytes of room are left. A reply that is no answer has no
+    /// line here. Takes no memory.
+    pub fn fill(&mut self, lent: Option<&Reply>, buffer: &mut ReplyBuffer) -> bool
+        ensures told { buffer.new ++ rest_in_hand (reply_in_hand self.new.reply (option_copied lent.entry)) self.new.place ≡ buffer.old ++ rest_in_hand (reply_in_hand self.old.reply (option_copied lent.entry)) self.old.place }
+        ensures done { result ≡ true → rest_in_hand (reply_in_hand self.new.reply (option_copied lent.entry)) self.new.place ≡ [] }
+        ensures full { result ≡ false → 65536 < length buffer.new + 64 }
+    {
+        match &self.reply {
+            Some(own) => fill_reply(own, &mut self.place, buffer),
+            None => match lent {
+                Some(lent) => fill_reply(lent, &mut self.place, buffer),
+                None => true,
+            },
+        }
+    }
+
+    /// Asks what it weighs, where that wasn't asked before.
+    pub fn weigh(&mut self, lent: Option<&Reply>)
+        ensures same { (self.new.reply ≡ self.old.reply) × (self.new.place ≡ self.old.place) }
+    {
+        if self.weight > 0 {
+            return;
+        }
+        let weight = match &self.reply {
+            Some(own) => weight_of_reply(own),
+            None => lent.map_or(0, weight_of_reply),
+        };
+        self.weight = weight;
+    }
+
+    /// What it weighs, in bytes; 0 where that wasn't asked for.
+    pub fn weight(&self) -> usize {
+        self.weight
+    }
+}
+
+// Moves what is to come of an answer's line behind what is buffered.
+fn fill_reply(reply: &Reply, place: &mut LinePlace, buffer: &mut ReplyBuffer) -> bool
+    ensures told { buffer.new ++ reply_rest reply.now place.new ≡ buffer.old ++ reply_rest reply.now place.old }
+    ensures done { result ≡ true → reply_rest reply.now place.new ≡ [] }
+    ensures full { result ≡ false → 65536 < length buffer.new + 64 }
+{
+    match reply {
+        Reply::Blocks(answer) => buffer.fill(answer, place),
+        _ => true,
+    }
+}
+
+fn weight_of_reply(reply: &Reply) -> usize {
+    match reply {
+        Reply::Blocks(answer) => weight_of(answer.blocks()),
+        _ => 0,
+    }
+}

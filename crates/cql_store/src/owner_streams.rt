@@ -104,14 +104,13 @@ impl OwnerStreams {
         self.stores[stream].detach(id);
     }
 
-    /// The units of what the stubs on a stream put in since that was asked last; and whether the
-    /// stream's store has something to let go of from now on.
-    pub(crate) fn take_made(&mut self, stream: usize) -> (usize, bool)
+    /// Whether the store of a stream has something to let go of from now on.
+    pub(crate) fn begins_to_wait(&mut self, stream: usize) -> bool
         ensures { self.new ≡ self.old }
     {
         match self.stores.get_mut(stream) {
-            Some(store) => store.take_made(),
-            None => (0, false),
+            Some(store) => store.begins_to_wait(),
+            None => false,
         }
     }
 

@@ -17,3 +17,10 @@ impl Model for Ready {
 
     ghost view = { λ r. record { id = r.id; to = r.to; kept = r.kept } };
 }
+
+impl Ready {
+    /// The units of what was made for it.
+    pub(crate) fn made(&self) -> usize {
+        self.kept.made()
+    }
+}

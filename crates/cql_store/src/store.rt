@@ -14,17 +14,6 @@ use slab::Slab;
 use std::alloc::{AllocError, Global};
 use std::marker::Model;
 
-// What came and went since that was asked last.
-#[derive(Clone, Copy)]
-struct Unsettled {
-    // The units of what stubs have put in.
-    units: usize,
-    // So many rows were gone then.
-    gone: usize,
-    // Whether the store waits since to let go of something.
-    waits: bool,
-}
-
 /// The rows of a stream that some stub on it still needs, and the stubs.
 pub struct Store {
     alloc: Global,
@@ -35,7 +24,9 @@ pub struct Store {
     retention: RetentionIndex,
     // What stubs kept that are gone.
     waste: Waste,
-    made: Unsettled,
+    // So many rows were gone when it was asked last, and whether it waits since to let go of something.
+    noted: usize,
+    waits: bool,
 }
 
 impl Drop for Store {
@@ -47,7 +38,8 @@ impl Drop for Store {
             stubs: _,
             retention: _,
             waste: _,
-            made: _,
+            noted: _,
+            waits: _,
         } = self;
     }
 }
@@ -75,11 +67,8 @@ impl Store {
             stubs: Slab::new(alloc),
             retention: RetentionIndex::new(alloc),
             waste: Waste::new(alloc),
-            made: Unsettled {
-                units: 0,
-                gone: 0,
-                waits: false,
-            },
+            noted: 0,
+            waits: false,
         }
     }
 
@@ -180,7 +169,6 @@ impl Store {
         requires { IsSomeAnd (stub_of self.old ready.id) (IsReady ready.to ready.kept) }
         ensures { IfSome (stub_of self.old ready.id) (λ h. Updates self.old self.new ready.id (Some (advanced ready.to h))) }
     {
-        self.made.units = self.made.units.saturating_add(ready.kept.made());
         move_one(
             &mut self.stubs,
             &mut self.retention,
@@ -199,26 +187,22 @@ impl Store {
         self.waste.settle(budget);
     }
 
-    /// The units of what its stubs put in since it was asked last; and whether it has something to let
-    /// go of from now on, for which it didn't wait.
-    pub(crate) fn take_made(&mut self) -> (usize, bool)
+    /// Whether it has something to let go of from now on, for which it didn't wait.
+    pub(crate) fn begins_to_wait(&mut self) -> bool
         ensures { self.new ≡ self.old }
     {
-        let made = self.made;
-        let waits = made.waits || self.gone != made.gone || !self.waste.is_empty();
-        self.made = Unsettled {
-            units: 0,
-            gone: self.gone,
-            waits,
-        };
-        (made.units, waits && !made.waits)
+        let waits = self.waits || self.gone != self.noted || !self.waste.is_empty();
+        let begins = waits && !self.waits;
+        self.noted = self.gone;
+        self.waits = waits;
+        begins
     }
 
     /// It waits no more: it has let go of all that it needs not.
     pub(crate) fn end_wait(&mut self)
         ensures { self.new ≡ self.old }
     {
-        self.made.waits = false;
+        self.waits = false;
     }
 
     /// How many rows the store holds: as many as the stub that needs the most.

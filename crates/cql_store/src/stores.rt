@@ -180,6 +180,7 @@ impl Stores {
         requires ready { IsSomeAnd (held_at self.old stub_ref) (IsReady ready.to ready.kept) }
         ensures { IfSome (held_at self.old stub_ref) (λ h. Moves self.old self.new stub_ref (Some (advanced ready.to h))) }
     {
+        self.made = self.made.saturating_add(ready.made());
         self.owners[stub_ref.owner.index()].advance(stub_ref.stream, ready);
         self.note(stub_ref.owner, stub_ref.stream);
     }
@@ -202,7 +203,7 @@ impl Stores {
         self.owners[owner.index()].store(stream).rows_held()
     }
 
-    // Notes what a call on a stream made, and whether the stream's store has something to let go of.
+    // Notes whether the store of a stream has something to let go of.
     // Takes no memory: there is room for each stream.
     fn note(&mut self, owner: TenantId, stream: usize)
         ensures { self.new ≡ self.old }
@@ -211,9 +212,7 @@ impl Stores {
         let Some(streams) = self.owners.get_mut(owner) else {
             return;
         };
-        let (made, begins) = streams.take_made(stream);
-        self.made = self.made.saturating_add(made);
-        if begins {
+        if streams.begins_to_wait(stream) {
             drop(self.waiting.push(StreamAt { owner, stream }));
         }
     }

@@ -15,7 +15,7 @@
 // - `detach`: a stub goes, and another comes; the stubs go in turn.
 //
 // Without these words it is 1 stub and 1000 rows.
-ghost use Rattle.std.specs.Prelude.{[], ◌∷◌, IfOk};
+ghost use Rattle.std.specs.Prelude.{◌≡◌, [], ◌∷◌, IfOk};
 ghost use Rattle.cql_value.specs.Schema.{HasTypes};
 ghost use Rattle.cql_store.specs.Next.{FitsWindow};
 ghost use Rattle.cql_value.specs.declared.schema.ColumnType.TheVariants.{Number};
@@ -86,6 +86,14 @@ impl Fed {
         Ok(id)
     }
 
+    // Lets go of some of what no stub needs any more.
+    fn settle(&mut self)
+        ensures { self.new ≡ self.old }
+    {
+        let mut budget = Budget { units: UNITS };
+        self.store.settle(&mut budget);
+    }
+
     // One more row, unless it is too early or too late.
     fn put(&mut self, row: Timed) -> Result<(), AllocError>
         requires { HasTypes (Number ∷ []) row.row }
@@ -94,8 +102,8 @@ impl Fed {
         let at = row.at();
         if self.opened <= at && at <= GREATEST {
             self.store.append(row)?;
-            self.store.settle(&mut Budget { units: UNITS });
             self.opened = at;
+            self.settle();
         }
         Ok(())
     }
@@ -105,7 +113,7 @@ impl Fed {
         next_law();
         if self.store.may_advance(id, self.opened) {
             self.store.detach(id);
-            self.store.settle(&mut Budget { units: UNITS });
+            self.settle();
         }
     }
 
@@ -134,8 +142,8 @@ impl Fed {
         if self.store.may_advance(id, to) {
             let ready = self.store.ready(id, to)?;
             self.store.advance(ready);
-            self.store.settle(&mut Budget { units: UNITS });
             self.opened = self.opened.max(to);
+            self.settle();
         }
         Ok(())
     }

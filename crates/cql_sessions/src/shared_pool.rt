@@ -14,8 +14,8 @@ use std::time::{Clock, Duration, Instant};
 // For so many seconds a bench stands unused before what it stands for is let go of.
 const UNUSED: u64 = 40;
 
-// How often answers are looked at that may take only so long: so many times a second.
-const LOOKS: u64 = 4;
+// How often answers are looked at that are to be given up: so many times a second.
+const LOOKS: u64 = 10;
 
 /// A pool that threads share.
 pub struct SharedPool<O: Operator> {
@@ -49,7 +49,7 @@ impl<O: Operator> SharedPool<O> {
         requires { All (IsBench O.model_of) benches.items }
     {
         let count = benches.len();
-        let benches = with_flags(alloc, benches, &answers)?;
+        let benches = with_flags(alloc, benches)?;
         let pool = Pool::new(alloc, benches)?;
         let Ok(begun) = Instant::now(rt) else {
             return Err(AllocError);
@@ -61,6 +61,11 @@ impl<O: Operator> SharedPool<O> {
             begun,
             answers,
         })
+    }
+
+    /// What the threads compute.
+    pub fn answers(&self) -> &Answers {
+        &self.answers
     }
 
     // The seconds since it was made; 0 where the clock can't be read.
@@ -97,15 +102,10 @@ impl<O: Operator> SharedPool<O> {
         }
     }
 
-    /// Waits for a second, and gives up late answers meanwhile. Whether the sender is still there.
+    /// Waits for a second, and gives up answers meanwhile that are late or whose callers have gone. Whether the sender is still there.
     pub fn second<R: Wait + Clock>(&self, rt: &R, stopped: &Receiver<()>) -> bool {
-        let (looks, pause) = if self.answers.are_limited() {
-            (LOOKS, 1000 / LOOKS)
-        } else {
-            (1, 1000)
-        };
-        for _ in 0..looks {
-            match stopped.recv_timeout(rt, Duration::from_millis(pause)) {
+        for _ in 0..LOOKS {
+            match stopped.recv_timeout(rt, Duration::from_millis(1000 / LOOKS)) {
                 Err(RecvTimeoutError::Timeout) => self.answers.give_up_late(rt),
                 _ => return false,
             }
@@ -114,36 +114,29 @@ impl<O: Operator> SharedPool<O> {
     }
 }
 
-// Where answers may take only so long, each bench heeds a flag of its own from now on.
+// Each bench heeds a flag of its own from now on.
 fn with_flags<O: Operator>(
     alloc: Global,
     benches: Vec<BenchOf<O>>,
-    answers: &Answers,
 ) -> Result<Vec<BenchOf<O>>, AllocError>
     requires { All (IsBench O.model_of) benches.items }
     ensures { IfOk result (λ v. All (IsBench O.model_of) v.items) }
 {
     let mut all = Vec::with_capacity(alloc, benches.len())?;
     for bench in benches {
-        let one = with_flag(alloc, bench, answers)?;
+        let one = with_flag(alloc, bench)?;
         all.push(one)?;
     }
     Ok(all)
 }
 
-// The bench, which heeds a flag of its own where answers may take only so long.
-fn with_flag<O: Operator>(
-    alloc: Global,
-    bench: BenchOf<O>,
-    answers: &Answers,
-) -> Result<BenchOf<O>, AllocError>
+// The bench, which heeds a flag of its own from now on.
+fn with_flag<O: Operator>(alloc: Global, bench: BenchOf<O>) -> Result<BenchOf<O>, AllocError>
     requires { IsBench O.model_of bench }
     ensures { IfOk result (IsBench O.model_of) }
 {
     let mut bench = bench;
-    if answers.are_limited() {
-        bench.heed(Cancellation::new(alloc)?)?;
-    }
+    bench.heed(Cancellation::new(alloc)?)?;
     Ok(bench)
 }
 
@@ -207,7 +200,7 @@ where
     requires { IsBench O.model_of own }
     ensures { IfOk result (λ p. IsBench O.model_of p.cold) }
 {
-    let bench = with_flag(alloc, own, &shared.answers)?;
+    let bench = with_flag(alloc, own)?;
     let own = bench.cancellation().share()?;
     Ok(Pooled::new(
         bench,

@@ -212,7 +212,9 @@ where
             requires own { All (IsBench O.model_of) benches.own.items }
             requires shared { All (IsBench O.model_of) benches.shared.items }
         {
-            start_writer(scope, rt, log, config.log > 0)?;
+            if config.log > 0 {
+                start_writer(scope, rt, log)?;
+            }
             let served = serve(
                 rt,
                 alloc,
@@ -231,17 +233,12 @@ where
     )
 }
 
-// Starts the thread that writes the log until it is closed, if the log is told anything; or it can't be
-// made.
+// Starts the thread that writes the log until it is closed; or it can't be made.
 fn start_writer<'s, T, R: Wait + Clock + Eprint + Sync + 's>(
     scope: &Scope<'s, T>,
     rt: &'s R,
     log: &'s LogLines,
-    is_told: bool,
 ) -> Result<(), Failure> {
-    if !is_told {
-        return Ok(());
-    }
     let started = Builder::new().spawn_scoped(scope, move || log.write_on(rt));
     match started {
         Ok(_handle) => Ok(()),

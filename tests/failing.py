@@ -7,11 +7,12 @@ import subprocess
 import tempfile
 
 # Each fails at every so manyth call, where the word of its name says how many that is. Of epoll_ctl those
-# count that add a file. A recv that finds nothing takes so many microseconds.
+# count that add a file. A recv that finds nothing takes so many microseconds. Each send adds a byte to a file.
 SOURCE = r"""
 #define _GNU_SOURCE
 #include <dlfcn.h>
 #include <errno.h>
+#include <fcntl.h>
 #include <stdatomic.h>
 #include <stdlib.h>
 #include <sys/epoll.h>
@@ -21,6 +22,7 @@ SOURCE = r"""
 static long send_fails_at;
 static long add_fails_at;
 static long moment;
+static int told = -1;
 static atomic_long sends;
 static atomic_long adds;
 
@@ -33,6 +35,9 @@ __attribute__((constructor)) static void begin(void) {
     send_fails_at = number_of("SEND_FAILS_AT");
     add_fails_at = number_of("ADD_FAILS_AT");
     moment = number_of("RECV_TAKES");
+    if (getenv("SENDS_TOLD")) {
+        told = open(getenv("SENDS_TOLD"), O_WRONLY | O_APPEND | O_CREAT, 0600);
+    }
 }
 
 static int fails(atomic_long *calls, long at) { return at && atomic_fetch_add(calls, 1) % at == at - 1; }
@@ -41,6 +46,9 @@ ssize_t send(int file, const void *bytes, size_t count, int flags) {
     ssize_t (*real)(int, const void *, size_t, int) = dlsym(RTLD_NEXT, "send");
     if (fails(&sends, send_fails_at)) {
         errno = EAGAIN;
+        return -1;
+    }
+    if (told >= 0 && write(told, "s", 1) < 0) {
         return -1;
     }
     return real(file, bytes, count, flags);
@@ -71,7 +79,8 @@ int epoll_ctl(int poll, int what, int file, struct epoll_event *event) {
 @contextlib.contextmanager
 def under_failing(**words):
     """The words under which a program runs whose calls fail: SEND_FAILS_AT, which then says that nothing can be
-    taken now, and ADD_FAILS_AT, which says that there is no memory; or take long: RECV_TAKES."""
+    taken now, and ADD_FAILS_AT, which says that there is no memory; or take long: RECV_TAKES; or are told in a file, a byte for each
+    send: SENDS_TOLD."""
     with tempfile.TemporaryDirectory() as folder:
         source, library = (pathlib.Path(folder) / name for name in ("failing.c", "failing.so"))
         source.write_text(SOURCE, encoding="ascii")

@@ -9,7 +9,7 @@ import select
 import socket
 import time
 
-from answer_checks import FETCH_LONG, MADE, TABLE
+from answer_checks import FETCH_LONG, MADE, NO_MEMORY, TABLE
 from caller_checks import calms_down
 from served import DONE, Caller, Server, difference, line_of, login, put, unstamped
 from spoken import (
@@ -32,6 +32,8 @@ from spoken import (
 TICK = 1
 # Callers of one tenant, and the places that there are; of two tenants each has a quarter of its own.
 MANY, PLACES = 300, 300
+# Places of two tenants, of which each has a quarter of its own, beside as many strangers.
+BESIDE = 40
 # Connections of strangers, and the places that there are.
 STRANGERS, FEW_PLACES = 3_000, 200
 # Callers who ask for a long answer and go at once, and in how many seconds nothing is left of them.
@@ -58,12 +60,12 @@ def within(seconds, condition):
 def a_tenant_of_many_callers(program):
     """One tenant's callers take all places but those of others."""
     with Server(program, TENANTS, callers=PLACES, log=1) as server, contextlib.ExitStack() as open_ones:
-        told, many = collections.Counter(), []
-        for _ in range(MANY):
-            many.append(open_ones.enter_context(Caller(server)))
-            many[-1].send(login("a"))
-            told[many[-1].replies.readline()] += 1
-        yield "logins of one tenant", difference(told, {DONE: MANY})
+        many = [open_ones.enter_context(Caller(server)) for _ in range(PLACES // 2)]
+        told = collections.Counter(caller.ask(login("a")) for caller in many)
+        yield "logins of one tenant", difference(told, {DONE: PLACES // 2})
+        many += [open_ones.enter_context(Caller(server)) for _ in range(MANY - len(many))]
+        later = collections.Counter(logged_in(caller) for caller in many[PLACES // 2 :])
+        yield "its later logins", difference(later, {DONE + EMPTY: PLACES // 4, NO_MEMORY: PLACES // 4})
         time.sleep(0.2)
         stay = sum(caller.is_silent(0) for caller in many)
         yield "who stays of them", difference(stay, PLACES - PLACES // 4)
@@ -81,6 +83,30 @@ def a_tenant_of_many_callers(program):
         lines = [unstamped(line) for line in told_so_far(server)]
         places = sum(it == {"ended": "a", "why": "places"} for it in lines)
         yield "what is told of who is above", difference(places, PLACES // 4)
+
+
+def logged_in(caller):
+    """What a caller is told who logs in with a line behind that, and who makes a stream where he has no place."""
+    caller.send(login("a"), LIST)
+    first = caller.replies.readline()
+    if first == DONE:
+        return first + caller.replies.readline()
+    with contextlib.suppress(BrokenPipeError, ConnectionResetError):
+        caller.send(STREAM)
+    return first + caller.rest()
+
+
+def strangers_take_no_tenants_place(program):
+    """Who hasn't logged in counts for no tenant; and where all places are taken he lets in who comes."""
+    with Server(program, TENANTS, callers=BESIDE) as server, contextlib.ExitStack() as open_ones:
+        strangers = sessions_of(open_ones, server, BESIDE // 4)
+        told = collections.Counter()
+        for _ in range(3 * BESIDE // 4):
+            told[open_ones.enter_context(Caller(server)).ask(login("a"))] += 1
+        yield "one tenant beside strangers", difference(told, {DONE: 3 * BESIDE // 4})
+        yield "who hasn't logged in", difference(sum(it.is_silent(0.05) for it in strangers), BESIDE // 4)
+        for _ in range(3):
+            yield "another tenant beside both", served_in(server, TICK, "b")
 
 
 def told_so_far(server):
@@ -253,6 +279,7 @@ def strangers_and_the_log(program):
 
 CHECKS = (
     a_tenant_of_many_callers,
+    strangers_take_no_tenants_place,
     strangers_keep_nobody_out,
     goers_free_their_places,
     what_was_whole_stays,

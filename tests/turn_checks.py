@@ -4,10 +4,12 @@ once, and that who is quiet costs nothing. Each check gives pairs of a name and 
 import collections
 import contextlib
 import heapq
+import pathlib
 import random
 import select
 import socket
 import statistics
+import tempfile
 import time
 
 from failing import under_failing
@@ -43,6 +45,9 @@ CROWD, MOST_BEFORE = 300, 100
 LEAVES, AT_ONCE = 21, 0.05
 # Callers who send a long line and fall silent, and what the server may then keep for each, in bytes.
 TALKERS, MOST_OF_A_TALKER = 100, 16 << 10
+# Rounds of a put, a heartbeat, a fetch and an ack, and the most sends that one may take: at times a short fetch
+# isn't, or two rounds have one read each.
+ROUNDS, MOST_SENDS = 100, 1.3
 # How many long replies one caller takes, of which more than 64 MiB are held back in all.
 LONG_REPLIES = 5
 
@@ -172,6 +177,25 @@ def fetches_among_lines(program):
         yield "fetches among lines", difference(caller.replies.read(len(wanted)), wanted)
 
 
+def rounds_are_one_send(program):
+    """The replies to lines of one write, a short fetch among them, are written together."""
+    with tempfile.TemporaryDirectory() as folder:
+        sends = pathlib.Path(folder) / "sends"
+        with under_failing(SENDS_TOLD=sends) as under, Server(program, TENANTS, under, workers=2) as server:
+            with Caller(server, "a", seconds=FOR_GOOD) as caller:
+                yield "a query for rounds", conversation(caller, (STREAM, DONE), (QUERY, BASE), (FETCH, told(0)))
+                before = sends.stat().st_size
+                for at in range(1, ROUNDS + 1):
+                    ack = line_of(do="ack", name="q", to=at + 1)
+                    caller.send(put(at, at), beat(at), FETCH, ack)
+                    wanted = DONE + DONE + told(at + 1, block(at, at, at)) + DONE
+                    if fault := difference(caller.replies.read(len(wanted)), wanted):
+                        break
+                yield "replies of rounds", fault
+                each = (sends.stat().st_size - before) / ROUNDS
+                yield "sends of a round", None if each <= MOST_SENDS else f"{each:.2f}"
+
+
 def taken_later(caller, wanted):
     """What is wrong with the next reply, which is held back for a while."""
     time.sleep(SILENCE)
@@ -246,6 +270,7 @@ CHECKS = (
     places_are_given_at_once,
     places_of_none,
     fetches_among_lines,
+    rounds_are_one_send,
     long_replies_in_pieces,
     replies_keep_their_order,
     quick_and_then_quiet,

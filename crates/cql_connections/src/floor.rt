@@ -1,5 +1,6 @@
 // The callers who are connected: who waits, whose turn it is, and whose time has passed.
-ghost use Rattle.std.specs.Prelude.{◌≡◌, ◌%◌};
+ghost use Rattle.std.specs.Prelude.{◌≡◌, ◌%◌, true, false, None, Err, IfSome};
+ghost use Rattle.slab.specs.Slab.{get};
 
 use crate::limits::Limits;
 use crate::places::Places;
@@ -48,7 +49,7 @@ pub struct Turn<T> {
     pub(crate) is_listed: bool,
     // whose place it has, as owners of turns are numbered
     pub(crate) place: usize,
-    // whether its tenant may have no further place
+    // whether its tenant may have no further place, of which its caller is to be told
     pub(crate) is_above: bool,
 }
 
@@ -62,26 +63,26 @@ impl<T: Connected> Turn<T> {
         }
     }
 
-    /// Whether its caller has logged in and still has a stranger's place.
+    /// Whether its caller has logged in and still has the place of one who hasn't.
     pub(crate) fn wants_place(&self) -> bool {
-        self.place == 0 && self.owner() > 0
+        self.place == 0 && self.guest.tenant().is_some() && !self.guest.is_refused()
     }
 
     /// Why its session has ended, by this fault if by one.
     pub(crate) fn reason(&self, fault: Option<ScriptError>) -> EndReason {
-        match fault {
-            Some(_) => EndReason::Fault,
-            None if self.is_above => EndReason::Places,
-            None if self.guest.is_refused() => EndReason::Refused,
-            None => EndReason::Caller,
+        match (fault, self.guest.tenant()) {
+            (Some(_), _) => EndReason::Fault,
+            (None, Some(_)) if self.guest.is_refused() => EndReason::Places,
+            (None, None) if self.guest.is_refused() => EndReason::Refused,
+            (None, _) => EndReason::Caller,
         }
     }
 
     /// Why its session ends where its time has passed.
     pub(crate) fn reason_of_late(&self) -> EndReason {
         match self.guest.tenant() {
+            _ if self.guest.is_refused() => self.reason(None),
             Some(_) => EndReason::Idle,
-            None if self.guest.is_refused() => EndReason::Refused,
             None => EndReason::Login,
         }
     }
@@ -206,7 +207,8 @@ impl<T: Connected<End = D>, D: Drop> Floor<T, D> {
         let turns = Turns::new(alloc, owners, workers)?;
         let held = vec![in alloc; 0; owners]?;
         let ends = Vec::with_capacity(alloc, room)?;
-        let places = Places::new(alloc, limits.callers as usize, owners)?;
+        let tenants = owners.saturating_sub(1);
+        let places = Places::new(alloc, limits.callers as usize, tenants)?;
         Ok(Floor {
             limits,
             slots: Slab::new(alloc),
@@ -322,7 +324,10 @@ impl<T: Connected<End = D>, D: Drop> Floor<T, D> {
     /// Nobody is connected any more under this key.
     pub(crate) fn forget(&mut self, key: usize) {
         if let Some(slot) = self.slots.try_remove(key) {
-            self.places.leave(slot.place);
+            match slot.place.checked_sub(1) {
+                Some(tenant) => self.places.give_back(tenant),
+                None => self.places.leave(),
+            }
         }
     }
 
@@ -336,12 +341,17 @@ impl<T: Connected<End = D>, D: Drop> Floor<T, D> {
     pub(crate) fn seat(&mut self, turn: &mut Turn<T>)
         ensures guest { (turn.new.key ≡ turn.old.key) × (turn.new.guest ≡ turn.old.guest) }
     {
-        let owner = turn.owner();
-        if !self.places.log_in(owner) {
+        let Some(tenant) = turn.guest.tenant() else {
+            return;
+        };
+        let Some(slot) = self.slots.get_mut(turn.key) else {
+            return;
+        };
+        if self.places.log_in(tenant.index()) {
+            turn.place = turn.owner();
+            slot.place = turn.place;
+        } else {
             turn.is_above = true;
-        } else if let Some(slot) = self.slots.get_mut(turn.key) {
-            slot.place = owner;
-            turn.place = owner;
         }
     }
 
@@ -420,13 +430,18 @@ impl<T: Connected<End = D>, D: Drop> Floor<T, D> {
     }
 
     // Whether the caller of a key has gone.
-    fn is_gone(&self, key: usize) -> bool {
+    fn is_gone(&self, key: usize) -> bool
+        ensures nobody { get self.now.slots key ≡ None → result ≡ false }
+        ensures somebody { IfSome (get self.now.slots key) (λ slot. result ≡ slot.is_gone) }
+    {
         self.slots.get(key).is_some_and(|slot| slot.is_gone)
     }
 
     /// A guest waits for a worker. Without memory for that it comes back, and where its caller has
     /// gone.
-    pub(crate) fn push(&mut self, turn: Turn<T>) -> Result<(), Turn<T>> {
+    pub(crate) fn push(&mut self, turn: Turn<T>) -> Result<(), Turn<T>>
+        ensures gone { IfSome (get self.old.slots turn.key) (λ slot. slot.is_gone ≡ true → result ≡ Err turn) }
+    {
         if self.is_gone(turn.key) {
             return Err(turn);
         }
@@ -435,15 +450,24 @@ impl<T: Connected<End = D>, D: Drop> Floor<T, D> {
 
     /// A guest waits for a worker who may compute an answer. Without memory it comes back, and where
     /// its caller has gone.
-    pub(crate) fn push_answer(&mut self, turn: Turn<T>) -> Result<(), Turn<T>> {
+    pub(crate) fn push_answer(&mut self, turn: Turn<T>) -> Result<(), Turn<T>>
+        ensures gone { IfSome (get self.old.slots turn.key) (λ slot. slot.is_gone ≡ true → result ≡ Err turn) }
+    {
         if self.is_gone(turn.key) {
             return Err(turn);
         }
         self.turns.push_answer(turn.owner(), turn)
     }
 
+    /// Whether an answer has to wait for others.
+    pub(crate) fn has_answers(&self) -> bool {
+        self.turns.has_answers()
+    }
+
     /// Begins an answer for a guest, if it needn't wait and its caller hasn't gone.
-    pub(crate) fn begin_answer(&mut self, turn: &Turn<T>) -> bool {
+    pub(crate) fn begin_answer(&mut self, turn: &Turn<T>) -> bool
+        ensures gone { IfSome (get self.old.slots turn.now.key) (λ slot. slot.is_gone ≡ true → result ≡ false) }
+    {
         !self.is_gone(turn.key) && self.turns.begin_answer(turn.owner())
     }
 
@@ -454,7 +478,9 @@ impl<T: Connected<End = D>, D: Drop> Floor<T, D> {
 
     /// A guest who waits for its caller from now on; who waits for a worker where something has
     /// come meanwhile. It comes back without memory, and where its caller has gone.
-    pub(crate) fn keep(&mut self, turn: Turn<T>, now: Option<Instant>) -> Result<(), Turn<T>> {
+    pub(crate) fn keep(&mut self, turn: Turn<T>, now: Option<Instant>) -> Result<(), Turn<T>>
+        ensures gone { IfSome (get self.old.slots turn.key) (λ slot. slot.is_gone ≡ true → result ≡ Err turn) }
+    {
         let Some(slot) = self.slots.get_mut(turn.key) else {
             return Err(turn);
         };
@@ -471,9 +497,12 @@ impl<T: Connected<End = D>, D: Drop> Floor<T, D> {
             slot.held = held;
         }
         let is_parting = turn.guest.is_refused();
-        if (turn.guest.tenant().is_some() || is_parting && !slot.is_parting)
-            && let Some(now) = now
-        {
+        let begins = if is_parting {
+            !slot.is_parting
+        } else {
+            turn.guest.tenant().is_some()
+        };
+        if begins && let Some(now) = now {
             slot.since = now;
         }
         slot.is_parting = is_parting;
@@ -544,11 +573,12 @@ impl<T: Connected<End = D>, D: Drop> Floor<T, D> {
         let Some(guest) = &slot.guest else {
             return false;
         };
-        let within = if guest.tenant().is_some() {
+        let is_parting = slot.is_parting;
+        let within = if guest.tenant().is_some() && !is_parting {
             self.limits.idle
         } else if is_crowded {
             Some(Duration::from_millis(CROWDED))
-        } else if slot.is_parting {
+        } else if is_parting {
             Some(Duration::from_secs(PARTING))
         } else {
             earlier(self.limits.login, self.limits.idle)

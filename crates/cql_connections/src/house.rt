@@ -228,7 +228,7 @@ impl<'a, T: Connected<End = D>, D: Drop> House<'a, T, D> {
         self.floor.lock(rt)
     }
 
-    // Ends the session of a caller who has gone.
+    // Ends the session of a caller who has gone, or for whom there is no memory.
     fn end_gone<R: Wait, G: Gate>(&self, rt: &R, gate: &G, turn: Turn<T>) {
         let fault = turn.fault_of_silence();
         let reason = turn.reason(fault);
@@ -256,7 +256,7 @@ impl<'a, T: Connected<End = D>, D: Drop> House<'a, T, D> {
     /// What a worker of this index may do next for a guest who has had a turn, if it goes on with the
     /// guest: answer the fetch that waits, where it computes answers; or lines, of one who needs a worker
     /// or bytes. An answer that it computed has ended. Who has logged in has a place of its tenant's, or
-    /// is told nothing more where that may have no further one.
+    /// is to be told that it may have none.
     pub fn goes_on<R: Wait>(
         &self,
         rt: &R,
@@ -273,7 +273,7 @@ impl<'a, T: Connected<End = D>, D: Drop> House<'a, T, D> {
         if last.fetch {
             self.end_answer(rt, turn.owner(), thread);
         }
-        if turn.wants_place() {
+        if turn.wants_place() && !matches!(needs, WaitsFor::End(_)) {
             self.floor.lock(rt).seat(turn);
             if turn.is_above {
                 return None;
@@ -363,27 +363,35 @@ impl<'a, T: Connected<End = D>, D: Drop> House<'a, T, D> {
         turn: Turn<T>,
         needs: WaitsFor,
     ) {
-        if turn.is_above {
-            let reason = turn.reason(None);
-            return self.end(rt, gate, turn, None, reason);
-        }
+        let mut turn = turn;
+        let is_above = std::mem::replace(&mut turn.is_above, false);
+        let needs = if is_above { WaitsFor::Worker } else { needs };
         let refused = match needs {
             WaitsFor::End(fault) => {
                 let reason = turn.reason(fault);
                 return self.end(rt, gate, turn, fault, reason);
             }
-            WaitsFor::Worker => self.floor.lock(rt).push(turn),
+            WaitsFor::Worker => {
+                turn.guest.settle(self.alloc, is_above);
+                self.floor.lock(rt).push(turn)
+            }
             WaitsFor::Answer => self.push_answer(rt, turn),
             WaitsFor::Bytes | WaitsFor::Room => self.keep(rt, gate, turn, needs),
         };
         if let Err(turn) = refused {
-            self.end(rt, gate, turn, Some(ScriptError::Write), EndReason::Fault);
+            self.end_gone(rt, gate, turn);
         }
     }
 
     // Has a guest wait for a worker who may compute an answer.
     fn push_answer<R: Wait>(&self, rt: &R, turn: Turn<T>) -> Result<(), Turn<T>> {
+        let mut turn = turn;
         let mut floor = self.floor.lock(rt);
+        if floor.has_answers() {
+            drop(floor);
+            turn.guest.settle(self.alloc, false);
+            floor = self.floor.lock(rt);
+        }
         let pushed = floor.push_answer(turn);
         let is_looked = floor.is_looked;
         drop(floor);

@@ -167,6 +167,11 @@ impl<T: Drop> Turns<T> {
         }
     }
 
+    /// Whether an answer has to wait for others.
+    pub(crate) fn has_answers(&self) -> bool {
+        self.answers.count > 0 || self.busy >= self.most
+    }
+
     /// Whether a short turn waits.
     pub(crate) fn has_short(&self) -> bool {
         self.short.count > 0

@@ -36,7 +36,10 @@ visit_row_send = search (sendable, visit_send) depth 20
 pub link_send : IsSend (link.the_field).row
 link_send = struct_send (shape link.the_type) (
   search (crosses, sendable) depth 30,
-  (search (crosses, sendable) depth 30, (search (crosses, sendable) depth 30, (search sendable, (search sendable, (search sendable, tt))))),
+  (
+    search (crosses, sendable) depth 30,
+    (search (crosses, sendable) depth 30, (search sendable, (search sendable, (search sendable, (search sendable, (search sendable, tt)))))),
+  ),
 )
 
 pub parting_send : IsSend (parting.the_field).row
@@ -45,7 +48,7 @@ parting_send = search sendable depth 20
 pub guest_send : IsSend (guest.the_field).row
 guest_send = struct_send (shape guest.the_type) (
   search (sendable, link_send) depth 20,
-  (search (sendable, visit_send) depth 20, (search (sendable, parting_send) depth 20, tt)),
+  (search (sendable, visit_send) depth 20, (search (sendable, parting_send) depth 20, (search sendable, tt))),
 )
 
 pub guest_row_send : IsSend guest.the_row

@@ -3,3 +3,4 @@ pub mod Answering
 pub mod Request
 pub mod Seating
 pub mod Tallies
+pub mod Unread

@@ -1,5 +1,7 @@
 // The answers that threads compute, and how long one may take.
 
+ghost use Rattle.std.specs.Prelude.{◌≡◌, true};
+
 use cql_ops::Cancellation;
 use std::alloc::{AllocError, Global};
 use std::sync::{Mutex, Wait};
@@ -52,17 +54,11 @@ impl Drop for Desk {
 }
 
 impl Desk {
-    // Nothing is computed for nobody.
-    fn new() -> Desk {
-        Desk {
-            caller: None,
-            is_left: false,
-            under_way: None,
-        }
-    }
-
     // The caller has gone: what is computed for him is given up, and what is begun for him yet.
-    fn give_up(&mut self) {
+    fn give_up(&mut self)
+        ensures left { self.new.is_left ≡ true }
+        ensures caller { self.new.caller ≡ self.old.caller }
+    {
         self.is_left = true;
         if let Some(under_way) = &self.under_way {
             under_way.flag.set();
@@ -97,7 +93,11 @@ impl Answers {
     ) -> Result<Answers, AllocError> {
         let mut desks = Vec::with_capacity(alloc, threads)?;
         for _ in 0..threads {
-            desks.push(Mutex::new(Desk::new()))?;
+            desks.push(Mutex::new(Desk {
+                caller: None,
+                is_left: false,
+                under_way: None,
+            }))?;
         }
         Ok(Answers { within, desks })
     }
@@ -114,7 +114,10 @@ impl Answers {
     /// The thread of this index computes for nobody.
     pub fn leave<R: Wait>(&self, rt: &R, thread: usize) {
         if let Some(desk) = self.desks.get(thread) {
-            *desk.lock(rt) = Desk::new();
+            let mut desk = desk.lock(rt);
+            desk.caller = None;
+            desk.is_left = false;
+            desk.under_way = None;
         }
     }
 

@@ -28,8 +28,8 @@ pub struct Service<'a, H, C, G> {
 pub(crate) enum LineOutcome {
     /// It was answered, or it was blank.
     Short,
-    /// It was a fetch and was answered, which may have taken long.
-    Fetch,
+    /// It was answered and is the last of its turn: the login, or a fetch, which may have taken long.
+    Last,
     /// Nothing: it is a fetch, and fetches have to wait.
     Held,
 }
@@ -161,7 +161,7 @@ impl Caller {
             Kind::Fetch if !may_fetch => return Ok(LineOutcome::Held),
             Kind::Fetch => {
                 buffer.flush(writer)?;
-                LineOutcome::Fetch
+                LineOutcome::Last
             }
             _ => LineOutcome::Short,
         };

@@ -3,7 +3,7 @@ ghost use Rattle.std.specs.Prelude.{◌≡◌, ◌≤◌, [], length, IfOk};
 
 use crate::callable::Callable;
 use crate::caller::{LineOutcome, Service};
-use crate::connection::{Came, Connection, Outbox, next_bytes};
+use crate::connection::{BRIEF, Came, Connection, LINE, Outbox, next_bytes};
 use crate::ending::Ending;
 use crate::parting::Parting;
 use crate::session_buffers::SessionBuffers;
@@ -22,6 +22,8 @@ pub struct Guest {
     link: Connection,
     visit: Visit,
     parting: Parting,
+    // whether its tenant had no place for it
+    is_away: bool,
 }
 
 impl Drop for Guest {
@@ -30,6 +32,7 @@ impl Drop for Guest {
             link: _,
             visit: _,
             parting: _,
+            is_away: _,
         } = self;
     }
 }
@@ -74,8 +77,12 @@ pub trait Connected: Drop {
     /// Whose session it is, once its caller has logged in.
     fn tenant(&self) -> Option<TenantId>;
 
-    /// Whether it is over since its login was refused.
+    /// Whether it is over since its login was refused, or its tenant had no place for it.
     fn is_refused(&self) -> bool;
+
+    /// Sends what was gathered of its replies, before it has to wait. Where its tenant has no place for
+    /// it, it is told want of memory (70) in the place of the reply to its login, and it is over.
+    fn settle(&mut self, alloc: Global, is_above: bool);
 
     /// Gives back what memory it doesn't need while nothing comes.
     fn rest(&mut self);
@@ -92,6 +99,7 @@ impl Connected for Guest {
             link: Connection::new(alloc, stream)?,
             visit: Visit::new(alloc, is_kept),
             parting: Parting::new(),
+            is_away: false,
         })
     }
 
@@ -105,7 +113,18 @@ impl Connected for Guest {
 
     fn is_refused(&self) -> bool {
         let visit = &self.visit;
-        visit.is_over && !visit.is_ended && visit.caller.is_none()
+        self.is_away || visit.is_over && !visit.is_ended && visit.caller.is_none()
+    }
+
+    fn settle(&mut self, alloc: Global, is_above: bool) {
+        if is_above {
+            self.is_away = true;
+            self.visit.is_over = true;
+            self.link.unsent.clear();
+            self.link.tell_no_memory();
+        }
+        // where it fails the next turn's write does
+        let _ = self.link.send(alloc);
     }
 
     fn rest(&mut self) {
@@ -117,6 +136,7 @@ impl Connected for Guest {
             link: _,
             visit,
             parting: _,
+            is_away: _,
         } = self;
         let is_kept = visit.is_kept;
         let end = visit.into_end(alloc, fault);
@@ -126,9 +146,9 @@ impl Connected for Guest {
 
 impl Guest {
     /// Serves its session for a while: writes what is held back, or reads once and answers lines
-    /// up to a fetch. A caller who doesn't take what is written is not read from. Of one whose login
-    /// was refused what still comes is read and let go of. Nothing of its replies stays in the
-    /// buffers.
+    /// up to a fetch, or the login alone, whose reply is held back until its next turn. A caller who
+    /// doesn't take what is written is not read from. Of one whose login was refused what still comes is
+    /// read and let go of. Nothing of its replies stays in the buffers.
     pub fn turn<H: Wait, C: Callable<H, G>, E: Evaluator, G: Gate>(
         &mut self,
         service: &Service<'_, H, C, G>,
@@ -163,37 +183,95 @@ impl Guest {
         ensures bench { E.is_ready bench.new }
     {
         let alloc = service.alloc;
-        if let Some(needs) = self.link.needs_first(alloc, self.visit.stage(), may)? {
+        let had_logged_in = self.visit.caller.is_some();
+        let stage = self.visit.stage();
+        if let Some(needs) = self.link.needs_first(alloc, stage, may)? {
             return Ok(needs);
         }
+        if !had_logged_in && self.link.unsent.reserve(LINE).is_err() {
+            return Ok(self.end_without_memory());
+        }
+        let begun = if stage.is_held {
+            service.gate.nanos()
+        } else {
+            0
+        };
+        let came = match self.answer(service, bench, buffers, may.fetch) {
+            Ok(came) => came,
+            Err(ScriptError::NoMemory) => {
+                // what was done is told, also where there is no memory for what comes then
+                self.hand_over(alloc, &mut buffers.buffer, false)?;
+                return Ok(self.end_without_memory());
+            }
+            Err(fault) => return Err(fault),
+        };
+        let is_spent = matches!(came, Came::Nothing);
+        self.link.note(came, may.wait);
+        if stage.is_held {
+            let took = service.gate.nanos().saturating_sub(begun);
+            self.link.is_brief = took < BRIEF;
+        }
+        let keeps = !had_logged_in || self.link.gathers(self.visit.stage());
+        self.hand_over(alloc, &mut buffers.buffer, keeps)?;
+        if !had_logged_in && !self.link.unsent.is_empty() {
+            return Ok(WaitsFor::Worker);
+        }
+        Ok(self.link.needs(self.visit.stage(), is_spent))
+    }
+
+    // Answers what comes next. What is told to a caller who hasn't logged in yet is held back.
+    fn answer<H: Wait, C: Callable<H, G>, E: Evaluator, G: Gate>(
+        &mut self,
+        service: &Service<'_, H, C, G>,
+        bench: &mut E,
+        buffers: &mut SessionBuffers,
+        may_fetch: bool,
+    ) -> Result<Came, ScriptError>
+        requires bench { E.is_ready bench.old }
+        ensures bench { E.is_ready bench.new }
+    {
         let mut outbox = Watched::new(Outbox {
             stream: &self.link.stream,
             is_waiting: &mut self.link.is_waiting,
             held: &mut self.link.unsent,
+            sent: &mut self.link.sent,
+            is_stuck: &mut self.link.is_stuck,
+            is_shut: self.visit.caller.is_none(),
             written: 0,
         });
-        let answered = answer_next(
+        answer_next(
             service,
             bench,
             &mut self.visit,
             &self.link.unread,
             buffers,
-            may.fetch,
+            may_fetch,
             &mut outbox,
-        );
-        if matches!(answered, Ok(_) | Err(ScriptError::NoMemory)) {
-            // what was done is told, also where there is no memory for what comes then
-            buffers.buffer.flush(&mut outbox)?;
-        }
+        )
+    }
+
+    // Hands what is buffered to the connection, which keeps it for now, or sends all that it keeps.
+    fn hand_over(
+        &mut self,
+        alloc: Global,
+        buffer: &mut ReplyBuffer,
+        keeps: bool,
+    ) -> Result<(), ScriptError> {
+        let mut outbox = Watched::new(Outbox {
+            stream: &self.link.stream,
+            is_waiting: &mut self.link.is_waiting,
+            is_shut: keeps || !self.link.unsent.is_empty(),
+            held: &mut self.link.unsent,
+            sent: &mut self.link.sent,
+            is_stuck: &mut self.link.is_stuck,
+            written: 0,
+        });
+        buffer.flush(&mut outbox)?;
         drop(outbox);
-        let came = match answered {
-            Ok(came) => came,
-            Err(ScriptError::NoMemory) => return Ok(self.end_without_memory()),
-            Err(fault) => return Err(fault),
-        };
-        let is_spent = matches!(came, Came::Nothing);
-        self.link.note(came, may.wait);
-        Ok(self.link.needs(self.visit.stage(), is_spent))
+        if !keeps && !self.link.is_stuck {
+            self.link.send(alloc)?;
+        }
+        Ok(())
     }
 
     // Its session ends behind what was answered, and what is told of that is want of memory.
@@ -264,7 +342,7 @@ fn answer_some<H: Wait, C: Callable<H, G>, E: Evaluator, G: Gate>(
     let length = TurnLength::begin(service.gate);
     for line in 0..LINES {
         let rest = &bytes[used..];
-        if rest.is_empty() || visit.is_over || visit.is_held || !outbox.inner().held.is_empty() {
+        if rest.is_empty() || visit.is_over || visit.is_held || *outbox.inner().is_stuck {
             break;
         }
         if length.is_over(service.gate, line, outbox.inner().written) {

@@ -1,5 +1,7 @@
 // How the connection of a caller ends whose login was refused.
 
+ghost use Rattle.std.specs.Prelude.{◌≡◌, ◌<◌, ◌≤◌};
+
 use crate::connection::is_later;
 use crate::guest::WaitsFor;
 use std::io::Read;
@@ -20,7 +22,9 @@ pub(crate) struct Parting {
 
 impl Parting {
     /// One that hasn't begun.
-    pub(crate) fn new() -> Parting {
+    pub(crate) fn new() -> Parting
+        ensures { result.left ≡ 4194304 }
+    {
         Parting {
             has_begun: false,
             left: MOST,
@@ -28,7 +32,10 @@ impl Parting {
     }
 
     /// Reads once, without waiting. Gives what the connection needs next.
-    pub(crate) fn go_on(&mut self, mut stream: &TcpStream, chunk: &mut [u8]) -> WaitsFor {
+    pub(crate) fn go_on(&mut self, mut stream: &TcpStream, chunk: &mut [u8]) -> WaitsFor
+        ensures less { result ≡ WaitsFor.Worker → self.new.left < self.old.left }
+        ensures no_more { self.new.left ≤ self.old.left }
+    {
         if !self.has_begun {
             self.has_begun = true;
             let is_shut = stream.shutdown(Shutdown::Write).is_ok();

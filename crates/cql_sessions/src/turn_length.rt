@@ -1,5 +1,7 @@
 // How long a turn is, by what it does.
 
+ghost use Rattle.std.specs.Prelude.{◌≡◌, ◌≤◌, true};
+
 use cql_hall::Gate;
 
 /// The most lines of one turn.
@@ -29,7 +31,9 @@ impl TurnLength {
     }
 
     /// Whether it ends before the line of this index, where so many bytes were written.
-    pub(crate) fn is_over<G: Gate>(self, gate: &G, line: u32, written: usize) -> bool {
+    pub(crate) fn is_over<G: Gate>(self, gate: &G, line: u32, written: usize) -> bool
+        ensures { 65536 ≤ written → result ≡ true }
+    {
         let looks = line > 0 && line % LOOK == 0;
         written >= BYTES || looks && gate.nanos().saturating_sub(self.begun) >= NANOS
     }

@@ -212,14 +212,15 @@ impl Visit {
             Some(tenant) => {
                 service.gate.at(Point::LoggedIn(tenant));
                 self.caller = Some(Caller::new(service, tenant, self.is_kept));
+                Ok(LineOutcome::Last)
             }
             None => {
                 let named = named_in(alloc, service.table, line);
                 service.gate.at(Point::NotLoggedIn(named));
                 self.is_over = true;
+                Ok(LineOutcome::Short)
             }
         }
-        Ok(LineOutcome::Short)
     }
 
     /// How it ends.

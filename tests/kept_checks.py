@@ -61,12 +61,32 @@ def gone_with_its_query(program):
         caller.ask(fetch("q"))
         kept = server.memory() - before
         caller.serve([line_of(do="drop", name="q")])
-        end = time.monotonic() + 5
-        while time.monotonic() < end and server.memory() > before + kept // 3:
-            time.sleep(0.1)
-        left = server.memory() - before
         yield "a bench that is heavy", None if kept > 2 * MEBIBYTE else f"{kept} bytes"
-        yield "memory behind its drop", None if left <= kept // 3 else f"{left} of {kept} bytes are left"
+        yield "memory behind its drop", left_of(server, before, kept)
+
+
+def left_of(server, before, kept):
+    """What is wrong where much of what was kept is there yet some seconds later, though nobody calls."""
+    end = time.monotonic() + 5
+    while time.monotonic() < end and server.memory() > before + kept // 3:
+        time.sleep(0.1)
+    left = server.memory() - before
+    return None if left <= kept // 3 else f"{left} of {kept} bytes are left"
+
+
+def gone_with_its_grant(program):
+    """What a bench keeps goes with the grant of a stream that its query reads."""
+    table = tenants("ab", hold=65536, result=65536)
+    with Server(program, table, GIVES_BACK, workers=1) as server, Caller(server, "a") as a, Caller(server, "b") as b:
+        # a window needs the rows, whichever grant is taken back
+        a.serve([STREAM, query("stays", "Select Istream(*) From s"), line_of(do="grant", stream="s", to="b")])
+        b.serve([query("q", HEAVY.format(1).replace("From s", "From a.s"))])
+        a.serve(filled(MOST))
+        before = server.memory()
+        b.ask(fetch("q"))
+        kept = server.memory() - before
+        a.serve([line_of(do="revoke", stream="s", to="b")])
+        yield "memory behind a grant", left_of(server, before, kept)
 
 
 # Each instant tells all rows up to it.
@@ -100,4 +120,4 @@ def heavy_answers(program):
             yield f"the last piece {name}", difference(caller.ask(fetch("q")), whole(ROWS - PIECE, ROWS))
 
 
-CHECKS = kept_within_room, gone_with_its_query, heavy_answers
+CHECKS = kept_within_room, gone_with_its_query, gone_with_its_grant, heavy_answers

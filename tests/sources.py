@@ -26,9 +26,9 @@ NAME = re.compile(r"[A-Za-z_]\w*")
 USE = re.compile(r"(?:pub |ghost )*use (Rattle\.[\w.]+?)(?:\.\{(.*)\})?(?: as (\w+))?;?\s*$")
 # a file and a definition of the reading path: its star is that of a first reading
 FILE = re.compile(r"^\*\*`(crates/\S+\.antt)`\*\*")
-ROW = re.compile(r"(?:^- |; )`([^`]+)`(\*?) (\d+)(?=[:;.]|$)")
+ROW = re.compile(r"(?:^- |; )`([^`]+)`(\*?)(?=[:;]|$)")
 
-Step = collections.namedtuple("Step", "number chapter file name star lines")
+Step = collections.namedtuple("Step", "number chapter file name star")
 
 
 def crates():
@@ -73,5 +73,5 @@ def reading_path(lines):
         elif FILE.match(line):
             file = FILE.match(line)[1]
         elif file and line.startswith("- "):
-            for name, star, size in ROW.findall(line):
-                yield Step(number, chapter, file, name, star, int(size))
+            for name, star in ROW.findall(line):
+                yield Step(number, chapter, file, name, star)

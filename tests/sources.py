@@ -12,7 +12,7 @@ ROOT = TOP / "crates"
 
 # what may stand before the word of an item of code
 PUBLIC = r"(?:pub(?:\([^)]*\))? )?"
-ITEM = re.compile(rf"^\s*(?P<public>{PUBLIC})(?:const |unsafe |async )*(?P<kind>fn|struct|enum|union|trait|impl|type|mod|const|static)\b\s*(?P<rest>[^{{(;]*)")
+ITEM = re.compile(rf"^\s*(?P<public>{PUBLIC})(?:const |unsafe |async |final )*(?P<kind>fn|struct|enum|union|trait|impl|type|mod|const|static)\b\s*(?P<rest>[^{{(;]*)")
 TYPE = re.compile(rf"^{PUBLIC}(?:unsafe )?(?:struct|enum|union|trait|type) (\w+)")
 FUNCTION = re.compile(rf"^( *){PUBLIC}(?:final )?(?:const )?(?:unsafe )?fn (\w+)", re.MULTILINE)
 # the head of a definition, a record or a lemma; `rest` is all behind its name

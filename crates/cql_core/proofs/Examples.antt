@@ -1,4 +1,5 @@
--- A small language, and runs worked by hand: what the definitions say of them. The order of checks, where an interval ends, what a base and a limit are, and what a pin tells stand in words that the machine and the meaning share; a law that both agree doesn't see a wrong one. These runs do.
+-- A small language, and runs worked by hand: what the definitions say of them. The order of checks, where an interval ends, what a base and a limit
+-- are, and what a pin tells stand in words that the machine and the meaning share; a law that both agree doesn't see a wrong one. These runs do.
 use Rattle.std.proofs.Common.{◌≡◌, ℕ, zero, suc, ◌+◌, ◌-◌, ◌≤◌, ◌<◌, Bool, true, false, ◌&&◌, ◌==◌, List, [], ◌∷◌, ◌++◌, map, length, inl, inr, refl, ap, ◌∙◌, sym, subst, arith}
 use Rattle.std.specs.Prelude.{Option, Some, None, option_map, Result, Ok, Err, is_some, if◌then◌else◌, pos, codes, take}
 use Rattle.std.proofs.lemmas.Bool.{and_parts}
@@ -29,7 +30,9 @@ use Rattle.cql_core.specs.declared.command.ColumnText.{ColumnText}
 use Rattle.cql_core.specs.declared.command.Command.{Command}
 use Rattle.cql_core.specs.declared.command.Command.TheVariants.{Stream, Grant, Revoke, Put, Beat, Query, Fetch, Ack, Drop, List as Lists}
 use Rattle.cql_core.specs.declared.refusal.Refusal.{Refusal}
-use Rattle.cql_core.specs.declared.refusal.Refusal.TheVariants.{StreamExists, BadName, BadColumns, TooManyStreams, UnknownStream, UnknownTenant, AlreadyGranted, SelfGrant, BadGrantColumns, NotGranted, WrongRow, Late, AtTooLarge, BadQuery, TooManyQueries, QueryExists, UnknownQuery, Overrun, Ahead, Behind, Revoked, NoMemory}
+use Rattle.cql_core.specs.declared.refusal.Refusal.TheVariants.{StreamExists, BadName, BadColumns, TooManyStreams, UnknownStream, UnknownTenant, AlreadyGranted, SelfGrant, BadGrantColumns}
+use Rattle.cql_core.specs.declared.refusal.Refusal.TheVariants.{NotGranted, WrongRow, Late, AtTooLarge, BadQuery, TooManyQueries, QueryExists, UnknownQuery, Overrun, Ahead, Behind, Revoked}
+use Rattle.cql_core.specs.declared.refusal.Refusal.TheVariants.{NoMemory}
 use Rattle.cql_core.specs.StreamId.{stream_id_of}
 use Rattle.cql_core.specs.ReplyModel.{ReplyModel, Done, Based, Blocks, Listed, Refused}
 use Rattle.cql_core.specs.Language.{Language, or_widened, contents_at, AreReadable, AreAlike, IsLanguage, plan_over}
@@ -172,7 +175,8 @@ plain projection n = by (n == 0) (n == 1)
     by false false = refl
 
 sees_one : (o : Option VisibleColumns) (owner : Option (List ℕ)) (stream : List ℕ) (n : ℕ)
-    → record { owner = owner; stream = stream; window = window_for n; projection = projection_or o } ≡ widened_by o (record { owner = owner; stream = stream; window = window_for n; projection = projection_or (option_map alone o) })
+    → record { owner = owner; stream = stream; window = window_for n; projection = projection_or o } ≡ widened_by o
+    (record { owner = owner; stream = stream; window = window_for n; projection = projection_or (option_map alone o) })
 sees_one None owner stream n = refl
 sees_one (Some seen) owner stream n = λ j. record { owner = owner; stream = stream; window = sym (plain seen.projection n) j; projection = seen.projection }
 
@@ -278,7 +282,8 @@ seen_by_the_other = refl
 
 -- a stream that isn't granted, one that isn't there, and one of a tenant that isn't there are refused alike; only its owner puts on a stream, and grants it; a tenant's own name before the dot is as good as none
 ungranted : replies_to language 1 (opening two)
-    ((0, Stream s numbers) ∷ (1, Query q (0 ∷ a_s)) ∷ (1, Query q (0 ∷ 97 ∷ 122 ∷ [])) ∷ (1, Query q (0 ∷ 99 ∷ 115 ∷ [])) ∷ (0, Grant s b None) ∷ (1, Put s 1 (row 7)) ∷ (1, Beat s 1) ∷ (1, Grant s b None) ∷ (1, Stream s numbers) ∷ (1, Query q (0 ∷ 98 ∷ 115 ∷ [])) ∷ [])
+    ((0, Stream s numbers) ∷ (1, Query q (0 ∷ a_s)) ∷ (1, Query q (0 ∷ 97 ∷ 122 ∷ [])) ∷ (1, Query q (0 ∷ 99 ∷ 115 ∷ [])) ∷ (0, Grant s b None) ∷ (1, Put s 1 (row 7))
+    ∷ (1, Beat s 1) ∷ (1, Grant s b None) ∷ (1, Stream s numbers) ∷ (1, Query q (0 ∷ 98 ∷ 115 ∷ [])) ∷ [])
     ≡ Refused UnknownStream ∷ Refused UnknownStream ∷ Refused UnknownStream ∷ Refused UnknownStream ∷ Refused UnknownStream ∷ Refused UnknownStream ∷ Done ∷ Based 0 ∷ []
 unfolding same_name contents_at words.is_reserved
 ungranted = refl
@@ -291,7 +296,8 @@ unfolding same_name contents_at words.is_reserved
 one_name = refl
 
 -- a reader that stands before the owner in the table
-read_by_the_first : replies_to language 0 (opening two) ((1, Stream s numbers) ∷ (1, Grant s a None) ∷ (0, Query q (0 ∷ 98 ∷ 115 ∷ [])) ∷ (1, Put s 1 (row 9)) ∷ (1, Beat s 1) ∷ (0, Fetch q None) ∷ []) ≡ Based 0 ∷ Blocks (one 1 1 9 []) 2 ∷ []
+read_by_the_first : replies_to language 0 (opening two) ((1, Stream s numbers) ∷ (1, Grant s a None) ∷ (0, Query q (0 ∷ 98 ∷ 115 ∷ [])) ∷ (1, Put s 1 (row 9))
+    ∷ (1, Beat s 1) ∷ (0, Fetch q None) ∷ []) ≡ Based 0 ∷ Blocks (one 1 1 9 []) 2 ∷ []
 unfolding same_name contents_at words.is_reserved
 read_by_the_first = refl
 
@@ -299,7 +305,8 @@ read_by_the_first = refl
 -- 31 before all else
 not_in_the_table : replies_to language 2 (opening two)
     ((2, Stream [] []) ∷ (2, Grant p c None) ∷ (2, Put p 1 []) ∷ (2, Beat p 1) ∷ (2, Query [] (0 ∷ [])) ∷ (2, Fetch q None) ∷ (2, Ack q 0) ∷ (2, Drop q) ∷ (2, Lists) ∷ [])
-    ≡ Refused UnknownTenant ∷ Refused UnknownTenant ∷ Refused UnknownTenant ∷ Refused UnknownTenant ∷ Refused UnknownTenant ∷ Refused UnknownTenant ∷ Refused UnknownTenant ∷ Refused UnknownTenant ∷ Refused UnknownTenant ∷ []
+    ≡ Refused UnknownTenant ∷ Refused UnknownTenant ∷ Refused UnknownTenant ∷ Refused UnknownTenant ∷ Refused UnknownTenant ∷ Refused UnknownTenant ∷ Refused
+    UnknownTenant ∷ Refused UnknownTenant ∷ Refused UnknownTenant ∷ []
 unfolding same_name contents_at words.is_reserved
 not_in_the_table = refl
 
@@ -318,8 +325,10 @@ seventeen = map (λ n. column (118 ∷ n ∷ []) (codes "int")) (codes "abcdefgh
 
 -- columns that are no schema: a name that is none, a type that is none, two of one name, and 17; 16 are one, and so are two of two types
 columns : replies_to language 0 (opening two)
-    ((0, Stream s (column [] (codes "int") ∷ [])) ∷ (0, Stream s (column (codes "select") (codes "int") ∷ [])) ∷ (0, Stream s (column a (codes "real") ∷ [])) ∷ (0, Stream s (column a (codes "int") ∷ column a (codes "text") ∷ [])) ∷ (0, Stream s seventeen)
-    ∷ (0, Stream s (take 16 seventeen)) ∷ (0, Stream p (column a (codes "text") ∷ column b (codes "int") ∷ [])) ∷ (0, Put p 1 (Number (pos 1) ∷ Text (codes "x") ∷ [])) ∷ (0, Put p 1 (Text (codes "x") ∷ Number (pos 1) ∷ [])) ∷ [])
+    ((0, Stream s (column [] (codes "int") ∷ [])) ∷ (0, Stream s (column (codes "select") (codes "int") ∷ [])) ∷ (0, Stream s (column a (codes "real") ∷ []))
+    ∷ (0, Stream s (column a (codes "int") ∷ column a (codes "text") ∷ [])) ∷ (0, Stream s seventeen)
+    ∷ (0, Stream s (take 16 seventeen)) ∷ (0, Stream p (column a (codes "text") ∷ column b (codes "int") ∷ [])) ∷ (0, Put p 1 (Number (pos 1) ∷ Text (codes "x") ∷ []))
+    ∷ (0, Put p 1 (Text (codes "x") ∷ Number (pos 1) ∷ [])) ∷ [])
     ≡ Refused BadColumns ∷ Refused BadColumns ∷ Refused BadColumns ∷ Refused BadColumns ∷ Refused BadColumns ∷ Done ∷ Done ∷ Refused WrongRow ∷ Done ∷ []
 unfolding same_name contents_at words.is_reserved
 columns = refl
@@ -333,14 +342,18 @@ grants_in_order = refl
 
 -- 30, 40, then 41 or 42; a time that was taken before is taken again, up to a heartbeat
 puts_in_order : replies_to language 0 (opening two)
-    ((0, Stream s numbers) ∷ (0, Put p 1 []) ∷ (0, Put s 5 (row 1)) ∷ (0, Put s 4 []) ∷ (0, Put s too_large []) ∷ (0, Put s 4 (row 2)) ∷ (0, Put s too_large (row 2)) ∷ (0, Put s 5 (row 2)) ∷ (0, Beat p 1) ∷ (0, Beat s 4) ∷ (0, Beat s too_large) ∷ (0, Beat s 5) ∷ (0, Put s 5 (row 3)) ∷ (0, Put s 6 (row 3)) ∷ (0, Beat s last_instant) ∷ (0, Beat s last_instant) ∷ (0, Beat s too_large) ∷ [])
-    ≡ Done ∷ Refused UnknownStream ∷ Done ∷ Refused WrongRow ∷ Refused WrongRow ∷ Refused Late ∷ Refused AtTooLarge ∷ Done ∷ Refused UnknownStream ∷ Refused Late ∷ Refused AtTooLarge ∷ Done ∷ Refused Late ∷ Done ∷ Done ∷ Refused Late ∷ Refused AtTooLarge ∷ []
+    ((0, Stream s numbers) ∷ (0, Put p 1 []) ∷ (0, Put s 5 (row 1)) ∷ (0, Put s 4 []) ∷ (0, Put s too_large []) ∷ (0, Put s 4 (row 2)) ∷ (0, Put s too_large (row 2))
+    ∷ (0, Put s 5 (row 2)) ∷ (0, Beat p 1) ∷ (0, Beat s 4) ∷ (0, Beat s too_large) ∷ (0, Beat s 5) ∷ (0, Put s 5 (row 3)) ∷ (0, Put s 6 (row 3))
+    ∷ (0, Beat s last_instant) ∷ (0, Beat s last_instant) ∷ (0, Beat s too_large) ∷ [])
+    ≡ Done ∷ Refused UnknownStream ∷ Done ∷ Refused WrongRow ∷ Refused WrongRow ∷ Refused Late ∷ Refused AtTooLarge ∷ Done ∷ Refused UnknownStream ∷ Refused
+    Late ∷ Refused AtTooLarge ∷ Done ∷ Refused Late ∷ Done ∷ Done ∷ Refused Late ∷ Refused AtTooLarge ∷ []
 unfolding same_name contents_at words.is_reserved
 puts_in_order = refl
 
 -- 21, 50, 56, 55, then the plan's; a drop makes room
 queries_in_order : replies_to language 0 (opening (tenant 97 (record { streams = 8; queries = 1; hold = 100; result = 1000 }) ∷ []))
-    ((0, Stream s numbers) ∷ (0, Query q (0 ∷ own_s)) ∷ (0, Query [] (0 ∷ [])) ∷ (0, Query q (0 ∷ 0 ∷ 115 ∷ 0 ∷ [])) ∷ (0, Query q (0 ∷ 0 ∷ 122 ∷ [])) ∷ (0, Query p (0 ∷ 0 ∷ 122 ∷ [])) ∷ (0, Drop p) ∷ (0, Drop q) ∷ (0, Query p (0 ∷ 0 ∷ 122 ∷ [])) ∷ (0, Query p (0 ∷ own_s)) ∷ [])
+    ((0, Stream s numbers) ∷ (0, Query q (0 ∷ own_s)) ∷ (0, Query [] (0 ∷ [])) ∷ (0, Query q (0 ∷ 0 ∷ 115 ∷ 0 ∷ [])) ∷ (0, Query q (0 ∷ 0 ∷ 122 ∷ []))
+    ∷ (0, Query p (0 ∷ 0 ∷ 122 ∷ [])) ∷ (0, Drop p) ∷ (0, Drop q) ∷ (0, Query p (0 ∷ 0 ∷ 122 ∷ [])) ∷ (0, Query p (0 ∷ own_s)) ∷ [])
     ≡ Done ∷ Based 0 ∷ Refused BadName ∷ Refused (BadQuery 3) ∷ Refused QueryExists ∷ Refused TooManyQueries ∷ Refused UnknownQuery ∷ Done ∷ Refused UnknownStream ∷ Based 0 ∷ []
 unfolding same_name contents_at words.is_reserved
 queries_in_order = refl
@@ -350,15 +363,19 @@ three_rows = (0, Stream s numbers) ∷ (0, Grant s b None) ∷ (0, Query p (10 �
 
 -- 57, 60, 62 of a fetch; 57, 60, 61 and 57, 60, 62 of an ack
 overrun_in_order : replies_to language 1 (opening (table 100 2))
-    ((0, Stream s numbers) ∷ (0, Grant s b None) ∷ (1, Query q (10 ∷ a_s)) ∷ (0, Put s 1 (row 1)) ∷ (0, Beat s 1) ∷ (1, Ack q 2) ∷ (0, Put s 3 (row 2)) ∷ (0, Put s 3 (row 3)) ∷ (1, Fetch q (Some 1)) ∷ (1, Ack q 99) ∷ (1, Ack q 1) ∷ (1, Fetch p (Some 1)) ∷ (1, Ack p 99) ∷ (1, Ack p 1) ∷ [])
+    ((0, Stream s numbers) ∷ (0, Grant s b None) ∷ (1, Query q (10 ∷ a_s)) ∷ (0, Put s 1 (row 1)) ∷ (0, Beat s 1) ∷ (1, Ack q 2) ∷ (0, Put s 3 (row 2))
+    ∷ (0, Put s 3 (row 3)) ∷ (1, Fetch q (Some 1)) ∷ (1, Ack q 99) ∷ (1, Ack q 1) ∷ (1, Fetch p (Some 1)) ∷ (1, Ack p 99) ∷ (1, Ack p 1) ∷ [])
     ≡ Based 0 ∷ Done ∷ Refused Overrun ∷ Refused Overrun ∷ Refused Overrun ∷ Refused UnknownQuery ∷ Refused UnknownQuery ∷ Refused UnknownQuery ∷ []
 unfolding same_name contents_at words.is_reserved
 overrun_in_order = refl
 
 -- 57, then 61 above the limit and 62 below the cursor, each at its bound; a fetch behind, one that ends at the cursor, one that ends at the limit
 acks_in_order : replies_to language 0 (opening two)
-    ((0, Stream s numbers) ∷ (0, Query q (2 ∷ own_s)) ∷ (0, Put s 5 (row 1)) ∷ (0, Beat s 8) ∷ (0, Ack q 10) ∷ (0, Ack q 6) ∷ (0, Ack q 6) ∷ (0, Ack q 5) ∷ (0, Fetch q (Some 5)) ∷ (0, Fetch q (Some 6)) ∷ (0, Fetch q None) ∷ (0, Fetch q (Some 99)) ∷ (0, Fetch q (Some 7)) ∷ (0, Ack q 9) ∷ (0, Ack q 8) ∷ (0, Fetch q None) ∷ [])
-    ≡ Done ∷ Based 0 ∷ Done ∷ Done ∷ Refused Ahead ∷ Done ∷ Done ∷ Refused Behind ∷ Refused Behind ∷ Blocks [] 6 ∷ Blocks (one 6 6 1 (one 7 7 1 [])) 9 ∷ Blocks (one 6 6 1 (one 7 7 1 [])) 9 ∷ Blocks (one 6 6 1 []) 7 ∷ Done ∷ Refused Behind ∷ Blocks [] 9 ∷ []
+    ((0, Stream s numbers) ∷ (0, Query q (2 ∷ own_s)) ∷ (0, Put s 5 (row 1)) ∷ (0, Beat s 8) ∷ (0, Ack q 10) ∷ (0, Ack q 6) ∷ (0, Ack q 6) ∷ (0, Ack q 5)
+    ∷ (0, Fetch q (Some 5)) ∷ (0, Fetch q (Some 6)) ∷ (0, Fetch q None) ∷ (0, Fetch q (Some 99)) ∷ (0, Fetch q (Some 7)) ∷ (0, Ack q 9) ∷ (0, Ack q 8)
+    ∷ (0, Fetch q None) ∷ [])
+    ≡ Done ∷ Based 0 ∷ Done ∷ Done ∷ Refused Ahead ∷ Done ∷ Done ∷ Refused Behind ∷ Refused Behind ∷ Blocks [] 6 ∷ Blocks (one 6 6 1 (one 7 7 1 [])) 9 ∷ Blocks
+    (one 6 6 1 (one 7 7 1 [])) 9 ∷ Blocks (one 6 6 1 []) 7 ∷ Done ∷ Refused Behind ∷ Blocks [] 9 ∷ []
 unfolding same_name contents_at words.is_reserved
 acks_in_order = refl
 
@@ -415,7 +432,9 @@ anew = refl
 
 -- a query over two streams begins at the slower one and goes as far as the slower one, whichever stands first; its windows are in the order of its inputs
 two_inputs : replies_to language 0 (opening two)
-    ((0, Stream s numbers) ∷ (0, Stream p numbers) ∷ (0, Put s 3 (row 1)) ∷ (0, Beat p 4) ∷ (0, Query q (0 ∷ 0 ∷ 115 ∷ 0 ∷ 0 ∷ 112 ∷ [])) ∷ (0, Query c (0 ∷ 0 ∷ 112 ∷ 0 ∷ 0 ∷ 115 ∷ [])) ∷ (0, Put s 9 (row 2)) ∷ (0, Beat s 20) ∷ (0, Fetch q None) ∷ (0, Fetch c None) ∷ (0, Ack q 6) ∷ (0, Put p 9 (row 3)) ∷ (0, Beat p 10) ∷ (0, Fetch q None) ∷ (0, Fetch c None) ∷ [])
+    ((0, Stream s numbers) ∷ (0, Stream p numbers) ∷ (0, Put s 3 (row 1)) ∷ (0, Beat p 4) ∷ (0, Query q (0 ∷ 0 ∷ 115 ∷ 0 ∷ 0 ∷ 112 ∷ []))
+    ∷ (0, Query c (0 ∷ 0 ∷ 112 ∷ 0 ∷ 0 ∷ 115 ∷ [])) ∷ (0, Put s 9 (row 2)) ∷ (0, Beat s 20) ∷ (0, Fetch q None) ∷ (0, Fetch c None) ∷ (0, Ack q 6)
+    ∷ (0, Put p 9 (row 3)) ∷ (0, Beat p 10) ∷ (0, Fetch q None) ∷ (0, Fetch c None) ∷ [])
     ≡ Done ∷ Done ∷ Done ∷ Done ∷ Based 3 ∷ Based 3 ∷ Done ∷ Done ∷ Blocks [] 5 ∷ Blocks [] 5 ∷ Refused Ahead ∷ Done ∷ Done ∷ Blocks (both 9 2 3 (both 10 2 3 [])) 11 ∷ Blocks (both 9 3 2 (both 10 3 2 [])) 11 ∷ []
 unfolding same_name contents_at words.is_reserved
 two_inputs = refl
@@ -441,7 +460,8 @@ before_the_base = refl
 -- LISTS AND VIEWS
 abbrev listed : List (ℕ × Command)
 listed =
-    (0, Stream s numbers) ∷ (0, Stream p numbers) ∷ (0, Beat p 4) ∷ (0, Grant p b None) ∷ (0, Query q (0 ∷ own_s)) ∷ (0, Put s 6 (row 1)) ∷ (0, Ack q 3) ∷ (1, Query c (0 ∷ 97 ∷ 112 ∷ [])) ∷ (0, Put p 8 (row 2)) ∷ (0, Lists) ∷ (1, Lists) ∷ []
+    (0, Stream s numbers) ∷ (0, Stream p numbers) ∷ (0, Beat p 4) ∷ (0, Grant p b None) ∷ (0, Query q (0 ∷ own_s)) ∷ (0, Put s 6 (row 1)) ∷ (0, Ack q 3)
+    ∷ (1, Query c (0 ∷ 97 ∷ 112 ∷ [])) ∷ (0, Put p 8 (row 2)) ∷ (0, Lists) ∷ (1, Lists) ∷ []
 
 -- a list: streams in order of making, queries in their canonical text with base and cursor
 own_list : replies_to language 0 (opening two) listed
@@ -465,8 +485,10 @@ readers_list = refl
 
 -- a reader's view: nothing before the grant, nothing of what is refused, nothing of another's queries
 readers_view : view 1 (nothing_made two)
-    ((0, Stream s numbers) ∷ (0, Stream p numbers) ∷ (0, Put s 1 (row 7)) ∷ (0, Beat s 1) ∷ (0, Grant s b None) ∷ (0, Grant s b None) ∷ (0, Query p (0 ∷ own_s)) ∷ (1, Fetch q None) ∷ (0, Put s 1 (row 7)) ∷ (0, Put s 2 (row 7)) ∷ (0, Put p 9 (row 8)) ∷ (0, Beat s 3) ∷ (0, Beat s 3) ∷ (2, Lists) ∷ [])
-    ≡ Appears s (record { owner = 0; schema = record { name = 118 ∷ []; kind = Integer } ∷ []; named = false; opened = 2 }) ∷ Own (Fetch q None) ∷ Comes (stream_id_of 0 s) (record { at = 2; row = row 7 }) ∷ Beats (stream_id_of 0 s) 3 ∷ []
+    ((0, Stream s numbers) ∷ (0, Stream p numbers) ∷ (0, Put s 1 (row 7)) ∷ (0, Beat s 1) ∷ (0, Grant s b None) ∷ (0, Grant s b None) ∷ (0, Query p (0 ∷ own_s))
+    ∷ (1, Fetch q None) ∷ (0, Put s 1 (row 7)) ∷ (0, Put s 2 (row 7)) ∷ (0, Put p 9 (row 8)) ∷ (0, Beat s 3) ∷ (0, Beat s 3) ∷ (2, Lists) ∷ [])
+    ≡ Appears s (record { owner = 0; schema = record { name = 118 ∷ []; kind = Integer } ∷ []; named = false; opened = 2 }) ∷ Own (Fetch q None) ∷ Comes
+    (stream_id_of 0 s) (record { at = 2; row = row 7 }) ∷ Beats (stream_id_of 0 s) 3 ∷ []
 unfolding same_name contents_at words.is_reserved
 readers_view = refl
 
@@ -485,7 +507,8 @@ abbrev two_row : List ℕ → ℕ → List Value
 two_row word n = Text word ∷ Number (pos n) ∷ []
 
 -- b sees v alone
-chosen_columns : replies_to language 1 (opening two) ((0, Stream p two_columns) ∷ (0, Grant p b (Some (v ∷ []))) ∷ (1, Query q (2 ∷ 97 ∷ 112 ∷ [])) ∷ (0, Put p 1 (two_row (codes "x") 1)) ∷ (0, Put p 1 (two_row (codes "y") 1)) ∷ (0, Beat p 1) ∷ (1, Fetch q None) ∷ (1, Lists) ∷ [])
+chosen_columns : replies_to language 1 (opening two) ((0, Stream p two_columns) ∷ (0, Grant p b (Some (v ∷ []))) ∷ (1, Query q (2 ∷ 97 ∷ 112 ∷ []))
+    ∷ (0, Put p 1 (two_row (codes "x") 1)) ∷ (0, Put p 1 (two_row (codes "y") 1)) ∷ (0, Beat p 1) ∷ (1, Fetch q None) ∷ (1, Lists) ∷ [])
     ≡ Based 0 ∷ Blocks (both 1 1 1 []) 2 ∷ Listed (record {
       streams = [];
       readable = record { owner = a; stream = p; columns = Some (v ∷ []); opened = 2 } ∷ [];
@@ -502,13 +525,16 @@ chosen_view = refl
 
 -- the columns are in the order of the grant, and not in the stream's
 chosen_order : view 1 (nothing_made two) ((0, Stream p two_columns) ∷ (0, Grant p b (Some (v ∷ k ∷ []))) ∷ (0, Put p 1 (two_row (codes "x") 1)) ∷ [])
-    ≡ Appears p (record { owner = 0; schema = record { name = v; kind = Integer } ∷ record { name = k; kind = Letters } ∷ []; named = true; opened = 0 }) ∷ Comes (stream_id_of 0 p) (record { at = 1; row = Number (pos 1) ∷ Text (codes "x") ∷ [] }) ∷ []
+    ≡ Appears p (record { owner = 0; schema = record { name = v; kind = Integer } ∷ record { name = k; kind = Letters } ∷ []; named = true; opened = 0 }) ∷ Comes
+    (stream_id_of 0 p) (record { at = 1; row = Number (pos 1) ∷ Text (codes "x") ∷ [] }) ∷ []
 unfolding same_name contents_at words.is_reserved
 chosen_order = refl
 
 -- 30, 31, 33, 34, 32
 chosen_in_order : replies_to language 0 (opening two)
-    ((0, Stream p two_columns) ∷ (0, Grant s c (Some [])) ∷ (0, Grant p c (Some [])) ∷ (0, Grant p a (Some [])) ∷ (0, Grant p b (Some [])) ∷ (0, Grant p b (Some (v ∷ v ∷ []))) ∷ (0, Grant p b (Some (q ∷ []))) ∷ (0, Grant p b (Some (v ∷ k ∷ []))) ∷ (0, Grant p b (Some [])) ∷ (0, Grant p b (Some (k ∷ []))) ∷ [])
+    ((0, Stream p two_columns) ∷ (0, Grant s c (Some [])) ∷ (0, Grant p c (Some [])) ∷ (0, Grant p a (Some [])) ∷ (0, Grant p b (Some []))
+    ∷ (0, Grant p b (Some (v ∷ v ∷ []))) ∷ (0, Grant p b (Some (q ∷ []))) ∷ (0, Grant p b (Some (v ∷ k ∷ []))) ∷ (0, Grant p b (Some []))
+    ∷ (0, Grant p b (Some (k ∷ []))) ∷ [])
     ≡ Done ∷ Refused UnknownStream ∷ Refused UnknownTenant ∷ Refused SelfGrant ∷ Refused BadGrantColumns ∷ Refused BadGrantColumns ∷ Refused BadGrantColumns ∷ Done ∷ Refused BadGrantColumns ∷ Refused AlreadyGranted ∷ []
 unfolding same_name contents_at words.is_reserved
 chosen_in_order = refl
@@ -530,7 +556,8 @@ revoked_holds = refl
 
 -- 63 of a fetch and of an ack until it is dropped; it stays in the list, and a new grant wakes it not
 revoked_query : replies_to language 1 (opening two)
-    ((0, Stream s numbers) ∷ (0, Grant s b None) ∷ (1, Query q (0 ∷ a_s)) ∷ (0, Put s 1 (row 1)) ∷ (0, Beat s 1) ∷ (0, Revoke s b) ∷ (1, Fetch q None) ∷ (1, Ack q 1) ∷ (1, Lists) ∷ (0, Grant s b None) ∷ (1, Fetch q None) ∷ (1, Drop q) ∷ (1, Query q (0 ∷ a_s)) ∷ [])
+    ((0, Stream s numbers) ∷ (0, Grant s b None) ∷ (1, Query q (0 ∷ a_s)) ∷ (0, Put s 1 (row 1)) ∷ (0, Beat s 1) ∷ (0, Revoke s b) ∷ (1, Fetch q None) ∷ (1, Ack q 1)
+    ∷ (1, Lists) ∷ (0, Grant s b None) ∷ (1, Fetch q None) ∷ (1, Drop q) ∷ (1, Query q (0 ∷ a_s)) ∷ [])
     ≡ Based 0 ∷ Refused Revoked ∷ Refused Revoked ∷ Listed (record { streams = []; readable = []; queries = record { name = q; text = 83 ∷ 0 ∷ a_s; base = 0; next = 0 } ∷ [] })
     ∷ Refused Revoked ∷ Done ∷ Based 2 ∷ []
 unfolding same_name contents_at words.is_reserved
@@ -552,7 +579,8 @@ made tenant command told = record { tenant = tenant; command = command; told = t
 
 -- b reads one of two columns; what stands in the other is the word
 abbrev with_word : List ℕ → List Event
-with_word word = made 0 (Stream p two_columns) Done ∷ made 0 (Grant p b (Some (v ∷ []))) Done ∷ made 1 (Query q (2 ∷ 97 ∷ 112 ∷ [])) (Based 0) ∷ made 0 (Put p 1 (two_row word 1)) Done ∷ made 0 (Beat p 1) Done ∷ made 1 (Fetch q None) (Blocks (one 1 1 1 []) 2) ∷ made 1 (Drop q) (Refused NoMemory) ∷ []
+with_word word = made 0 (Stream p two_columns) Done ∷ made 0 (Grant p b (Some (v ∷ []))) Done ∷ made 1 (Query q (2 ∷ 97 ∷ 112 ∷ [])) (Based 0) ∷ made 0
+    (Put p 1 (two_row word 1)) Done ∷ made 0 (Beat p 1) Done ∷ made 1 (Fetch q None) (Blocks (one 1 1 1 []) 2) ∷ made 1 (Drop q) (Refused NoMemory) ∷ []
 
 abbrev word : List ℕ
 word = codes "x"

@@ -114,7 +114,8 @@ stays_grant d g (Some index) =
     (λ o m h. some_find_push (is_of o m) (namespace_at d index).granted g ∙ or_more _ _ h)
     (λ o m. same_times _ _ (opened_grant d index g o m))
 
-later_by : (d : List Namespace) (u : ℕ) (n : List ℕ) (at o : ℕ) (m : List ℕ) → opened_at d u n ≤ at → (b : Bool) → same_stream_id (stream_id_of u n) (stream_id_of o m) ≡ b → opened_at d o m ≤ (if b then at else opened_at d o m)
+later_by : (d : List Namespace) (u : ℕ) (n : List ℕ) (at o : ℕ) (m : List ℕ) → opened_at d u n ≤ at → (b : Bool)
+    → same_stream_id (stream_id_of u n) (stream_id_of o m) ≡ b → opened_at d o m ≤ (if b then at else opened_at d o m)
 later_by d u n at o m le true is = subst (λ (p : StreamId). opened_at d p.owner p.name ≤ at) (stream_id_eq (stream_id_of u n) (stream_id_of o m) is) le
 later_by d u n at o m le false is = omega arith
 

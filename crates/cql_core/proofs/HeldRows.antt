@@ -27,9 +27,11 @@ is_needed : (stubs : List Stub) → (greatest_need stubs ≡ 0) ⊎ IsNeeded (gr
 is_needed [] = inl refl
 is_needed (stub ∷ stubs) = needed_by (need stub.held) (greatest_need stubs) _ stub stubs refl refl (is_needed stubs) _ refl
 
-held_by : (s : State) (stream_id : StreamId) (n : ℕ) → greatest_need (stubs_on stream_id s.queries) ≡ n → AllByRecursion (λ stub. need stub.held ≤ n) (stubs_on stream_id s.queries) × ((n ≡ 0) ⊎ IsNeeded n (stubs_on stream_id s.queries))
+held_by : (s : State) (stream_id : StreamId) (n : ℕ) → greatest_need (stubs_on stream_id s.queries) ≡ n
+    → AllByRecursion (λ stub. need stub.held ≤ n) (stubs_on stream_id s.queries) × ((n ≡ 0) ⊎ IsNeeded n (stubs_on stream_id s.queries))
 held_by s stream_id n e =
-    subst (λ n. AllByRecursion (λ stub. need stub.held ≤ n) (stubs_on stream_id s.queries) × ((n ≡ 0) ⊎ IsNeeded n (stubs_on stream_id s.queries))) e (all_below (stubs_on stream_id s.queries), is_needed (stubs_on stream_id s.queries))
+    subst (λ n. AllByRecursion (λ stub. need stub.held ≤ n) (stubs_on stream_id s.queries) × ((n ≡ 0) ⊎ IsNeeded n (stubs_on stream_id s.queries))) e
+    (all_below (stubs_on stream_id s.queries), is_needed (stubs_on stream_id s.queries))
 
 pub number_of_rows : (o : Option Stream) (g n : ℕ) → option_map (λ v. g) o ≡ Some n → g ≡ n
 number_of_rows None g n e = absurd cc

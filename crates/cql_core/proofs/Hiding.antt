@@ -31,7 +31,8 @@ none_by false o p e = refl
 module _ (t : ℕ) (d : List Namespace) (u : ℕ) (stream : List ℕ) (at : ℕ) (row other : List Value) (told : reply_on_streams d u (put stream at row) ≡ reply_on_streams d u (put stream at other)) where
   put_directory : directory_after d u (Put stream at row) ≡ directory_after d u (Put stream at other)
   put_directory =
-      let same : is_none (refused_at d u (put stream at row)) ≡ is_none (refused_at d u (put stream at other)) = sym (accepted_none (refused_at d u (put stream at row))) ∙ ap is_accepted told ∙ accepted_none (refused_at d u (put stream at other)) in
+      let same : is_none (refused_at d u (put stream at row)) ≡ is_none (refused_at d u (put stream at other)) = sym (accepted_none (refused_at d u (put stream at row)))
+      ∙ ap is_accepted told ∙ accepted_none (refused_at d u (put stream at other)) in
       ap (λ b. if b then done d u (put stream at row) else d) (none_by (has_tenant d u) (refused_at d u (put stream at row)) (refused_at d u (put stream at other)) same)
 
 hidden_directory : (t : ℕ) (d : List Namespace) (u : ℕ) (c e : Command) → IsHiddenIn t d u c e → directory_after d u c ≡ directory_after d u e

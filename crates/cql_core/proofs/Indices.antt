@@ -34,7 +34,10 @@ get_change {A} f (x ∷ xs) n i j s h k = by (λ i j h k. get_change f xs n i j 
     first zero (suc j) e k = (s, k, sym (λ m. if suc_first j m then record s { item = f s.item } else s))
     first (suc i) j e k = absurd cc
 
-    later : ((i j : ℕ) → index_of xs n ≡ Some i → slice_get (change_named f n xs) j ≡ Some s → (old : Named A) × (slice_get xs j ≡ Some old) × (s ≡ (if eqb j i then record old { item = f old.item } else old))) → (p : Option ℕ) (i j : ℕ) → option_map suc p ≡ Some i → index_of xs n ≡ p → slice_get (x ∷ change_named f n xs) j ≡ Some s → (old : Named A) × (slice_get (x ∷ xs) j ≡ Some old) × (s ≡ (if eqb j i then record old { item = f old.item } else old))
+    later : ((i j : ℕ) → index_of xs n ≡ Some i → slice_get (change_named f n xs) j ≡ Some s → (old : Named A) × (slice_get xs j ≡ Some old)
+        × (s ≡ (if eqb j i then record old { item = f old.item } else old))) → (p : Option ℕ) (i j : ℕ) → option_map suc p ≡ Some i → index_of xs n ≡ p
+        → slice_get (x ∷ change_named f n xs) j ≡ Some s → (old : Named A) × (slice_get (x ∷ xs) j ≡ Some old)
+        × (s ≡ (if eqb j i then record old { item = f old.item } else old))
     later rest None i j e q k = absurd cc
     later rest (Some p) zero j e q k = absurd cc
     later rest (Some p) (suc i) zero e q k = (x, refl, cc k ∙ sym (λ m. if first_suc i m then record x { item = f x.item } else x))
@@ -43,7 +46,9 @@ get_change {A} f (x ∷ xs) n i j s h k = by (λ i j h k. get_change f xs n i j 
         let r = rest i j (q ∙ ap (λ m. Some m) same) k in
         (r.0, r.1, r.2 ∙ (λ m. if sym (suc_eqb j i (eqb j i) refl) m then record r.0 { item = f r.0.item } else r.0))
 
-    by : ((i j : ℕ) → index_of xs n ≡ Some i → slice_get (change_named f n xs) j ≡ Some s → (old : Named A) × (slice_get xs j ≡ Some old) × (s ≡ (if eqb j i then record old { item = f old.item } else old))) → (b : Bool) → (if b then Some 0 else option_map suc (index_of xs n)) ≡ Some i → (j : ℕ) → slice_get (if b then record x { item = f x.item } ∷ xs else x ∷ change_named f n xs) j ≡ Some s
+    by : ((i j : ℕ) → index_of xs n ≡ Some i → slice_get (change_named f n xs) j ≡ Some s → (old : Named A) × (slice_get xs j ≡ Some old)
+        × (s ≡ (if eqb j i then record old { item = f old.item } else old))) → (b : Bool) → (if b then Some 0 else option_map suc (index_of xs n)) ≡ Some i → (j : ℕ)
+        → slice_get (if b then record x { item = f x.item } ∷ xs else x ∷ change_named f n xs) j ≡ Some s
         → (old : Named A) × (slice_get (x ∷ xs) j ≡ Some old) × (s ≡ (if eqb j i then record old { item = f old.item } else old))
     by rest true e j k = first i j e k
     by rest false e j k = later rest (index_of xs n) i j e refl k

@@ -28,7 +28,8 @@ module _ (t : ℕ) (d : List Namespace) (f : StreamId → List ℕ) (hold c : �
   abbrev over : BoundInput → ProjectedStub
   over i = stub_over hold c i (rows_on i.stream_id came)
 
-  one_held : (inputs : List BoundInput) (j : BoundInput) (s : SimStub) → FullStub t d inputs s → f j.stream_id ≡ s.projection → projected_stub s ≡ over j → IsHeld hold c j (rows_on j.stream_id came) (wide_at f j) (stub_of s)
+  one_held : (inputs : List BoundInput) (j : BoundInput) (s : SimStub) → FullStub t d inputs s → f j.stream_id ≡ s.projection → projected_stub s ≡ over j
+      → IsHeld hold c j (rows_on j.stream_id came) (wide_at f j) (stub_of s)
   one_held inputs j s full projection e =
       let window : s.window ≡ j.window = ap (λ (x : ProjectedStub). x.held.window) e ∙ over_window hold c j (rows_on j.stream_id came) in
       record {
@@ -50,7 +51,8 @@ module _ (t : ℕ) (d : List Namespace) (f : StreamId → List ℕ) (hold c : �
       let tail : map projected_stub ss ≡ map over js = cc in
       (one_held inputs j s full.0 set.0.1 head, are_held inputs is js ss full.1 set.1 tail)
 
-  or_held : (plan : BoundPlan) (o : Option (List SimStub)) → FullOr t d f plan o → option_map (map projected_stub) o ≡ Some (map over plan.inputs) → AreHeld hold c came plan.inputs (map (wide_at f) plan.inputs) (unwrap_or (option_map (map stub_of) o) [])
+  or_held : (plan : BoundPlan) (o : Option (List SimStub)) → FullOr t d f plan o → option_map (map projected_stub) o ≡ Some (map over plan.inputs)
+      → AreHeld hold c came plan.inputs (map (wide_at f) plan.inputs) (unwrap_or (option_map (map stub_of) o) [])
   or_held plan None full e = absurd cc
   or_held plan (Some ss) full e = let same : map projected_stub ss ≡ map over plan.inputs = cc in are_held plan.inputs plan.plan.inputs plan.inputs ss full.0 full.1 same
 
@@ -74,7 +76,8 @@ module _ (language : Language) (is : IsLanguage language) (t : ℕ) (s : State) 
   first_or other [] = other
   first_or other (x ∷ xs) = x
 
-  kept_along : (qs : List (Named SimQuery)) (queries_tied : List (Named SoloQuery)) → AllFull t s.namespaces qs → each projected_live qs ≡ each (trimmed k.quotas.hold) queries_tied → AreKept k.quotas.hold (each live_of qs) queries_tied
+  kept_along : (qs : List (Named SimQuery)) (queries_tied : List (Named SoloQuery)) → AllFull t s.namespaces qs
+      → each projected_live qs ≡ each (trimmed k.quotas.hold) queries_tied → AreKept k.quotas.hold (each live_of qs) queries_tied
   kept_along [] [] full e = tt
   kept_along [] (a ∷ rest) full e = absurd cc
   kept_along (q ∷ qs) [] full e = absurd cc

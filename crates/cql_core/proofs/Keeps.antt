@@ -60,7 +60,8 @@ grant_push d g x (Some index) r o n e =
     grow_at (λ h. grant_of h o n ≡ Some x) (λ h. grant_of h o n ≡ Some x) d index (with_grant g (namespace_at d index))
     (λ e. find-append (is_of o n) (namespace_at d index).granted (g ∷ []) ∙ ap (λ a. option_or a (find (is_of o n) (g ∷ []))) e) (λ h e. e) r e
 
-grant_shared : (d : List Namespace) (g : grant) (index : Option ℕ) (r o : ℕ) (n : List ℕ) → is_some (grant_of (namespace_at d r) o n) ≡ true → granted_projection (grant_of (namespace_at (grant_to d g index) r) o n) ≡ granted_projection (grant_of (namespace_at d r) o n)
+grant_shared : (d : List Namespace) (g : grant) (index : Option ℕ) (r o : ℕ) (n : List ℕ) → is_some (grant_of (namespace_at d r) o n) ≡ true
+    → granted_projection (grant_of (namespace_at (grant_to d g index) r) o n) ≡ granted_projection (grant_of (namespace_at d r) o n)
 grant_shared d g index r o n some =
     let x = some_is (grant_of (namespace_at d r) o n) some in
     ap granted_projection (grant_push d g x.0 index r o n x.1) ∙ sym (ap granted_projection x.1)
@@ -98,7 +99,8 @@ own_after d u Lists o n some = refl
 projection_by : (b : Bool) (d d' : List Namespace) (t : ℕ) (p : StreamId) → (is_some (stream_at d t p.name) ≡ true → own_projection (stream_at d' t p.name) ≡ own_projection (stream_at d t p.name))
     → (is_some (grant_of (namespace_at d t) p.owner p.name) ≡ true → granted_projection (grant_of (namespace_at d' t) p.owner p.name) ≡ granted_projection (grant_of (namespace_at d t) p.owner p.name))
     → is_some (if b then own_found d t p.name else granted_found d t p.owner p.name) ≡ true
-    → (if b then own_projection (stream_at d' t p.name) else granted_projection (grant_of (namespace_at d' t) p.owner p.name)) ≡ (if b then own_projection (stream_at d t p.name) else granted_projection (grant_of (namespace_at d t) p.owner p.name))
+    → (if b then own_projection (stream_at d' t p.name) else granted_projection (grant_of (namespace_at d' t) p.owner p.name))
+    ≡ (if b then own_projection (stream_at d t p.name) else granted_projection (grant_of (namespace_at d t) p.owner p.name))
 projection_by true d d' t p own granted some = own (sym (some_map _ (stream_at d t p.name)) ∙ some)
 projection_by false d d' t p own granted some = granted (sym (some_map _ (grant_of (namespace_at d t) p.owner p.name)) ∙ some)
 
@@ -171,7 +173,8 @@ put_row (Some s) at row h = (s, refl, by (is_row_of s.schema row) refl h)
 has_own : (s : stream) (row : List Value) → length row ≡ length s.schema → AllByRecursion (λ column. column < length row) (whole_projection (length s.schema))
 has_own s row e = subst (λ n. AllByRecursion (λ column. column < n) (whole_projection (length s.schema))) (sym e) (shown_within s.schema None refl)
 
-has_granted : (d : List Namespace) → Reached d → (t u : ℕ) (n : List ℕ) (s : stream) (x : Element) → stream_at d u n ≡ Some s → length x.row ≡ length s.schema → (o : Option grant) → grant_of (namespace_at d t) u n ≡ o → HasProjection (granted_projection o) x
+has_granted : (d : List Namespace) → Reached d → (t u : ℕ) (n : List ℕ) (s : stream) (x : Element) → stream_at d u n ≡ Some s → length x.row ≡ length s.schema
+    → (o : Option grant) → grant_of (namespace_at d t) u n ≡ o → HasProjection (granted_projection o) x
 has_granted d r t u n s x there size None is = tt
 has_granted d r t u n s x there size (Some g) is =
     let old = of_streams d r t u n g is in

@@ -35,7 +35,8 @@ use Rattle.cql_core.specs.Language.{Language}
 use Rattle.cql_core.specs.Directory.{directory_after, reply_on_streams}
 use Rattle.cql_core.specs.Lookup.{found_by, readable_to, opened_in}
 use Rattle.cql_core.specs.View.{Gone, Comes, Beats, appears, is_tenant, seen_of_other}
-use Rattle.cql_core.specs.Solo.{SoloQuery, SoloState, solo_opening, tenant_in, granted_in, stream_in, found_in, is_given, shown_stream, own_meaning, open_granted, with_given, without_given, without_granted, solo_done, solo_from}
+use Rattle.cql_core.specs.Solo.{SoloQuery, SoloState, solo_opening, tenant_in, granted_in, stream_in, found_in, is_given, shown_stream, own_meaning, open_granted, with_given, without_given}
+use Rattle.cql_core.specs.Solo.{without_granted, solo_done, solo_from}
 use Rattle.cql_tenants.proofs.Grants.{find_passes, left, no_grants}
 use Rattle.cql_core.proofs.Keys.{name_eq, stream_id_eq, same_nat, nat_same, turned, and_none, or_none, far_key}
 use Rattle.cql_core.proofs.Look.{opened_time, opened_make, opened_grant, granted_push, namespace_same, namespace_other, part_kept, get_map, map_set, map_push, position_map, any_push}
@@ -118,7 +119,8 @@ module _ (t : ℕ) (d : List Namespace) (k : SoloState) (tied : TiedNamespaces t
   pub same_tenant : (name : List ℕ) → tenant_named d t name ≡ tenant_in t k name
   same_tenant name =
       let own : (namespace_at d t).name ≡ get_or k.names t [] = sym (get_map (λ h. h.name) d t no_namespace [] refl) ∙ ap (λ ns. get_or ns t []) tied.names in
-      let other : position (λ h. same_name name h.name) d ≡ position (λ other. same_name name other) k.names = sym (position_map (λ h. h.name) (λ other. same_name name other) d) ∙ ap (position (λ other. same_name name other)) tied.names in
+      let other : position (λ h. same_name name h.name) d ≡ position (λ other. same_name name other) k.names =
+      sym (position_map (λ h. h.name) (λ other. same_name name other) d) ∙ ap (position (λ other. same_name name other)) tied.names in
       λ i. if same_name name (own i) then Some t else other i
 
   found_at : (o : Option ℕ) (name : List ℕ) → found_of d t o name ≡ option_and_then (λ index. stream_in t k (stream_id_of index name)) o
@@ -285,12 +287,14 @@ beat_there : (o : Option stream) (at : ℕ) → is_accepted (done_unless (beat_r
 beat_there None at fine = absurd cc
 beat_there (Some s) at fine = refl
 
-reader_parts : (same fine given : Bool) → is_accepted (done_unless (if same then Some refused.SelfGrant else if fine then (if given then Some refused.AlreadyGranted else None) else Some refused.BadGrantColumns)) ≡ true → same ≡ false
+reader_parts : (same fine given : Bool) → is_accepted (done_unless (if same then Some
+    refused.SelfGrant else if fine then (if given then Some refused.AlreadyGranted else None) else Some refused.BadGrantColumns)) ≡ true → same ≡ false
 reader_parts true fine given h = absurd cc
 reader_parts false fine given h = refl
 
 -- an accepted grant is of a stream that is there
-grant_parts : (d : List Namespace) (u : ℕ) (n : List ℕ) (columns : Option (List (List ℕ))) (to : List ℕ) (o : Option stream) → is_accepted (done_unless (grant_refused u o columns (has_grant d u n) (tenant_named d u to))) ≡ true
+grant_parts : (d : List Namespace) (u : ℕ) (n : List ℕ) (columns : Option (List (List ℕ))) (to : List ℕ) (o : Option stream)
+    → is_accepted (done_unless (grant_refused u o columns (has_grant d u n) (tenant_named d u to))) ≡ true
     → (v : stream) × (o ≡ Some v) × (is_accepted (done_unless (grantee_refused u v.schema columns (has_grant d u n) (tenant_named d u to))) ≡ true)
 grant_parts d u n columns to None fine = absurd cc
 grant_parts d u n columns to (Some v) fine = (v, refl, fine)
@@ -342,7 +346,8 @@ given_left p q (g ∷ gs) = by (given_left p q gs) (same_stream_id q g) (same_st
   where
     by : list_any (λ g. same_stream_id p g) (filter (λ g. not (same_stream_id q g)) gs) ≡ (if same_stream_id p q then false else list_any (λ g. same_stream_id p g) gs)
         → (b c e : Bool) → same_stream_id q g ≡ b → same_stream_id p g ≡ c → same_stream_id p q ≡ e
-        → list_any (λ g. same_stream_id p g) (if not b then g ∷ filter (λ g. not (same_stream_id q g)) gs else filter (λ g. not (same_stream_id q g)) gs) ≡ (if e then false else (c || list_any (λ g. same_stream_id p g) gs))
+        → list_any (λ g. same_stream_id p g) (if not b then g ∷ filter (λ g. not (same_stream_id q g)) gs else filter (λ g. not (same_stream_id q g)) gs)
+        ≡ (if e then false else (c || list_any (λ g. same_stream_id p g) gs))
     by rest true c true bs cs es = rest ∙ (λ i. if es i then false else list_any (λ g. same_stream_id p g) gs)
     by rest true true false bs cs es = absurd (let h : true ≡ false = sym cs ∙ sym (ap (same_stream_id p) (stream_id_eq q g bs)) ∙ es in cc)
     by rest true false false bs cs es = rest ∙ (λ i. if es i then false else list_any (λ g. same_stream_id p g) gs)
@@ -354,7 +359,8 @@ given_left p q (g ∷ gs) = by (given_left p q gs) (same_stream_id q g) (same_st
 granted_left_by : (d : List Namespace) (index u : ℕ) (n : List ℕ) (r o : ℕ) (m : List ℕ) → index < length d → (b : Bool) → eqb r index ≡ b
     → is_some (grant_of (namespace_at (change_namespace (without_grant u n) d index) r) o m) ≡ (if b && (eqb o u && same_name m n) then false else is_some (grant_of (namespace_at d r) o m))
 granted_left_by d index u n r o m lt true is =
-    subst (λ (r : ℕ). is_some (grant_of (namespace_at (change_namespace (without_grant u n) d index) r) o m) ≡ (if eqb o u && same_name m n then false else is_some (grant_of (namespace_at d r) o m))) (sym (same_nat r index is))
+    subst (λ (r : ℕ). is_some (grant_of (namespace_at (change_namespace (without_grant u n) d index) r) o m)
+    ≡ (if eqb o u && same_name m n then false else is_some (grant_of (namespace_at d r) o m))) (sym (same_nat r index is))
     (ap (λ h. is_some (grant_of h o m)) (namespace_same d index _ lt) ∙ ap is_some (left u o n m (namespace_at d index)) ∙ out (eqb o u && same_name m n))
   where
     out : (b : Bool) → is_some (if b then None else grant_of (namespace_at d index) o m) ≡ (if b then false else is_some (grant_of (namespace_at d index) o m))
@@ -394,7 +400,8 @@ module _ (language : Language) (t : ℕ) (d : List Namespace) (k : SoloState) (t
     given = λ index name. ap (λ gs. is_some (find (is_of t name) gs)) (part_kept (λ h. h.granted) d t h granted index) ∙ tied.given index name;
   }
 
-  own_make : (name : List ℕ) (schema : List Column) → TiedNamespaces t (change_namespace (with_stream name schema) d t) (record k { streams = k.streams ++ record { name = name; item = record { schema = schema; clock = 0 } } ∷ [] })
+  own_make : (name : List ℕ) (schema : List Column) → TiedNamespaces t (change_namespace (with_stream name schema) d t)
+      (record k { streams = k.streams ++ record { name = name; item = record { schema = schema; clock = 0 } } ∷ [] })
   own_make name schema =
       own_streams (with_stream name schema (namespace_at d t)) _ refl refl refl (ap (λ ss. ss ++ record { name = name; item = record { schema = schema; clock = 0 } } ∷ []) tied.streams)
       (seen_same d _ (opened_make d t name schema) (namespace_at d t).granted)
@@ -404,7 +411,16 @@ module _ (language : Language) (t : ℕ) (d : List Namespace) (k : SoloState) (t
   seen_far n at there [] h = refl
   seen_far n at there (g ∷ gs) h =
       let far = far_key (stream_id_of t n) (stream_id_of g.owner g.stream) (turned g.owner t false h.0) in
-      λ i. record { name = g.stream; item = record { owner = g.owner; schema = g.schema; named = g.named; opened = (opened_time d t n at here there g.owner g.stream ∙ (λ i. if far i then at else opened_at d g.owner g.stream)) i } } ∷ seen_far n at there gs h.1 i
+      λ i. record {
+        name = g.stream;
+        item = record {
+          owner = g.owner;
+          schema = g.schema;
+          named = g.named;
+          opened =
+              (opened_time d t n at here there g.owner g.stream ∙ (λ i. if far i then at else opened_at d g.owner g.stream)) i;
+        };
+      } ∷ seen_far n at there gs h.1 i
 
   own_time_on : (n : List ℕ) (at : ℕ) → is_some (stream_at d t n) ≡ true → TiedNamespaces t (change_namespace (with_time n at) d t) (record k { streams = change_named (opens at) n k.streams })
   own_time_on n at there =
@@ -418,7 +434,8 @@ module _ (language : Language) (t : ℕ) (d : List Namespace) (k : SoloState) (t
       ∙ (λ i. tied.given r m i || (eqb r index && (nat_same t i && same_name m n)))
       ∙ sym (any_push (λ g. same_stream_id (stream_id_of r m) g) k.given (stream_id_of index n))
 
-  own_grant_at : (n : List ℕ) (columns : Option (List (List ℕ))) (index : ℕ) → index < length d → eqb index t ≡ false → TiedNamespaces t (change_namespace (with_grant (new_grant d t n columns)) d index) (record k { given = k.given ++ stream_id_of index n ∷ [] })
+  own_grant_at : (n : List ℕ) (columns : Option (List (List ℕ))) (index : ℕ) → index < length d → eqb index t ≡ false
+      → TiedNamespaces t (change_namespace (with_grant (new_grant d t n columns)) d index) (record k { given = k.given ++ stream_id_of index n ∷ [] })
   own_grant_at n columns index lt far =
       let h : Namespace = with_grant (new_grant d t n columns) (namespace_at d index) in
       let stays : namespace_at (set d index h) t ≡ namespace_at d t = namespace_other d index t h (turned index t false far) in
@@ -473,11 +490,13 @@ module _ (language : Language) (t : ℕ) (d : List Namespace) (k : SoloState) (t
       let same = ap is_accepted (same_grant t d k tied n to columns) in
       own_by _ _ same _ _ (λ fine.
       let parts = grant_parts d t n columns to (stream_at d t n) (same ∙ fine) in
-      subst (λ (o : Option ℕ). TiedNamespaces t (grant_to d (new_grant d t n columns) (tenant_named d t to)) (record k { given = with_given n o k.given })) (same_tenant t d k tied to) (own_grant n to parts.0.schema columns _ refl parts.2))
+      subst (λ (o : Option ℕ). TiedNamespaces t (grant_to d (new_grant d t n columns) (tenant_named d t to)) (record k { given = with_given n o k.given }))
+      (same_tenant t d k tied to) (own_grant n to parts.0.schema columns _ refl parts.2))
   own_namespaces (Revoke n to) =
       let same = ap is_accepted (same_revoke t d k tied n to) in
       own_by _ _ same _ _ (λ fine.
-      subst (λ (o : Option ℕ). TiedNamespaces t (revoke_from d t n (tenant_named d t to)) (record k { given = without_given n o k.given })) (same_tenant t d k tied to) (own_revoke n to _ refl (revoke_parts _ _ (same ∙ fine))))
+      subst (λ (o : Option ℕ). TiedNamespaces t (revoke_from d t n (tenant_named d t to)) (record k { given = without_given n o k.given })) (same_tenant t d k tied to)
+      (own_revoke n to _ refl (revoke_parts _ _ (same ∙ fine))))
   own_namespaces (Put n at row) =
       let same = ap is_accepted (same_put t d k tied n at row) in
       own_by _ _ same _ _ (λ fine. requeried t _ (record k { streams = change_named (opens at) n k.streams }) (own_time_on n at (put_there _ at row (same ∙ fine))) _)
@@ -519,7 +538,16 @@ module _ (language : Language) (t : ℕ) (d : List Namespace) (k : SoloState) (t
 
     seen_at : (g : grant) (b : Bool) → same_stream_id (stream_id_of u n) (stream_id_of g.owner g.stream) ≡ b
         → grant_seen later g ≡ record { name = g.stream; item = record { owner = g.owner; schema = g.schema; named = g.named; opened = (if b then at else opened_at d g.owner g.stream) } }
-    seen_at g b is = λ i. record { name = g.stream; item = record { owner = g.owner; schema = g.schema; named = g.named; opened = (opened_time d u n at here there g.owner g.stream ∙ (λ i. if is i then at else opened_at d g.owner g.stream)) i } }
+    seen_at g b is = λ i. record {
+      name = g.stream;
+      item = record {
+        owner = g.owner;
+        schema = g.schema;
+        named = g.named;
+        opened =
+            (opened_time d u n at here there g.owner g.stream ∙ (λ i. if is i then at else opened_at d g.owner g.stream)) i;
+      };
+    }
 
     unseen_by : (gs : List grant) → is_some (find (is_of u n) gs) ≡ false → map (grant_seen later) gs ≡ map (grant_seen d) gs
     unseen_by [] none = refl
@@ -559,13 +587,16 @@ module _ (language : Language) (t : ℕ) (d : List Namespace) (k : SoloState) (t
   other_beat n at true true fine read = seen_time n (at + 1) (beat_there _ at fine)
 
   -- a grant of another's
-  other_given : (n : List ℕ) (columns : Option (List (List ℕ))) (index : ℕ) → index < length d → (r : ℕ) (m : List ℕ) → is_some (grant_of (namespace_at (change_namespace (with_grant (new_grant d u n columns)) d index) r) t m) ≡ is_given k m r
+  other_given : (n : List ℕ) (columns : Option (List (List ℕ))) (index : ℕ) → index < length d → (r : ℕ) (m : List ℕ)
+      → is_some (grant_of (namespace_at (change_namespace (with_grant (new_grant d u n columns)) d index) r) t m) ≡ is_given k m r
   other_given n columns index lt r m =
       granted_push d index (new_grant d u n columns) r t m lt ∙ (λ i. tied.given r m i || (eqb r index && (away i && same_name m n)))
       ∙ ap (λ b. (is_given k m r) || b) (and_none (eqb r index)) ∙ or_none (is_given k m r)
 
-  granted_at : (n : List ℕ) (columns : Option (List (List ℕ))) (index : ℕ) → index < length d → (gs : List (Named StreamView)) → map (grant_seen d) (namespace_at (change_namespace (with_grant (new_grant d u n columns)) d index) t).granted ≡ gs
-      → AreOthers t (namespace_at (change_namespace (with_grant (new_grant d u n columns)) d index) t).granted → TiedNamespaces t (change_namespace (with_grant (new_grant d u n columns)) d index) (record k { readable = gs })
+  granted_at : (n : List ℕ) (columns : Option (List (List ℕ))) (index : ℕ) → index < length d → (gs : List (Named StreamView))
+      → map (grant_seen d) (namespace_at (change_namespace (with_grant (new_grant d u n columns)) d index) t).granted ≡ gs
+      → AreOthers t (namespace_at (change_namespace (with_grant (new_grant d u n columns)) d index) t).granted
+      → TiedNamespaces t (change_namespace (with_grant (new_grant d u n columns)) d index) (record k { readable = gs })
   granted_at n columns index lt gs seen apart =
       let h : Namespace = with_grant (new_grant d u n columns) (namespace_at d index) in
       record {
@@ -604,13 +635,15 @@ module _ (language : Language) (t : ℕ) (d : List Namespace) (k : SoloState) (t
       let stays : (namespace_at (change_namespace (with_grant (new_grant d u n columns)) d index) t).granted ≡ (namespace_at d t).granted = ap (λ h. h.granted) (namespace_other d index t _ (turned index t false far)) in
       granted_at n columns index lt k.readable (ap (map (grant_seen d)) stays ∙ tied.readable) (subst (AreOthers t) (sym stays) tied.apart)
 
-  grant_named : (n to : List ℕ) (schema : List Column) (columns : Option (List (List ℕ))) (o : Option ℕ) → is_some (stream_at d u n) ≡ true → tenant_named d u to ≡ o → is_accepted (done_unless (grantee_refused u schema columns (has_grant d u n) o)) ≡ true
+  grant_named : (n to : List ℕ) (schema : List Column) (columns : Option (List (List ℕ))) (o : Option ℕ) → is_some (stream_at d u n) ≡ true → tenant_named d u to ≡ o
+      → is_accepted (done_unless (grantee_refused u schema columns (has_grant d u n) o)) ≡ true
       → TiedNamespaces t (grant_to d (new_grant d u n columns) o) (solo_from language t k (if is_tenant t o then appears u n columns (stream_at d u n) else []))
   grant_named n to schema columns None there is fine = absurd cc
   grant_named n to schema columns (Some index) there is fine = grant_by n columns index (named_within d u to index here is) there _ refl
 
   other_grant : (n to : List ℕ) (columns : Option (List (List ℕ))) (b : Bool) → is_accepted (done_unless (grant_refused u (stream_at d u n) columns (has_grant d u n) (tenant_named d u to))) ≡ b
-      → TiedNamespaces t (if b then grant_to d (new_grant d u n columns) (tenant_named d u to) else d) (solo_from language t k (if b && is_tenant t (tenant_named d u to) then appears u n columns (stream_at d u n) else []))
+      → TiedNamespaces t (if b then grant_to d (new_grant d u n columns) (tenant_named d u to) else d)
+      (solo_from language t k (if b && is_tenant t (tenant_named d u to) then appears u n columns (stream_at d u n) else []))
   other_grant n to columns false fine = tied
   other_grant n to columns true fine =
       let parts = grant_parts d u n columns to (stream_at d u n) fine in
@@ -640,7 +673,8 @@ module _ (language : Language) (t : ℕ) (d : List Namespace) (k : SoloState) (t
       → TiedNamespaces t (change_namespace (without_grant u n) d index) (solo_from language t k (if c then Gone (stream_id_of u n) ∷ [] else []))
   revoke_by n index lt true same =
       let less : (namespace_at (change_namespace (without_grant u n) d index) t).granted ≡ filter (λ g. not (is_of u n g)) (namespace_at d t).granted =
-      subst (λ (p : ℕ). (namespace_at (change_namespace (without_grant u n) d index) p).granted ≡ filter (λ g. not (is_of u n g)) (namespace_at d p).granted) (same_nat index t same) (ap (λ h. h.granted) (namespace_same d index _ lt)) in
+      subst (λ (p : ℕ). (namespace_at (change_namespace (without_grant u n) d index) p).granted ≡ filter (λ g. not (is_of u n g)) (namespace_at d p).granted)
+      (same_nat index t same) (ap (λ h. h.granted) (namespace_same d index _ lt)) in
       requeried t _ (record k { readable = without_granted (stream_id_of u n) k.readable })
       (revoked_at n index lt _ (ap (map (grant_seen d)) less ∙ seen_left d u n (namespace_at d t).granted ∙ ap (without_granted (stream_id_of u n)) tied.readable)
       (subst (AreOthers t) (sym less) (others_left t _ (namespace_at d t).granted tied.apart)))
@@ -660,7 +694,8 @@ module _ (language : Language) (t : ℕ) (d : List Namespace) (k : SoloState) (t
   other_revoke n to true fine = revoke_named n to (tenant_named d u to) refl (revoke_parts _ _ fine)
 
   -- the directory does what is told to be done
-  other_by : (r : Option StreamRefusal) (d' : List Namespace) (k' : SoloState) → TiedNamespaces t (if is_accepted (done_unless r) then d' else d) k' → TiedNamespaces t (if is_none (if has_tenant d u then r else Some refused.UnknownTenant) then d' else d) k'
+  other_by : (r : Option StreamRefusal) (d' : List Namespace) (k' : SoloState) → TiedNamespaces t (if is_accepted (done_unless r) then d' else d) k'
+      → TiedNamespaces t (if is_none (if has_tenant d u then r else Some refused.UnknownTenant) then d' else d) k'
   other_by r d' k' h = subst (λ (b : Bool). TiedNamespaces t (if b then d' else d) k') (sym (is_done (has_tenant d u) r (in_place d u here))) h
 
   made_by : (name : List ℕ) (schema : List Column) (b : Bool) → TiedNamespaces t (if b then change_namespace (with_stream name schema) d u else d) k

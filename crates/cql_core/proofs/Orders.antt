@@ -16,14 +16,16 @@ use Rattle.cql_value.specs.Taking.{put_refused, beat_refused}
 use Rattle.cql_value.specs.Refusal.{clock_refusal}
 use Rattle.cql_core.specs.declared.command.Command.TheVariants.{Query}
 use Rattle.cql_core.specs.declared.refusal.Refusal.{Refusal}
-use Rattle.cql_core.specs.declared.refusal.Refusal.TheVariants.{StreamExists, BadName, BadColumns, TooManyStreams, UnknownStream, UnknownTenant, AlreadyGranted, SelfGrant, BadGrantColumns, NotGranted, WrongRow, Late, AtTooLarge, BadQuery, TooManyQueries, QueryExists, UnknownQuery, Overrun, Ahead, Behind, Revoked}
+use Rattle.cql_core.specs.declared.refusal.Refusal.TheVariants.{StreamExists, BadName, BadColumns, TooManyStreams, UnknownStream, UnknownTenant, AlreadyGranted, SelfGrant, BadGrantColumns}
+use Rattle.cql_core.specs.declared.refusal.Refusal.TheVariants.{NotGranted, WrongRow, Late, AtTooLarge, BadQuery, TooManyQueries, QueryExists, UnknownQuery, Overrun, Ahead, Behind, Revoked}
 use Rattle.cql_core.specs.Columns.{schema_of}
 use Rattle.cql_core.specs.Bound.{BoundInput, BoundPlan}
 use Rattle.cql_core.specs.ReplyModel.{ReplyModel, Done, Based, Blocks, Refused, done_unless}
 use Rattle.cql_core.specs.Language.{Language, through_projections, contents_at, content_of, AreAlike, IsLanguage}
 use Rattle.cql_core.specs.Checks.{check_query, check_fetch, check_ack, check_drop, reply_unless}
 use Rattle.cql_core.specs.Solo.{SoloQuery, SoloState, tenant_in, is_given, plan_in, limit_to, passes, rows_on, whole, blocks_over, meaning_of_list, meaning_of_fetch, meaning_of_ack, meaning}
-use Rattle.cql_core.specs.Order.{Check, check, TellsFirst, Tells, stream_checks, is_itself, is_given_to, grant_checks, revoke_checks, no_stream, time_checks, row_checks, query_checks, no_query, gone_check, overrun_check, behind_check, ShowsWhole, OrderLaw, IsOrderLaw}
+use Rattle.cql_core.specs.Order.{Check, check, TellsFirst, Tells, stream_checks, is_itself, is_given_to, grant_checks, revoke_checks, no_stream, time_checks, row_checks, query_checks}
+use Rattle.cql_core.specs.Order.{no_query, gone_check, overrun_check, behind_check, ShowsWhole, OrderLaw, IsOrderLaw}
 use Rattle.cql_tenants.specs.Checks.{grant_refused, taken_refused}
 
 -- what is told by checks
@@ -31,7 +33,8 @@ abbrev first : List Check → ReplyModel → ReplyModel
 first [] told = told
 first (c ∷ cs) told = if c.fault then Refused c.refusal else first cs told
 
-tells_one : (fault : Bool) (refusal : Refusal) (cs : List Check) (otherwise : ReplyModel) → TellsFirst cs otherwise (first cs otherwise) → TellsFirst (check fault refusal ∷ cs) otherwise (if fault then Refused refusal else first cs otherwise)
+tells_one : (fault : Bool) (refusal : Refusal) (cs : List Check) (otherwise : ReplyModel) → TellsFirst cs otherwise (first cs otherwise)
+    → TellsFirst (check fault refusal ∷ cs) otherwise (if fault then Refused refusal else first cs otherwise)
 tells_one true refusal cs otherwise rest = (λ h. refl, λ h. absurd cc)
 tells_one false refusal cs otherwise rest = (λ h. absurd cc, λ h. rest)
 
@@ -80,7 +83,8 @@ revoke_checked None tenant k name index = refl
 revoke_checked (Some s) tenant k name None = refl
 revoke_checked (Some s) tenant k name (Some index) = by (index == tenant) (is_given k name index)
   where
-    by : (itself given : Bool) → done_unless (if itself then Some refused.NotGranted else (if given then None else Some refused.NotGranted)) ≡ (if itself then Refused NotGranted else (if not given then Refused NotGranted else Done))
+    by : (itself given : Bool) → done_unless (if itself then Some refused.NotGranted else (if given then None else Some refused.NotGranted))
+        ≡ (if itself then Refused NotGranted else (if not given then Refused NotGranted else Done))
     by true given = refl
     by false true = refl
     by false false = refl
@@ -141,7 +145,8 @@ module _ (q : SoloQuery) (result next : ℕ) where
   nothing_by c le false h = refl
 
   all_by : (c : ℕ) → q.base < c → (b : Bool) → nat_lt q.base c ≡ b
-      → (if b then Some (through_projections q.plan.plan.inputs (map (content_of c) (map (whole q) q.plan.inputs))) else None) ≡ Some (through_projections q.plan.plan.inputs (map (λ i. content i.window c [] (rows_on i.stream_id q.came)) q.plan.inputs))
+      → (if b then Some (through_projections q.plan.plan.inputs (map (content_of c) (map (whole q) q.plan.inputs))) else None) ≡ Some
+      (through_projections q.plan.plan.inputs (map (λ i. content i.window c [] (rows_on i.stream_id q.came)) q.plan.inputs))
   all_by c lt true h = ap (λ xs. Some (through_projections q.plan.plan.inputs xs)) (whole_contents c q.plan.inputs)
   all_by c lt false h = absurd (grind (arith, nat_tests))
 
@@ -168,7 +173,8 @@ module _ (language : Language) (is : IsLanguage language) (t : ℕ) (k : SoloSta
   told_by : (cs : List Check) (otherwise told : ReplyModel) → told ≡ first cs otherwise → Tells t k cs otherwise (if is_there then told else Refused UnknownTenant)
   told_by cs otherwise told e = tells (check (not is_there) UnknownTenant ∷ cs) otherwise _ (there_first is_there cs otherwise told e)
 
-  query_same : (name text : List ℕ) (otherwise : ReplyModel) → check_query true None false true (plan_in language t k text) (limit_to t k) ≡ otherwise → Tells t k (query_checks language k name text) otherwise (meaning language t k (Query name text))
+  query_same : (name text : List ℕ) (otherwise : ReplyModel) → check_query true None false true (plan_in language t k text) (limit_to t k) ≡ otherwise
+      → Tells t k (query_checks language k name text) otherwise (meaning language t k (Query name text))
   query_same name text otherwise e =
       told_by (query_checks language k name text) otherwise _
       (query_checked (is_name name) (language.bad_byte text) (is_some (find_named k.queries name)) (nat_lt (length k.queries) k.quotas.queries) (plan_in language t k text) (limit_to t k) otherwise e)
@@ -192,14 +198,16 @@ module _ (language : Language) (is : IsLanguage language) (t : ℕ) (k : SoloSta
     fetch_nothing = λ name until e. told_by no_query Done _ (ap (λ q. meaning_of_fetch language t k q until) e);
     fetch = λ name q p e shows.
         told_by (gone_check q ∷ overrun_check k q ∷ []) (Blocks (language.blocks_of p) (limit_to t k q.plan)) _
-        (ap (λ q. meaning_of_fetch language t k q None) e ∙ whole_fetch_checked q.gone (passes k.quotas.hold q) (blocks_over language k.quotas.result q (limit_to t k q.plan)) ∙ shown q (limit_to t k q.plan) p shows (gone_check q ∷ overrun_check k q ∷ []));
+        (ap (λ q. meaning_of_fetch language t k q None) e ∙ whole_fetch_checked q.gone (passes k.quotas.hold q)
+        (blocks_over language k.quotas.result q (limit_to t k q.plan)) ∙ shown q (limit_to t k q.plan) p shows (gone_check q ∷ overrun_check k q ∷ []));
     fetch_until = λ name until q p e shows.
         told_by (gone_check q ∷ overrun_check k q ∷ behind_check q until ∷ []) (Blocks (language.blocks_of p) (min (limit_to t k q.plan) until)) _
         (ap (λ q. meaning_of_fetch language t k q (Some until)) e ∙ fetch_checked q.gone (passes k.quotas.hold q) (nat_lt until q.cursor) (blocks_over language k.quotas.result q (min (limit_to t k q.plan) until))
         ∙ shown q (min (limit_to t k q.plan) until) p shows (gone_check q ∷ overrun_check k q ∷ behind_check q until ∷ []));
     ack_nothing = λ name to e. told_by no_query Done _ (ap (λ q. meaning_of_ack t k q to) e);
     ack = λ name to q e.
-        told_by (gone_check q ∷ overrun_check k q ∷ check (nat_lt (limit_to t k q.plan) to) Ahead ∷ behind_check q to ∷ []) Done _ (ap (λ q. meaning_of_ack t k q to) e ∙ ack_checked q.gone (passes k.quotas.hold q) (nat_lt (limit_to t k q.plan) to) (nat_lt to q.cursor));
+        told_by (gone_check q ∷ overrun_check k q ∷ check (nat_lt (limit_to t k q.plan) to) Ahead ∷ behind_check q to ∷ []) Done _
+        (ap (λ q. meaning_of_ack t k q to) e ∙ ack_checked q.gone (passes k.quotas.hold q) (nat_lt (limit_to t k q.plan) to) (nat_lt to q.cursor));
     drop = λ name. told_by (check (is_none (find_named k.queries name)) UnknownQuery ∷ []) Done _ (drop_checked (find_named k.queries name));
     pin = λ q result end. (whole_pin q result end, shows_whole q result end);
     list = told_by [] (meaning_of_list k) _ refl;

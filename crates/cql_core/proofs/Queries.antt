@@ -110,7 +110,13 @@ follow language t k [] name q here h = there language t k name q here
 follow language t k (e ∷ es) name q here h =
     let both = either_false (drops language t k name e) _ h in
     follow language t (solo_after language t k e) es name (asked_later q (unwrap_or (ack_of language t k name e) q.cursor) (brought language t k e) (loses q.plan e)) (follow_one language t k name q here e both.0) both.1
-    ∙ (λ i. Some (record q { cursor = last_ack language t (solo_after language t k e) name (unwrap_or (ack_of language t k name e) q.cursor) es; came = append_assoc q.came (brought language t k e) (elements_in language t (solo_after language t k e) es) i; gone = or_assoc q.gone (loses q.plan e) (is_lost q.plan es) i }))
+    ∙ (λ i. Some (record q {
+      cursor = last_ack language t (solo_after language t k e) name (unwrap_or (ack_of language t k name e) q.cursor) es;
+      came =
+          append_assoc q.came (brought language t k e) (elements_in language t (solo_after language t k e) es) i;
+      gone =
+          or_assoc q.gone (loses q.plan e) (is_lost q.plan es) i;
+    }))
 
 -- no query has the name of one that is accepted
 new_by : (there named : Bool) (bad : Option ℕ) (exists room : Bool) (planned : Result BoundPlan Refusal) (base_of : BoundPlan → ℕ)
@@ -128,7 +134,8 @@ none_of (Some x) h = absurd cc
 registered : (language : Language) (t : ℕ) (k : SoloState) (name text : List ℕ) (plan : BoundPlan) → plan_in language t k text ≡ Ok plan → is_accepted (meaning language t k (Query name text)) ≡ true
     → find_named (solo_after language t k (Own (Query name text))).queries name ≡ Some (new_solo_query (limit_to t k) (language.spelled text) plan)
 registered language t k name text plan planned fine =
-    let free : find_named k.queries name ≡ None = none_of _ (new_by (nat_lt t (length k.names)) (is_name name) (language.bad_byte text) (is_some (find_named k.queries name)) (nat_lt (length k.queries) k.quotas.queries) (plan_in language t k text) (limit_to t k) fine) in
+    let free : find_named k.queries name ≡ None = none_of _ (new_by (nat_lt t (length k.names)) (is_name name) (language.bad_byte text)
+    (is_some (find_named k.queries name)) (nat_lt (length k.queries) k.quotas.queries) (plan_in language t k text) (limit_to t k) fine) in
     (λ i. find_named (if fine i then solo_done language t k (Query name text) else k).queries name)
     ∙ (λ i. find_named (with_solo_query (limit_to t k) name (language.spelled text) (planned i) k.queries) name)
     ∙ find_new k.queries name (new_solo_query (limit_to t k) (language.spelled text) plan) free
@@ -136,7 +143,8 @@ registered language t k name text plan planned fine =
 pub queries_law : (language : Language) → IsQueryLaw language
 queries_law language table t before after name text plan planned fine undropped =
     let k : SoloState = solo_from language t (solo_opening table t) before in
-    let now : solo_from language t (solo_opening table t) (before ++ Own (Query name text) ∷ []) ≡ solo_after language t k (Own (Query name text)) = solo_append language t (solo_opening table t) before (Own (Query name text) ∷ []) in
+    let now : solo_from language t (solo_opening table t) (before ++ Own (Query name text) ∷ []) ≡ solo_after language t k (Own (Query name text)) =
+    solo_append language t (solo_opening table t) before (Own (Query name text) ∷ []) in
     let base : ℕ = limit_to t k plan in
     ap (λ (k' : SoloState). find_named k'.queries name) (solo_append language t (solo_opening table t) before (Own (Query name text) ∷ after))
     ∙ follow language t (solo_after language t k (Own (Query name text))) after name (new_solo_query (limit_to t k) (language.spelled text) plan) (registered language t k name text plan planned fine)

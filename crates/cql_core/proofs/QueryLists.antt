@@ -41,11 +41,13 @@ pub model_gone : (held : Holding) (q : QueryState) → q.revoked ≡ true → is
 model_gone held q gone = λ k. is_none (if gone k then None else Some (stub_models held q.plan.inputs q.stub_refs))
 
 -- a query by its name, seen
-pub found_model : (held : Holding) (queries : List (List (Named QueryState))) (user : ℕ) (name : List ℕ) → find_named (queries_at (queries_model held queries) user) name ≡ option_map (query_model held) (find_named (states_at queries user) name)
+pub found_model : (held : Holding) (queries : List (List (Named QueryState))) (user : ℕ) (name : List ℕ)
+    → find_named (queries_at (queries_model held queries) user) name ≡ option_map (query_model held) (find_named (states_at queries user) name)
 found_model held queries user name = ap (λ qs. find_named qs name) (model_at held queries user) ∙ find_each (query_model held) (states_at queries user) name
 
 -- whether there is a query of the name
-pub asked : (held : Holding) (queries : List (List (Named QueryState))) (user : ℕ) (name : List ℕ) → is_some (find_named (queries_at (queries_model held queries) user) name) ≡ is_some (find_named (states_at queries user) name)
+pub asked : (held : Holding) (queries : List (List (Named QueryState))) (user : ℕ) (name : List ℕ)
+    → is_some (find_named (queries_at (queries_model held queries) user) name) ≡ is_some (find_named (states_at queries user) name)
 asked held queries user name = ap is_some (found_model held queries user name) ∙ by (find_named (states_at queries user) name)
   where
     by : (o : Option QueryState) → is_some (option_map (query_model held) o) ≡ is_some o
@@ -62,7 +64,8 @@ linked_at namespaces held [] t h = tt
 linked_at namespaces held (x ∷ rest) zero h = h.0
 linked_at namespaces held (x ∷ rest) (suc t) h = linked_at namespaces held rest t h.1
 
-pub linked_set : (namespaces : List Namespace) (held : Holding) (queries : List (List (Named QueryState))) (t : ℕ) (qs : List (Named QueryState)) → AllLinked namespaces held queries → AreLinked namespaces held qs → AllLinked namespaces held (set queries t qs)
+pub linked_set : (namespaces : List Namespace) (held : Holding) (queries : List (List (Named QueryState))) (t : ℕ) (qs : List (Named QueryState))
+    → AllLinked namespaces held queries → AreLinked namespaces held qs → AllLinked namespaces held (set queries t qs)
 linked_set namespaces held [] t qs h k = h
 linked_set namespaces held (x ∷ rest) zero qs h k = (k, h.1)
 linked_set namespaces held (x ∷ rest) (suc t) qs h k = (h.0, linked_set namespaces held rest t qs h.1 k)
@@ -75,7 +78,8 @@ linked_removed namespaces held (q ∷ qs) n h = by (linked_removed namespaces he
     by rest true = h.1
     by rest false = (h.0, rest)
 
-pub linked_push : (namespaces : List Namespace) (held : Holding) (qs : List (Named QueryState)) (q : Named QueryState) → AreLinked namespaces held qs → IsLinked namespaces held q.item → AreLinked namespaces held (qs ++ q ∷ [])
+pub linked_push : (namespaces : List Namespace) (held : Holding) (qs : List (Named QueryState)) (q : Named QueryState) → AreLinked namespaces held qs
+    → IsLinked namespaces held q.item → AreLinked namespaces held (qs ++ q ∷ [])
 linked_push namespaces held [] q h l = (l, tt)
 linked_push namespaces held (x ∷ qs) q h l = (h.0, linked_push namespaces held qs q h.1 l)
 
@@ -106,7 +110,8 @@ pub beside_then : (namespaces : List Namespace) (old new : AllStores) → IsShap
 beside_then namespaces old new shape b = record { owners = shape.owners ∙ b.owners; streams = λ o. shape.streams o ∙ b.streams o }
 
 -- linked stubs stand on streams that are there
-pub links_streams : (namespaces : List Namespace) (stores : AllStores) (held : Holding) → IsBeside namespaces stores → (c : ℕ) (is : List Input) (ts : List (List ColumnType)) (ps : List StubRef) → AreLinks namespaces held c is ts ps → AreStreams stores ps
+pub links_streams : (namespaces : List Namespace) (stores : AllStores) (held : Holding) → IsBeside namespaces stores
+    → (c : ℕ) (is : List Input) (ts : List (List ColumnType)) (ps : List StubRef) → AreLinks namespaces held c is ts ps → AreStreams stores ps
 links_streams namespaces stores held beside c [] [] [] h = tt
 links_streams namespaces stores held beside c [] [] (p ∷ ps) h = absurd h
 links_streams namespaces stores held beside c [] (t ∷ ts) ps h = absurd h
@@ -120,4 +125,5 @@ query_streams namespaces stores beside q linked = by q.revoked refl
   where
     by : (b : Bool) → q.revoked ≡ b → AreStreams stores (stands_at q)
     by true gone = subst (λ b. AreStreams stores (if b then [] else q.stub_refs)) (sym gone) tt
-    by false live = subst (λ b. AreStreams stores (if b then [] else q.stub_refs)) (sym live) (links_streams namespaces stores (held_at stores) beside q.cursor q.plan.inputs (ports q.plan) q.stub_refs (linked.links live))
+    by false live = subst (λ b. AreStreams stores (if b then [] else q.stub_refs)) (sym live)
+        (links_streams namespaces stores (held_at stores) beside q.cursor q.plan.inputs (ports q.plan) q.stub_refs (linked.links live))

@@ -63,12 +63,14 @@ all_remove f n (q ∷ qs) h = by (all_remove f n qs h.1) (same_name n q.name)
     by rest false = (h.0, rest)
 
 -- a query whose cursor moves
-pub all_moved : (f : StreamId → Option StreamView) (n : List ℕ) (to : ℕ) (qs : List (Named SoloQuery)) → AllReach f qs → ((q : SoloQuery) → find_named qs n ≡ Some q → (q.gone ≡ false → InputsReach f q.cursor q.plan.inputs) → q.gone ≡ false → InputsReach f to q.plan.inputs)
+pub all_moved : (f : StreamId → Option StreamView) (n : List ℕ) (to : ℕ) (qs : List (Named SoloQuery)) → AllReach f qs
+    → ((q : SoloQuery) → find_named qs n ≡ Some q → (q.gone ≡ false → InputsReach f q.cursor q.plan.inputs) → q.gone ≡ false → InputsReach f to q.plan.inputs)
     → AllReach f (change_named (moved to) n qs)
 all_moved f n to [] h reach = h
 all_moved f n to (q ∷ qs) h reach = by (all_moved f n to qs h.1) (same_name n q.name) refl
   where
-    by : (((a : SoloQuery) → find_named qs n ≡ Some a → (a.gone ≡ false → InputsReach f a.cursor a.plan.inputs) → a.gone ≡ false → InputsReach f to a.plan.inputs) → AllReach f (change_named (moved to) n qs)) → (b : Bool) → same_name n q.name ≡ b
+    by : (((a : SoloQuery) → find_named qs n ≡ Some a → (a.gone ≡ false → InputsReach f a.cursor a.plan.inputs) → a.gone ≡ false → InputsReach f to a.plan.inputs)
+        → AllReach f (change_named (moved to) n qs)) → (b : Bool) → same_name n q.name ≡ b
         → AllReach f (if b then record q { item = moved to q.item } ∷ qs else q ∷ change_named (moved to) n qs)
     by rest true is = (reach q.item (λ i. if is i then Some q.item else find_named qs n) h.0, h.1)
     by rest false is = (h.0, rest (λ a found. reach a ((λ i. if is i then Some q.item else find_named qs n) ∙ found)))
@@ -108,7 +110,8 @@ inputs_some f n [] h = h
 inputs_some f n (i ∷ is) h = (reach_some n (f i.stream_id) h.0, inputs_some f n is h.1)
 
 -- an input whose stream is found is read
-input_reach : (d : List Namespace) (t : ℕ) (i : Input) (o : Option StreamView) → found_by d t i.owner i.stream ≡ o → is_some (option_map visible_alone_of o) ≡ true → Reaches 0 (readable_to d t (stream_id_of (owner_of o) i.stream))
+input_reach : (d : List Namespace) (t : ℕ) (i : Input) (o : Option StreamView) → found_by d t i.owner i.stream ≡ o → is_some (option_map visible_alone_of o) ≡ true
+    → Reaches 0 (readable_to d t (stream_id_of (owner_of o) i.stream))
 input_reach d t i None is some = absurd cc
 input_reach d t i (Some s) is some = let n : 0 ≤ s.opened = omega arith in subst (Reaches 0) (sym (found_readable d t i.owner i.stream s is)) n
 
@@ -179,4 +182,14 @@ module _ (f : StreamId → Option StreamView) (p : StreamId) (x : Element) (hold
   pub fed_all : ((n : ℕ) → Reaches n (f p) → n ≤ x.at) → (qs : List (Named SoloQuery)) → AllReach f qs → each (put_live_shown p x) (each (trimmed hold) qs) ≡ each (trimmed hold) (each (with_came p x) qs)
   fed_all later [] h = refl
   fed_all later (q ∷ qs) h =
-      λ j. record { name = q.name; item = record { plan = q.item.plan; text = q.item.text; base = q.item.base; cursor = q.item.cursor; stubs = fed_stubs later q.item.cursor q.item.came q.item.plan.inputs q.item.gone h.0 j } } ∷ fed_all later qs h.1 j
+      λ j. record {
+        name = q.name;
+        item = record {
+          plan = q.item.plan;
+          text = q.item.text;
+          base = q.item.base;
+          cursor = q.item.cursor;
+          stubs =
+              fed_stubs later q.item.cursor q.item.came q.item.plan.inputs q.item.gone h.0 j;
+        };
+      } ∷ fed_all later qs h.1 j

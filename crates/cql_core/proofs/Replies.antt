@@ -88,7 +88,15 @@ none_asked (x ∷ table) (suc t) = none_asked table t
 pub opening_tied : (table : List Tenant) (t : ℕ) → Tied t (opening table) (solo_opening table t)
 opening_tied table t = record {
   namespaces = namespaces_tied_opening table t;
-  queries_tied = record { beside = length-map {B = List (Named Live)} table (λ x. []) ∙ sym (length-map table (λ x. empty_namespace x.name x.quotas)); sims = []; left = none_asked table t; queries = refl; full = tt; reach = tt };
+  queries_tied = record {
+    beside = length-map {B = List (Named Live)} table (λ x. []) ∙ sym (length-map table (λ x. empty_namespace x.name x.quotas));
+    sims = [];
+    left =
+        none_asked table t;
+    queries = refl;
+    full = tt;
+    reach = tt;
+  };
   reached = reached_opening table;
 }
 

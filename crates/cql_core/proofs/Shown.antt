@@ -24,7 +24,8 @@ use Rattle.cql_core.specs.Machine.{is_over}
 use Rattle.cql_core.specs.Solo.{SoloQuery, rows_on, with_gone}
 use Rattle.cql_core.specs.Trimmed.{narrow_held}
 use Rattle.cql_core.proofs.Keys.{stream_id_eq, or_false}
-use Rattle.cql_core.proofs.Simulation.{SimStub, SimQuery, ProjectedStub, ProjectedLive, stub_of, projected_stub, projected_live, stub_over, trimmed, wide_inputs, new_sim_stub, put_sim_on, put_sim, ack_sim_stub, ack_sim, revoke_sim}
+use Rattle.cql_core.proofs.Simulation.{SimStub, SimQuery, ProjectedStub, ProjectedLive, stub_of, projected_stub, projected_live, stub_over, trimmed, wide_inputs, new_sim_stub, put_sim_on}
+use Rattle.cql_core.proofs.Simulation.{put_sim, ack_sim_stub, ack_sim, revoke_sim}
 use Rattle.cql_core.proofs.Stubs.{put_shown, put_live_shown, ack_shown, ack_live_shown}
 use Rattle.cql_core.proofs.Grows.{Reaches}
 use Rattle.cql_core.proofs.Reach.{InputsReach}
@@ -113,7 +114,8 @@ fed_window x h = by h.overrun (nat_lt (length h.content + length h.unseen) h.hol
 
 module _ (t : ℕ) (d : List Namespace) (p : StreamId) (x : Element) (has : Reaches 0 (readable_to d t p) → HasProjection (projection_in d t p) x) where
   put_projected_by : (inputs : List BoundInput) (s : SimStub) → FullStub t d inputs s → (b : Bool) → same_stream_id s.stream_id p ≡ b
-      → projected_stub (if b then record s { held = fed x s.held } else s) ≡ (if b then record (projected_stub s) { held = fed (narrowed (projection_in d t p) x) (narrow_held s.projection s.window s.held) } else projected_stub s)
+      → projected_stub (if b then record s { held = fed x s.held } else s)
+      ≡ (if b then record (projected_stub s) { held = fed (narrowed (projection_in d t p) x) (narrow_held s.projection s.window s.held) } else projected_stub s)
   put_projected_by inputs s full true is =
       let same : s.projection ≡ projection_in d t p = full.projection ∙ ap (projection_in d t) (stream_id_eq s.stream_id p is) in
       λ i. record { stream_id = s.stream_id; held = (narrow_fed s.projection s.window x s.held ∙ (λ i. fed (narrowed (same i) x) (narrow_held s.projection s.window s.held))) i }
@@ -155,7 +157,17 @@ module _ (t : ℕ) (d : List Namespace) (p : StreamId) (x : Element) (has : Reac
   pub put_projected_queries : (qs : List (Named SimQuery)) → AllFull t d qs → each projected_live (each (put_sim p x) qs) ≡ each (put_live_shown p (narrowed (projection_in d t p) x)) (each projected_live qs)
   put_projected_queries [] full = refl
   put_projected_queries (q ∷ qs) full =
-      λ i. record { name = q.name; item = record { plan = q.item.plan; text = q.item.text; base = q.item.base; cursor = q.item.cursor; stubs = put_projected_or q.item.projection_of q.item.plan q.item.stubs full.0 i } } ∷ put_projected_queries qs full.1 i
+      λ i. record {
+        name = q.name;
+        item = record {
+          plan = q.item.plan;
+          text = q.item.text;
+          base = q.item.base;
+          cursor = q.item.cursor;
+          stubs =
+              put_projected_or q.item.projection_of q.item.plan q.item.stubs full.0 i;
+        };
+      } ∷ put_projected_queries qs full.1 i
 
   pub put_full_queries : (qs : List (Named SimQuery)) → AllFull t d qs → AllFull t d (each (put_sim p x) qs)
   put_full_queries [] full = full
@@ -189,7 +201,8 @@ module _ (t : ℕ) (d : List Namespace) (to : ℕ) where
   ack_full_all inputs [] full = full
   ack_full_all inputs (s ∷ ss) full = (ack_full_one inputs s full.0, ack_full_all inputs ss full.1)
 
-  ack_projected_or : (f : StreamId → List ℕ) (plan : BoundPlan) (o : Option (List SimStub)) → FullOr t d f plan o → option_map (map projected_stub) (option_map (map (ack_sim_stub to)) o) ≡ option_map (map (ack_shown to)) (option_map (map projected_stub) o)
+  ack_projected_or : (f : StreamId → List ℕ) (plan : BoundPlan) (o : Option (List SimStub)) → FullOr t d f plan o
+      → option_map (map projected_stub) (option_map (map (ack_sim_stub to)) o) ≡ option_map (map (ack_shown to)) (option_map (map projected_stub) o)
   ack_projected_or f plan None full = refl
   ack_projected_or f plan (Some ss) full = ap (λ l. Some l) (ack_projected_all plan.inputs ss full.0)
 
@@ -207,7 +220,8 @@ module _ (t : ℕ) (d : List Namespace) (to : ℕ) where
     where
       by : each projected_live (change_named (ack_sim to) n qs) ≡ change_named (ack_live_shown to) n (each projected_live qs) → (b : Bool)
           → each projected_live (if b then record q { item = ack_sim to q.item } ∷ qs else q ∷ change_named (ack_sim to) n qs)
-          ≡ (if b then record { name = q.name; item = ack_live_shown to (projected_live q.item) } ∷ each projected_live qs else record { name = q.name; item = projected_live q.item } ∷ change_named (ack_live_shown to) n (each projected_live qs))
+          ≡ (if b then record { name = q.name; item = ack_live_shown to (projected_live q.item) } ∷ each projected_live
+          qs else record { name = q.name; item = projected_live q.item } ∷ change_named (ack_live_shown to) n (each projected_live qs))
       by rest true = λ i. record { name = q.name; item = ack_projected_query q.item full.0 i } ∷ each projected_live qs
       by rest false = ap (λ l. record { name = q.name; item = projected_live q.item } ∷ l) rest
 
@@ -243,7 +257,11 @@ gone_by q false false ss = refl
 
 pub gone_queries : (hold : ℕ) (p : StreamId) (qs : List (Named SoloQuery)) → each (revoke_shown p) (each (trimmed hold) qs) ≡ each (trimmed hold) (each (with_gone p) qs)
 gone_queries hold p [] = refl
-gone_queries hold p (q ∷ qs) = λ i. record { name = q.name; item = gone_by q.item (is_over p q.item.plan) q.item.gone (map (λ i. stub_over hold q.item.cursor i (rows_on i.stream_id q.item.came)) q.item.plan.inputs) i } ∷ gone_queries hold p qs i
+gone_queries hold p (q ∷ qs) = λ i. record {
+  name = q.name;
+  item = gone_by q.item (is_over p q.item.plan) q.item.gone
+      (map (λ i. stub_over hold q.item.cursor i (rows_on i.stream_id q.item.came)) q.item.plan.inputs) i;
+} ∷ gone_queries hold p qs i
 
 -- ANOTHER DIRECTORY
 -- what is read, but for these streams, stays read with its projection
@@ -251,7 +269,8 @@ pub record Keeps (t : ℕ) (d d' : List Namespace) (lost : StreamId → Bool) : 
   pub read : (p : StreamId) → lost p ≡ false → Reaches 0 (readable_to d t p) → Reaches 0 (readable_to d' t p)
   pub projection : (p : StreamId) → lost p ≡ false → Reaches 0 (readable_to d t p) → projection_in d' t p ≡ projection_in d t p
 
-full_keep : (t : ℕ) (d d' : List Namespace) (lost : StreamId → Bool) → Keeps t d d' lost → (inputs : List BoundInput) → ((s : SimStub) → FullStub t d inputs s → lost s.stream_id ≡ false) → (ss : List SimStub) → FullStubs t d inputs ss → FullStubs t d' inputs ss
+full_keep : (t : ℕ) (d d' : List Namespace) (lost : StreamId → Bool) → Keeps t d d' lost → (inputs : List BoundInput)
+    → ((s : SimStub) → FullStub t d inputs s → lost s.stream_id ≡ false) → (ss : List SimStub) → FullStubs t d inputs ss → FullStubs t d' inputs ss
 full_keep t d d' lost keeps inputs far [] full = full
 full_keep t d d' lost keeps inputs far (s ∷ ss) full =
     let away = far s full.0 in (
@@ -265,7 +284,8 @@ full_keep t d d' lost keeps inputs far (s ∷ ss) full =
       full_keep t d d' lost keeps inputs far ss full.1,
     )
 
-full_or : (t : ℕ) (d d' : List Namespace) (lost : StreamId → Bool) → Keeps t d d' lost → (f : StreamId → List ℕ) (plan : BoundPlan) → ((s : SimStub) → FullStub t d plan.inputs s → lost s.stream_id ≡ false) → (o : Option (List SimStub)) → FullOr t d f plan o → FullOr t d' f plan o
+full_or : (t : ℕ) (d d' : List Namespace) (lost : StreamId → Bool) → Keeps t d d' lost → (f : StreamId → List ℕ) (plan : BoundPlan)
+    → ((s : SimStub) → FullStub t d plan.inputs s → lost s.stream_id ≡ false) → (o : Option (List SimStub)) → FullOr t d f plan o → FullOr t d' f plan o
 full_or t d d' lost keeps f plan far None full = full
 full_or t d d' lost keeps f plan far (Some ss) full = (full_keep t d d' lost keeps plan.inputs far ss full.0, full.1)
 
@@ -277,12 +297,14 @@ pub full_revoked : (t : ℕ) (d d' : List Namespace) (lost : StreamId) → Keeps
 full_revoked t d d' lost keeps [] full = full
 full_revoked t d d' lost keeps (q ∷ qs) full = (by (is_over lost q.item.plan) refl, full_revoked t d d' lost keeps qs full.1)
   where
-    by : (b : Bool) → is_over lost q.item.plan ≡ b → FullOr t d' (if b then record (q.item) { stubs = None } else q.item).projection_of (if b then record (q.item) { stubs = None } else q.item).plan (if b then record (q.item) { stubs = None } else q.item).stubs
+    by : (b : Bool) → is_over lost q.item.plan ≡ b → FullOr t d' (if b then record (q.item) { stubs = None } else q.item).projection_of
+        (if b then record (q.item) { stubs = None } else q.item).plan (if b then record (q.item) { stubs = None } else q.item).stubs
     by true is = tt
     by false is = full_or t d d' (λ p. same_stream_id p lost) keeps q.item.projection_of q.item.plan (λ s h. h.input lost is) q.item.stubs full.0
 
 -- A NEW QUERY
-new_full : (t : ℕ) (d : List Namespace) (hold base : ℕ) (all_inputs : List BoundInput) (is : List BoundInput) → ((p : StreamId) → list_any (λ i. same_stream_id i.stream_id p) all_inputs ≡ false → list_any (λ i. same_stream_id i.stream_id p) is ≡ false)
+new_full : (t : ℕ) (d : List Namespace) (hold base : ℕ) (all_inputs : List BoundInput) (is : List BoundInput)
+    → ((p : StreamId) → list_any (λ i. same_stream_id i.stream_id p) all_inputs ≡ false → list_any (λ i. same_stream_id i.stream_id p) is ≡ false)
     → InputsReach (readable_to d t) 0 is → FullStubs t d all_inputs (map (new_sim_stub hold base (projection_in d t)) is)
 new_full t d hold base all_inputs [] within h = tt
 new_full t d hold base all_inputs (i ∷ is) within h = (
@@ -306,7 +328,8 @@ full_remove t d n (q ∷ qs) full = by (full_remove t d n qs full.1) (same_name 
     by rest false = (full.0, rest)
 
 -- A ROW THAT IS NOT SEEN
-unput_by : (t : ℕ) (d : List Namespace) (p : StreamId) (x : Element) → readable_to d t p ≡ None → (inputs : List BoundInput) (s : SimStub) → FullStub t d inputs s → (b : Bool) → same_stream_id s.stream_id p ≡ b → (if b then record s { held = fed x s.held } else s) ≡ s
+unput_by : (t : ℕ) (d : List Namespace) (p : StreamId) (x : Element) → readable_to d t p ≡ None → (inputs : List BoundInput) (s : SimStub) → FullStub t d inputs s
+    → (b : Bool) → same_stream_id s.stream_id p ≡ b → (if b then record s { held = fed x s.held } else s) ≡ s
 unput_by t d p x none inputs s full true is = absurd (subst (Reaches 0) none (subst (λ (s : StreamId). Reaches 0 (readable_to d t s)) (stream_id_eq s.stream_id p is) full.read))
 unput_by t d p x none inputs s full false is = refl
 
@@ -314,19 +337,35 @@ unput_all : (t : ℕ) (d : List Namespace) (p : StreamId) (x : Element) → read
 unput_all t d p x none inputs [] full = refl
 unput_all t d p x none inputs (s ∷ ss) full = λ i. unput_by t d p x none inputs s full.0 _ refl i ∷ unput_all t d p x none inputs ss full.1 i
 
-unput_or : (t : ℕ) (d : List Namespace) (p : StreamId) (x : Element) → readable_to d t p ≡ None → (f : StreamId → List ℕ) (plan : BoundPlan) (o : Option (List SimStub)) → FullOr t d f plan o → option_map (map (put_sim_on p x)) o ≡ o
+unput_or : (t : ℕ) (d : List Namespace) (p : StreamId) (x : Element) → readable_to d t p ≡ None → (f : StreamId → List ℕ) (plan : BoundPlan) (o : Option (List SimStub))
+    → FullOr t d f plan o → option_map (map (put_sim_on p x)) o ≡ o
 unput_or t d p x none f plan None full = refl
 unput_or t d p x none f plan (Some ss) full = ap (λ l. Some l) (unput_all t d p x none plan.inputs ss full.0)
 
 pub unput_queries : (t : ℕ) (d : List Namespace) (p : StreamId) (x : Element) → readable_to d t p ≡ None → (qs : List (Named SimQuery)) → AllFull t d qs → each (put_sim p x) qs ≡ qs
 unput_queries t d p x none [] full = refl
 unput_queries t d p x none (q ∷ qs) full =
-    λ i. record { name = q.name; item = record { plan = q.item.plan; projection_of = q.item.projection_of; text = q.item.text; base = q.item.base; cursor = q.item.cursor; stubs = unput_or t d p x none q.item.projection_of q.item.plan q.item.stubs full.0 i } } ∷ unput_queries t d p x none qs full.1 i
+    λ i. record {
+      name = q.name;
+      item = record {
+        plan = q.item.plan;
+        projection_of = q.item.projection_of;
+        text = q.item.text;
+        base = q.item.base;
+        cursor = q.item.cursor;
+        stubs = unput_or t d p x none q.item.projection_of q.item.plan q.item.stubs full.0 i;
+      };
+    } ∷ unput_queries t d p x none qs full.1 i
 
 -- A PIN
 cut_narrow : (ps : List ℕ) (next : ℕ) (w : Window) (h : Held) → narrow_pinned ps w (pinned next h) ≡ pinned next (narrow_held ps w h)
 cut_narrow ps next w h =
-    λ i. record { window = w; content = map (narrowed ps) h.content; unseen = (sym (map_take (narrowed ps) (count_before next h.unseen) h.unseen) ∙ (λ i. take (sym (before ps next h.unseen) i) (map (narrowed ps) h.unseen))) i }
+    λ i. record {
+      window = w;
+      content = map (narrowed ps) h.content;
+      unseen =
+          (sym (map_take (narrowed ps) (count_before next h.unseen) h.unseen) ∙ (λ i. take (sym (before ps next h.unseen) i) (map (narrowed ps) h.unseen))) i;
+    }
 
 -- through all columns of a projection stands what stood through it
 twice : (ps : List ℕ) (xs : List Element) → AllByRecursion (HasProjection ps) xs → narrowed_all (whole_projection (length ps)) (narrowed_all ps xs) ≡ narrowed_all ps xs
@@ -350,8 +389,10 @@ content_projected t d inputs next c s full =
     ∙ ap (λ p. narrowed_all (whole_projection (length ps)) (content_of c p)) (cut_narrow ps next s.window s.held)
 
 -- so it is with all stubs, through the projections of the inputs
-pub contents_projected : (t : ℕ) (d : List Namespace) (f : StreamId → List ℕ) (inputs : List BoundInput) (next c : ℕ) (is : List Input) (js : List BoundInput) (ss : List SimStub) → FullStubs t d inputs ss → AreSet f is js ss
-    → through_projections (wide_inputs f is js) (map (content_of c) (map (λ stub. pinned next stub.held) (map stub_of ss))) ≡ through_projections is (map (content_of c) (map (λ stub. pinned next stub.held) (map projected_stub ss)))
+pub contents_projected : (t : ℕ) (d : List Namespace) (f : StreamId → List ℕ) (inputs : List BoundInput) (next c : ℕ) (is : List Input) (js : List BoundInput)
+    (ss : List SimStub) → FullStubs t d inputs ss → AreSet f is js ss
+    → through_projections (wide_inputs f is js) (map (content_of c) (map (λ stub. pinned next stub.held) (map stub_of ss))) ≡ through_projections is
+    (map (content_of c) (map (λ stub. pinned next stub.held) (map projected_stub ss)))
 contents_projected t d f inputs next c [] [] [] full set = refl
 contents_projected t d f inputs next c [] [] (s ∷ ss) full set = absurd set
 contents_projected t d f inputs next c [] (j ∷ js) ss full set = absurd set

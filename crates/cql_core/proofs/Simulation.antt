@@ -1,4 +1,5 @@
--- Beside each query of the machine stands the query that simulates it: the plan as it was typed over the columns that are seen, the indices of these in whole rows, and of each stub its window over them. The machine's query is what is left of it over whole rows.
+-- Beside each query of the machine stands the query that simulates it: the plan as it was typed over the columns that are seen, the indices of these
+-- in whole rows, and of each stub its window over them. The machine's query is what is left of it over whole rows.
 use Rattle.std.proofs.Common.{◌≡◌, ℕ, Bool, true, false, ◌||◌, List, [], ◌∷◌, ◌++◌, map, refl, ap, ◌∙◌, sym}
 use Rattle.std.specs.Prelude.{Option, Some, None, option_map, Result, Ok, Err, is_some, if◌then◌else◌}
 use Rattle.std.specs.List.{list_any}
@@ -142,7 +143,17 @@ or_put p x (Some ss) = ap (λ l. Some l) (stubs_put p x ss)
 
 pub put_left : (p : StreamId) (x : Element) (qs : List (Named SimQuery)) → each (put_live p x) (each live_of qs) ≡ each live_of (each (put_sim p x) qs)
 put_left p x [] = refl
-put_left p x (q ∷ qs) = λ i. record { name = q.name; item = record { plan = wide_plan q.item.projection_of q.item.plan; text = q.item.text; base = q.item.base; cursor = q.item.cursor; stubs = sym (or_put p x q.item.stubs) i } } ∷ put_left p x qs i
+put_left p x (q ∷ qs) = λ i. record {
+  name = q.name;
+  item = record {
+    plan = wide_plan q.item.projection_of q.item.plan;
+    text = q.item.text;
+    base = q.item.base;
+    cursor =
+        q.item.cursor;
+    stubs = sym (or_put p x q.item.stubs) i;
+  };
+} ∷ put_left p x qs i
 
 stubs_ack : (to : ℕ) (ss : List SimStub) → map stub_of (map (ack_sim_stub to) ss) ≡ map (ack_stub to) (map stub_of ss)
 stubs_ack to [] = refl
@@ -172,7 +183,11 @@ revoke_if q false = refl
 pub revoke_left : (p : StreamId) (qs : List (Named SimQuery)) → each (revoke_live p) (each live_of qs) ≡ each live_of (each (revoke_sim p) qs)
 revoke_left p [] = refl
 revoke_left p (q ∷ qs) =
-    λ i. record { name = q.name; item = ((λ i. if over_wide q.item.projection_of p q.item.plan.inputs i then record (live_of q.item) { stubs = None } else live_of q.item) ∙ revoke_if q.item (is_over p q.item.plan)) i } ∷ revoke_left p qs i
+    λ i. record {
+      name = q.name;
+      item = ((λ i. if over_wide q.item.projection_of p q.item.plan.inputs i then record (live_of q.item) { stubs = None } else live_of q.item)
+          ∙ revoke_if q.item (is_over p q.item.plan)) i;
+    } ∷ revoke_left p qs i
 
 new_left : (hold base : ℕ) (f : StreamId → List ℕ) (is : List BoundInput) → map (new_stub hold base) (map (wide_at f) is) ≡ map stub_of (map (new_sim_stub hold base f) is)
 new_left hold base f [] = refl

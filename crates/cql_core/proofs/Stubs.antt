@@ -43,7 +43,8 @@ rows_push s [] p x = by (same_stream_id s p)
     by b = refl
 rows_push s (c ∷ cs) p x = by (rows_push s cs p x) (same_stream_id s c.stream_id)
   where
-    by : rows_on s (cs ++ record { stream_id = p; element = x } ∷ []) ≡ rows_on s cs ++ (if same_stream_id s p then x ∷ [] else []) → (b : Bool) → (if b then c.element ∷ rows_on s (cs ++ record { stream_id = p; element = x } ∷ []) else rows_on s (cs ++ record { stream_id = p; element = x } ∷ []))
+    by : rows_on s (cs ++ record { stream_id = p; element = x } ∷ []) ≡ rows_on s cs ++ (if same_stream_id s p then x ∷ [] else []) → (b : Bool)
+        → (if b then c.element ∷ rows_on s (cs ++ record { stream_id = p; element = x } ∷ []) else rows_on s (cs ++ record { stream_id = p; element = x } ∷ []))
         ≡ (if b then c.element ∷ rows_on s cs else rows_on s cs) ++ (if same_stream_id s p then x ∷ [] else [])
     by rest true = ap (λ l. c.element ∷ l) rest
     by rest false = rest
@@ -160,7 +161,8 @@ pub acked_same : (hold to : ℕ) (q : SoloQuery) → q.cursor ≤ to → passes 
 acked_same hold to q le over = λ j. record { plan = q.plan; text = q.text; base = q.base; cursor = to; stubs = acked_stubs hold q.cursor to q.came le q.plan.inputs over q.gone j }
 
 contents_inputs : (hold from c next : ℕ) (cs : List Came) → from ≤ c → c ≤ next → (is : List BoundInput) → list_any (λ i. nat_lt hold (charge i.window from [] (rows_on i.stream_id cs))) is ≡ false
-    → map (content_of c) (map (λ stub. pinned next stub.held) (map (λ i. stub_over hold from i (rows_on i.stream_id cs)) is)) ≡ map (content_of c) (map (λ i. record { window = i.window; content = []; unseen = rows_on i.stream_id cs }) is)
+    → map (content_of c) (map (λ stub. pinned next stub.held) (map (λ i. stub_over hold from i (rows_on i.stream_id cs)) is)) ≡ map (content_of c)
+    (map (λ i. record { window = i.window; content = []; unseen = rows_on i.stream_id cs }) is)
 contents_inputs hold from c next cs ge le [] over = refl
 contents_inputs hold from c next cs ge le (i ∷ is) over =
     let both = or_false _ _ over in λ j. pinned_held hold from c next i (rows_on i.stream_id cs) ge le both.0 j ∷ contents_inputs hold from c next cs ge le is both.1 j

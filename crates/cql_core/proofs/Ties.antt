@@ -21,9 +21,11 @@ use Rattle.cql_core.specs.Language.{Language, IsLanguage, plan_over, reply_to_pi
 use Rattle.cql_core.specs.Checks.{check_plan, check_fetch, check_ack, check_drop, limit_over, next_of, is_behind, reply_unless}
 use Rattle.cql_core.specs.Lookup.{readable_to, opened_in}
 use Rattle.cql_core.specs.Machine.{Live, State, is_revoked, is_overrun, limit_in, queries_at, plan_for, reply_to_query, reply_to_ack, pin_of, reads, pin_unless, step_of_fetch, own_query, reply_to_list, step_at}
-use Rattle.cql_core.specs.Solo.{SoloQuery, SoloState, rows_on, limit_to, stream_in, opened_to, passes, whole, blocks_over, plan_in, meaning_of_query, meaning_of_fetch, meaning_of_ack, shown_query, meaning_of_list, own_meaning}
+use Rattle.cql_core.specs.Solo.{SoloQuery, SoloState, rows_on, limit_to, stream_in, opened_to, passes, whole, blocks_over, plan_in, meaning_of_query, meaning_of_fetch, meaning_of_ack}
+use Rattle.cql_core.specs.Solo.{shown_query, meaning_of_list, own_meaning}
 use Rattle.cql_core.proofs.Look.{find_each, length_each, some_map}
-use Rattle.cql_core.proofs.Simulation.{SimStub, SimQuery, ProjectedStub, ProjectedLive, stub_of, live_of, projected_stub, projected_live, stub_over, trimmed, wide_inputs, limit_wide, bare_wide, wide_or, plan_seen, plan_for_is}
+use Rattle.cql_core.proofs.Simulation.{SimStub, SimQuery, ProjectedStub, ProjectedLive, stub_of, live_of, projected_stub, projected_live, stub_over, trimmed, wide_inputs, limit_wide}
+use Rattle.cql_core.proofs.Simulation.{bare_wide, wide_or, plan_seen, plan_for_is}
 use Rattle.cql_core.proofs.Stubs.{overrun_shown, overrun_same, contents_same}
 use Rattle.cql_core.proofs.Shown.{FullOr, AllFull, contents_projected}
 use Rattle.cql_core.proofs.Keeps.{Reached}
@@ -172,7 +174,8 @@ module _ (language : Language) (is : IsLanguage language) (t : ℕ) (s : State) 
       unfolding contents_at
       same_contents result next c ge le fits =
           ap (λ cs. if nat_lt q.base c then Some cs else None) (contents_by next c q.stubs full kept_is)
-          ∙ (λ i. if nat_lt (ap (λ (l : ProjectedLive). l.base) e i) c then Some (through_projections (plan_is i).plan.inputs (map (content_of c) (map (λ stub. pinned next stub.held) (map over a.plan.inputs)))) else None)
+          ∙ (λ i. if nat_lt (ap (λ (l : ProjectedLive). l.base) e i) c then Some
+          (through_projections (plan_is i).plan.inputs (map (content_of c) (map (λ stub. pinned next stub.held) (map over a.plan.inputs)))) else None)
           ∙ ap (λ cs. if nat_lt a.base c then Some (through_projections a.plan.plan.inputs cs) else None) (contents_same k.quotas.hold c next a (subst (λ n. n ≤ c) cursor_is ge) le fits)
 
       same_pin : (result next : ℕ) → passes k.quotas.hold a ≡ false → reply_to_pin language (pin_of result (live_of q) next) ≡ blocks_over language result a next
@@ -198,7 +201,8 @@ module _ (language : Language) (is : IsLanguage language) (t : ℕ) (s : State) 
     fetch_one : (until : Option ℕ) → (a.gone ≡ false → InputsReach (readable_to s.namespaces t) a.cursor a.plan.inputs)
         → reads language (step_of_fetch s.namespaces k.quotas.result (Some (live_of q)) until) ≡ meaning_of_fetch language t k (Some a) until
     fetch_one until reach =
-        (λ i. reads language (pin_unless (check_fetch (revoked_is i) (is_overrun (live_of q)) (is_behind (cursor_is i) until)) (pin_of k.quotas.result (live_of q) (next_of (limit_in s.namespaces (live_of q).plan) until))))
+        (λ i. reads language (pin_unless (check_fetch (revoked_is i) (is_overrun (live_of q)) (is_behind (cursor_is i) until))
+        (pin_of k.quotas.result (live_of q) (next_of (limit_in s.namespaces (live_of q).plan) until))))
         ∙ fetch_by until a.gone refl reach
 
     ack_by : (to : ℕ) (gone : Bool) → a.gone ≡ gone → (a.gone ≡ false → InputsReach (readable_to s.namespaces t) a.cursor a.plan.inputs)
@@ -209,7 +213,8 @@ module _ (language : Language) (is : IsLanguage language) (t : ℕ) (s : State) 
     ack_one : (to : ℕ) → (a.gone ≡ false → InputsReach (readable_to s.namespaces t) a.cursor a.plan.inputs) → reply_to_ack s.namespaces (Some (live_of q)) to ≡ meaning_of_ack t k (Some a) to
     ack_one to reach = (λ i. check_ack (revoked_is i) (is_overrun (live_of q)) (nat_lt (limit_in s.namespaces (live_of q).plan) to) (nat_lt to (cursor_is i))) ∙ ack_by to a.gone refl reach
 
-  fetch_found : (n : List ℕ) (until : Option ℕ) (l : Option SimQuery) (o : Option SoloQuery) → find_named tied.queries_tied.sims n ≡ l → find_named k.queries n ≡ o → option_map projected_live l ≡ option_map (trimmed k.quotas.hold) o
+  fetch_found : (n : List ℕ) (until : Option ℕ) (l : Option SimQuery) (o : Option SoloQuery) → find_named tied.queries_tied.sims n ≡ l → find_named k.queries n ≡ o
+      → option_map projected_live l ≡ option_map (trimmed k.quotas.hold) o
       → reads language (step_of_fetch s.namespaces k.quotas.result (option_map live_of l) until) ≡ meaning_of_fetch language t k o until
   fetch_found n until None None at e same = refl
   fetch_found n until None (Some a) at e same = absurd cc
@@ -217,7 +222,8 @@ module _ (language : Language) (is : IsLanguage language) (t : ℕ) (s : State) 
   fetch_found n until (Some q) (Some a) at e same =
       fetch_one q a (some_shown _ _ same) (find_full t s.namespaces n q tied.queries_tied.sims tied.queries_tied.full at) until (find_reach (readable_to s.namespaces t) n a k.queries tied.queries_tied.reach e)
 
-  same_fetch : (n : List ℕ) (until : Option ℕ) → reads language (step_of_fetch s.namespaces (namespace_at s.namespaces t).quotas.result (find_named (queries_at s.queries t) n) until) ≡ meaning_of_fetch language t k (find_named k.queries n) until
+  same_fetch : (n : List ℕ) (until : Option ℕ) → reads language (step_of_fetch s.namespaces (namespace_at s.namespaces t).quotas.result
+      (find_named (queries_at s.queries t) n) until) ≡ meaning_of_fetch language t k (find_named k.queries n) until
   same_fetch n until = (λ i. reads language (step_of_fetch s.namespaces (tied.namespaces.quotas i).result (found_left n i) until)) ∙ fetch_found n until _ _ refl refl (found n)
 
   ack_found : (n : List ℕ) (to : ℕ) (l : Option SimQuery) (o : Option SoloQuery) → find_named tied.queries_tied.sims n ≡ l → find_named k.queries n ≡ o → option_map projected_live l ≡ option_map (trimmed k.quotas.hold) o

@@ -10,7 +10,8 @@ use Rattle.cql_core.specs.Machine.{State, step_at, state_after}
 use Rattle.cql_core.specs.Cql.{cql}
 use Rattle.cql_core.specs.Steps.{Does, Tries, refuses_first}
 
-pub not_done : {A E : Type 0} (by : A → Stepped) (s : State) (user : ℕ) (command : Command) (r : Result A E) (s' : State) → IsErr r → s' ≡ s → refuses_first command (step_at cql s user command) ≡ false → Tries by s user command r s'
+pub not_done : {A E : Type 0} (by : A → Stepped) (s : State) (user : ℕ) (command : Command) (r : Result A E) (s' : State) → IsErr r → s' ≡ s
+    → refuses_first command (step_at cql s user command) ≡ false → Tries by s user command r s'
 not_done by s user command r s' is same first = MatchResult-from_err r (λ a. Does s user command (by a) s') (λ _. (s' ≡ s) × (refuses_first command (step_at cql s user command) ≡ false)) is (λ _. (same, first))
 
 if_same : {A : Type 0} (b : Bool) (x : A) → (if b then x else x) ≡ x

@@ -31,7 +31,8 @@ use Rattle.cql_tenants.specs.declared.namespace.Namespace.{Namespace}
 use Rattle.cql_tenants.specs.declared.tenants.Quotas.{Quotas}
 use Rattle.cql_tenants.specs.declared.tenants.Tenant.{Tenant}
 use Rattle.cql_tenants.specs.Namespace.{no_namespace, nothing_made, has_tenant, namespace_at, change_namespace, tenant_named, stream_at, without_grant}
-use Rattle.cql_tenants.specs.Directory.{StreamCommand, refused, done, streams_after, with_stream, with_time, with_grant, new_grant, grant_to, revoke_from, Make as make, Share as share, Revoke as revoke, Put as put, Beat as beat}
+use Rattle.cql_tenants.specs.Directory.{StreamCommand, refused, done, streams_after, with_stream, with_time, with_grant, new_grant, grant_to, revoke_from, Make as make, Share as share}
+use Rattle.cql_tenants.specs.Directory.{Revoke as revoke, Put as put, Beat as beat}
 use Rattle.cql_core.specs.declared.command.Command.{Command}
 use Rattle.cql_core.specs.declared.command.Command.TheVariants.{Stream, Grant, Revoke, Put, Beat, Query, Fetch, Ack, Drop, List as Lists}
 use Rattle.cql_core.specs.declared.refusal.Refusal.{Refusal}
@@ -43,7 +44,8 @@ use Rattle.cql_core.specs.ReplyModel.{is_accepted}
 use Rattle.cql_core.specs.Directory.{directory_after, reply_on_streams}
 use Rattle.cql_core.specs.Language.{Language, bound_or}
 use Rattle.cql_core.specs.Lookup.{found_by, columns_at}
-use Rattle.cql_core.specs.Machine.{Stub, Live, State, opening, queries_at, new_stub, new_live, plan_for, limit_in, reply_to_query, with_live, put_on, put_live, ack_stub, ack_live, stubs_left, reply_to_ack, is_over, revoke_live, queries_revoked, queries_after, state_after}
+use Rattle.cql_core.specs.Machine.{Stub, Live, State, opening, queries_at, new_stub, new_live, plan_for, limit_in, reply_to_query, with_live, put_on, put_live, ack_stub, ack_live, stubs_left}
+use Rattle.cql_core.specs.Machine.{reply_to_ack, is_over, revoke_live, queries_revoked, queries_after, state_after}
 use Rattle.cql_core.specs.Rows.{live_on, stubs_of, stubs_on, greatest_need}
 use Rattle.cql_core.specs.Law.{state_from}
 use Rattle.cql_core.specs.Cql.{cql, plan_of, planned_from}
@@ -189,7 +191,8 @@ each_within : (quota : ℕ) (f : Live → Live) → ((q : Live) → IsWithinHold
 each_within quota f keeps [] h = tt
 each_within quota f keeps (q ∷ qs) h = (keeps q.item h.0, each_within quota f keeps qs h.1)
 
-change_within : (quota : ℕ) (f : Live → Live) → ((q : Live) → IsWithinHold quota q → IsWithinHold quota (f q)) → (name : List ℕ) (qs : List (Named Live)) → AreWithinHold quota qs → AreWithinHold quota (change_named f name qs)
+change_within : (quota : ℕ) (f : Live → Live) → ((q : Live) → IsWithinHold quota q → IsWithinHold quota (f q)) → (name : List ℕ) (qs : List (Named Live))
+    → AreWithinHold quota qs → AreWithinHold quota (change_named f name qs)
 change_within quota f keeps name [] h = tt
 change_within quota f keeps name (q ∷ qs) h = by (change_within quota f keeps name qs h.1) (same_name name q.name)
   where
@@ -311,7 +314,8 @@ has_room true None false true plan base_of h = refl
 abbrev HasFewInputs : Language → Type 0
 HasFewInputs language = (readable : SchemaLookup) (text : List ℕ) (plan : Planned) → language.plan_of readable text ≡ Ok plan → IsFew plan
 
-bound_few : (found : StreamLookup) (planned : Result Planned Refusal) (plan : BoundPlan) → ((p : Planned) → planned ≡ Ok p → IsFew p) → bound_or found planned ≡ Ok plan → IsFew plan.plan × (length plan.inputs ≡ length plan.plan.inputs)
+bound_few : (found : StreamLookup) (planned : Result Planned Refusal) (plan : BoundPlan) → ((p : Planned) → planned ≡ Ok p → IsFew p) → bound_or found planned ≡ Ok plan
+    → IsFew plan.plan × (length plan.inputs ≡ length plan.plan.inputs)
 bound_few found (Err error) plan few h = absurd cc
 bound_few found (Ok p) plan few h =
     let same : bound found p ≡ plan = cc in
@@ -323,11 +327,13 @@ module _ (language : Language) (few : HasFewInputs language) (table : List Tenan
 
   put_queries : (stream_id : StreamId) (x : Element) → QueriesWithin table (map (each (put_live stream_id x)) s.queries)
   put_queries stream_id x =
-      kept_in_all (λ t qs. TenantWithin (quotas_in table t) qs) [] (each (put_live stream_id x)) (λ t qs within. each_tenant (quotas_in table t) qs within (put_live stream_id x) (put_query (quotas_in table t).hold stream_id x)) s.queries queries
+      kept_in_all (λ t qs. TenantWithin (quotas_in table t) qs) [] (each (put_live stream_id x))
+      (λ t qs within. each_tenant (quotas_in table t) qs within (put_live stream_id x) (put_query (quotas_in table t).hold stream_id x)) s.queries queries
 
   revoke_queries : (stream_id : StreamId) (o : Option ℕ) → QueriesWithin table (queries_revoked stream_id o s.queries)
   revoke_queries stream_id None = queries
-  revoke_queries stream_id (Some index) = one_changed index _ (each_tenant (quotas_in table index) (queries_at s.queries index) (queries index) (revoke_live stream_id) (revoke_query (quotas_in table index).hold stream_id))
+  revoke_queries stream_id (Some index) = one_changed index _ (each_tenant (quotas_in table index) (queries_at s.queries index) (queries index) (revoke_live stream_id)
+      (revoke_query (quotas_in table index).hold stream_id))
 
   new_tenant : (u : ℕ) (name text spelled : List ℕ) → length (queries_at s.queries u) < (quotas_in table u).queries → (planned : Result BoundPlan Refusal) → plan_for language s.namespaces u text ≡ planned
       → TenantWithin (quotas_in table u) (with_live (quotas_in table u).hold (limit_in s.namespaces) name spelled planned (queries_at s.queries u))
@@ -342,7 +348,9 @@ module _ (language : Language) (few : HasFewInputs language) (table : List Tenan
       → QueriesWithin table (set s.queries u (with_live (namespace_at s.namespaces u).quotas.hold (limit_in s.namespaces) name (language.spelled text) (plan_for language s.namespaces u text) (queries_at s.queries u)))
   new_queries u name text accepted =
       let room : nat_lt (length (queries_at s.queries u)) (namespace_at s.namespaces u).quotas.queries ≡ true =
-      has_room (is_name name) (language.bad_byte text) (is_some (find_named (queries_at s.queries u) name)) (nat_lt (length (queries_at s.queries u)) (namespace_at s.namespaces u).quotas.queries) (plan_for language s.namespaces u text) (limit_in s.namespaces) accepted in
+      has_room (is_name name) (language.bad_byte text) (is_some (find_named (queries_at s.queries u) name))
+      (nat_lt (length (queries_at s.queries u)) (namespace_at s.namespaces u).quotas.queries) (plan_for language s.namespaces u text) (limit_in s.namespaces)
+      accepted in
       let less : length (queries_at s.queries u) < (namespace_at s.namespaces u).quotas.queries = grind (arith, nat_tests) in
       let same : (namespace_at s.namespaces u).quotas ≡ quotas_in table u = (namespaces u).quotas in
       let new = new_tenant u name text (language.spelled text) (subst (λ (q : Quotas). length (queries_at s.queries u) < q.queries) same less) (plan_for language s.namespaces u text) refl in
@@ -366,7 +374,8 @@ module _ (language : Language) (few : HasFewInputs language) (table : List Tenan
   queries_within u (Query name text) = by (is_accepted (reply_to_query language s u name text)) refl
     where
       by : (b : Bool) → is_accepted (reply_to_query language s u name text) ≡ b
-          → QueriesWithin table (if b then set s.queries u (with_live (namespace_at s.namespaces u).quotas.hold (limit_in s.namespaces) name (language.spelled text) (plan_for language s.namespaces u text) (queries_at s.queries u)) else s.queries)
+          → QueriesWithin table (if b then set s.queries u (with_live (namespace_at s.namespaces u).quotas.hold (limit_in s.namespaces) name (language.spelled text)
+          (plan_for language s.namespaces u text) (queries_at s.queries u)) else s.queries)
       by true accepted = new_queries u name text accepted
       by false accepted = queries
   queries_within u (Fetch name until) = queries
@@ -447,7 +456,8 @@ greatest_append : (xs ys : List Stub) → greatest_need (xs ++ ys) ≤ max (grea
 greatest_append [] ys = omega arith
 greatest_append (x ∷ xs) ys = omega (arith, greatest_append xs ys)
 
-rows_within : (stream_id : StreamId) (table : List Tenant) (queries : List (List (Named Live))) → ((t : ℕ) → AreWithinHold (quotas_in table t).hold (queries_at queries t)) → greatest_need (stubs_on stream_id queries) ≤ greatest_hold stream_id table queries
+rows_within : (stream_id : StreamId) (table : List Tenant) (queries : List (List (Named Live)))
+    → ((t : ℕ) → AreWithinHold (quotas_in table t).hold (queries_at queries t)) → greatest_need (stubs_on stream_id queries) ≤ greatest_hold stream_id table queries
 rows_within stream_id [] [] h = omega arith
 rows_within stream_id [] (qs ∷ rest) h =
     let first : greatest_need (stubs_of stream_id qs) ≤ 0 = greatest_within 0 (stubs_of stream_id qs) (stubs_within stream_id 0 qs (h 0)) in

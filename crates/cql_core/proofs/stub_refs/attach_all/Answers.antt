@@ -11,7 +11,8 @@ use Rattle.cql_core.proofs.stub_refs.attach_all.Goals as goal
 pub detach_all-requires-clause-streams : goal.detach_all-requires-clause-streams
 detach_all-requires-clause-streams c =
     subst (AreStreams c.attach_one.new.stores) (sym (c.as_slice.ensures ∙ c.in-Err.ensures.err))
-    (undo_streams c.args.directory.now c.args.tenant c.args.base c.args.hold (take c.loop-input.input-index c.args.plan.now.inputs) (take c.loop-input.input-index (ports c.args.plan.now)) c.args.stores.now c.loop-input.stores c.attach_one.new.stores c.loop-input.stub_refs
+    (undo_streams c.args.directory.now c.args.tenant c.args.base c.args.hold (take c.loop-input.input-index c.args.plan.now.inputs)
+    (take c.loop-input.input-index (ports c.args.plan.now)) c.args.stores.now c.loop-input.stores c.attach_one.new.stores c.loop-input.stub_refs
     c.loop-input.invariant c.in-Err.ensures.same c.requires.beside)
 
 pub attach_one-requires-clause-found : goal.attach_one-requires-clause-found

@@ -15,7 +15,8 @@ use Rattle.cql_core.proofs.Founds.{readable_at, least_more, map_twice}
 use Rattle.cql_core.proofs.stub_refs.base_of.Goals as goal
 
 pub opened_of-least-requires : goal.opened_of-least-requires
-opened_of-least-requires c = readable_at (projection_in c.args.directory.now c.args.tenant) (found c.args.directory.now c.args.tenant) c.args.inputs.now 0 c.in-Some.first.now (ap (λ (l : List Input). slice_get l 0) c.in-Some.ensures.cases.0) c.requires
+opened_of-least-requires c = readable_at (projection_in c.args.directory.now c.args.tenant) (found c.args.directory.now c.args.tenant) c.args.inputs.now 0
+    c.in-Some.first.now (ap (λ (l : List Input). slice_get l 0) c.in-Some.ensures.cases.0) c.requires
 
 pub opened_of-requires : goal.opened_of-requires
 opened_of-requires c =

@@ -7,7 +7,8 @@ use Rattle.cql_core.proofs.Walks.{get_there}
 pub detach-requires-clause-there : goal.detach-requires-clause-there
 detach-requires-clause-there c =
     let at = get_there c.args.stub_refs.now c.loop-stub_ref.stub_ref-index c.stub_ref-item.result c.loop-stub_ref-test.true ∙ ap (λ s. Some s) (sym c.stub_ref-item.is) in
-    shaped_stream c.args.stores.now c.loop-stub_ref.stores c.stub_ref-item.result.owner c.stub_ref-item.result.stream c.loop-stub_ref.invariant.shape (streams_at c.args.stores.now c.args.stub_refs.now c.loop-stub_ref.stub_ref-index c.stub_ref-item.result at c.requires.streams)
+    shaped_stream c.args.stores.now c.loop-stub_ref.stores c.stub_ref-item.result.owner c.stub_ref-item.result.stream c.loop-stub_ref.invariant.shape
+    (streams_at c.args.stores.now c.args.stub_refs.now c.loop-stub_ref.stub_ref-index c.stub_ref-item.result at c.requires.streams)
 
 pub detach-requires-clause-held : goal.detach-requires-clause-held
 detach-requires-clause-held c =

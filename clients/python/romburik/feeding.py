@@ -111,17 +111,22 @@ def settled(times: Callable[[], Dict[str, int]], seconds: float = SETTLED) -> Di
 
 
 def acknowledge(
-    session: Session, streams: Collection[str], offset_of: Callable[[str], int]
+    session: Session,
+    streams: Collection[str],
+    offset_of: Callable[[str], int],
+    queries: Optional[Collection[str]] = None,
 ) -> Tuple[int, int]:
     """Acknowledges what a tenant's consumers have taken, and gives the least cursor and the instant
-    below which all is final, of the queries over these streams alone."""
+    below which all is final, of the queries over these streams alone. Who asks by a query that isn't
+    among `queries` is nobody to wait for; without them all are waited for."""
     listing = session.list()
     seen = (*listing.streams, *listing.readable)
     fed = {it.name: it.open for it in seen if it.name in streams}
     final = min(fed.values(), default=0)
     slowest = final
-    # who looks at a copy of a query is nobody to wait for
-    for query in (it for it in listing.queries if not is_copy(it.name)):
+    for query in listing.queries:
+        if is_copy(query.name) or queries is not None and query.name not in queries:
+            continue
         told = final_of(listing, query)
         offset = min(offset_of(query.name), final if told is None else told)
         if offset > query.next:

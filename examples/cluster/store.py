@@ -45,9 +45,9 @@ def put_of(key: str, value: str) -> Operation:
     return {"request_put": {"key": _coded(key), "value": _coded(value)}}
 
 
-def delete_of(start: str, end: str) -> Operation:
-    """Takes away the keys from one on, below another."""
-    return {"request_delete_range": {"key": _coded(start), "range_end": _coded(end)}}
+def delete_of(key: str) -> Operation:
+    """Takes a key away."""
+    return {"request_delete_range": {"key": _coded(key)}}
 
 
 def range_of(start: str, end: str = "", limit: int = 0) -> Operation:

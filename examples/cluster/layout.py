@@ -3,10 +3,11 @@ import argparse
 import json
 import os
 import pathlib
+import shutil
 import sys
 import tempfile
 from dataclasses import dataclass
-from typing import Any, Callable, Dict, List, Sequence
+from typing import Any, Callable, Dict, List, Optional, Sequence
 
 HERE = pathlib.Path(__file__).resolve().parent
 TOP = HERE.parent.parent
@@ -24,6 +25,11 @@ DOMAIN = "cluster"
 
 HOME = pathlib.Path(tempfile.gettempdir(), f"romburik-cluster-{os.getuid()}")
 """Where a cluster's folder is, where nothing is said."""
+
+
+def found(program: str) -> Optional[str]:
+    """Where a program is, also one that not every user's path has."""
+    return shutil.which(program) or shutil.which(program, path="/usr/sbin")
 
 
 def add_folder(parser: argparse.ArgumentParser) -> None:
@@ -158,7 +164,7 @@ class Layout:
             port = self.ports()[server][0]
             serve = f"exec {self.cqld} --port {port} <{self.folder}/tenants.json"
             words[server] = f"/bin/sh -c '{serve}'"
-        words["proxy"] = f"haproxy -db -f {self.folder}/haproxy.cfg"
+        words["proxy"] = f"{found('haproxy')} -db -f {self.folder}/haproxy.cfg"
         python = f"{sys.executable} -B"
         for server in self.servers:
             where = f"--folder {self.folder} --ahead {self.ahead}"

@@ -137,3 +137,4 @@ bench: build
 	bench/neighbours $(SERVER)
 	bench/hostile $(SERVER)
 	bench/hostile --seeds 1..400 $(SERVER)
+	bench/cluster $(SERVER)

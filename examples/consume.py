@@ -28,171 +28,53 @@ seconds. The key is taken from the environment variable CQL_KEY. The consumer en
 taken, else it runs until it is interrupted. The status is 1 where it can't go on, 2 for its words.
 """
 import argparse
-import contextlib
-import csv
-import io
-import json
 import os
 import pathlib
-import subprocess
 import sys
 import tempfile
-import time
-from dataclasses import dataclass
-from typing import BinaryIO, List, Optional, Sequence
+from typing import Optional, Sequence
 
 sys.path.append(str(pathlib.Path(__file__).resolve().parent.parent / "clients/python"))
-import romburik
-from romburik import Block, Session, WholeBlocks
-from romburik.calling import add_words, check_words, session_of
-from romburik.tables import block_cells
+from romburik.calling import add_words, check_words
+from romburik.taking import Offset, Place, add_taking_words, take
 
 
-@dataclass(frozen=True)
-class Offset:
-    """Up to which instant all was taken, the block that may go on there, and the output's bytes."""
+class File(Place):
+    """A file of a folder."""
 
-    next: int = 0
-    held: Optional[Block] = None
-    bytes: int = 0
+    def __init__(self, folder: str, query: str) -> None:
+        self._path = pathlib.Path(folder, query)
+        self.where = str(self._path)
 
-    @staticmethod
-    def read(path: pathlib.Path) -> "Offset":
+    def read(self) -> Offset:
         try:
-            kept = json.loads(path.read_text(encoding="utf-8"))
+            return Offset.of(self._path.read_text(encoding="utf-8"))
         except FileNotFoundError:
             return Offset()
-        held = kept["held"]
-        return Offset(kept["next"], Block.of(held) if held else None, kept["bytes"])
 
-    def write(self, path: pathlib.Path) -> None:
+    def write(self, offset: Offset) -> None:
         """Writes the offset so that the file has the old one or this one, whatever happens."""
-        held = json.loads(self.held.line()) if self.held else None
-        text = json.dumps({"bytes": self.bytes, "held": held, "next": self.next})
-        with tempfile.NamedTemporaryFile("w", dir=path.parent, delete=False) as file:
-            file.write(text)
+        with tempfile.NamedTemporaryFile("w", dir=self._path.parent, delete=False) as file:
+            file.write(offset.text())
             file.flush()
             os.fsync(file.fileno())
-        os.replace(file.name, path)
+        os.replace(file.name, self._path)
 
 
 def say(text: str) -> None:
     print(f"consume: {text}", file=sys.stderr, flush=True)
 
 
-LONGEST_PAUSE = 60.0
-"""Seconds between two runs of a command that fails, at most."""
-
-
-class CannotGoOn(Exception):
-    """The consumer ends, since what it did next could be wrong."""
-
-
-def text_of(block: Block, form: str) -> bytes:
-    """What is written of a block."""
-    if form == "json":
-        return block.line().encode() + b"\n"
-    lines = io.StringIO()
-    csv.writer(lines, lineterminator="\n").writerows(block_cells(block))
-    return lines.getvalue().encode()
-
-
-def run(command: str, text: bytes) -> None:
-    """Runs a command over a text until it ends well."""
-    pause = 1.0
-    while True:
-        status = subprocess.run(command, shell=True, input=text, check=False).returncode
-        if status == 0:
-            return
-        say(f"the command ended with status {status}, and is run again in {pause:.0f} seconds")
-        time.sleep(pause)
-        pause = min(2 * pause, LONGEST_PAUSE)
-
-
-def give(blocks: List[Block], words: argparse.Namespace, out: BinaryIO) -> int:
-    """Writes blocks, or runs the command over each; gives how many bytes were written."""
-    texts = [text_of(block, words.form) for block in blocks]
-    if words.exec:
-        for text in texts:
-            run(words.exec, text)
-        return 0
-    out.write(b"".join(texts))
-    out.flush()
-    if words.out:
-        os.fsync(out.fileno())
-    return sum(map(len, texts))
-
-
-def cut(out: BinaryIO, words: argparse.Namespace, offset: Offset) -> None:
-    """Cuts off what the offset doesn't know of; what it knows of has to be there."""
-    size = os.fstat(out.fileno()).st_size
-    if size < offset.bytes:
-        raise CannotGoOn(
-            f"{words.out} has {size} bytes and the offset knows of {offset.bytes}: it was cut, or "
-            f"another file is in its place. Put it back; or, where its blocks stand elsewhere, "
-            f"write 0 for bytes into {pathlib.Path(words.offsets, words.query)}"
-        )
-    out.truncate(offset.bytes)
-
-
-def consume(session: Session, words: argparse.Namespace, out: BinaryIO) -> None:
-    """Gives blocks from the consumer's offset on, and keeps its offset."""
-    path = pathlib.Path(words.offsets, words.query)
-    offset = Offset.read(path)
-    if words.out:
-        cut(out, words, offset)
-    blocks = WholeBlocks(offset.held)
-    if words.until is not None and offset.next >= words.until:
-        return
-    answers = session.answers(words.query, since=offset.next, poll=words.poll, patience=None)
-    for answer in answers:
-        written = give(blocks.take(answer), words, out)
-        offset = Offset(answer.next, blocks.held, offset.bytes + written)
-        offset.write(path)
-        if words.until is not None and offset.next >= words.until:
-            return
-
-
-def connected(words: argparse.Namespace, key: str) -> Session:
-    """A session, as soon as there is a server."""
-    trouble = romburik.Trouble(None, say)
-    while True:
-        try:
-            return session_of(words, words.tenant, key, say)
-        except romburik.ConnectionLost as lost:
-            trouble.is_too_long(lost, words.poll)
-        time.sleep(words.poll)
-
-
 def main(given: Optional[Sequence[str]] = None) -> int:
     parser = argparse.ArgumentParser(description="Prints each block of a query once.")
     add_words(parser)
-    parser.add_argument("--tenant", required=True)
-    parser.add_argument("--query", required=True)
+    add_taking_words(parser)
     parser.add_argument("--offsets", required=True, help="the folder of the consumers' offsets")
-    where = parser.add_mutually_exclusive_group()
-    where.add_argument("--out", help="a file for the blocks")
-    where.add_argument("--exec", metavar="COMMAND", help="what is run for each block")
-    parser.add_argument("--form", choices=("json", "csv"), default="json", help="how it is written")
-    parser.add_argument("--until", type=int, help="the instant at which it ends")
-    parser.add_argument("--poll", type=float, default=0.2, help="seconds between fetches (0.2)")
     words = parser.parse_args(given)
     check_words(parser, words)
     if "CQL_KEY" not in os.environ:
         parser.error("CQL_KEY isn't set")
-    try:
-        with contextlib.ExitStack() as open_ones:
-            out: BinaryIO = sys.stdout.buffer
-            if words.out:
-                out = open_ones.enter_context(open(words.out, "ab"))
-            session = open_ones.enter_context(connected(words, os.environ["CQL_KEY"]))
-            consume(session, words, out)
-    except KeyboardInterrupt:
-        return 0
-    except (CannotGoOn, romburik.Error, OSError) as error:
-        say(str(error))
-        return 1
-    return 0
+    return take(words, os.environ["CQL_KEY"], File(words.offsets, words.query), say)
 
 
 if __name__ == "__main__":

@@ -48,7 +48,6 @@ lines. The setup is a file as here. A consumer keeps its offset where its output
 transaction: as records of the output's topic, or in the rows of a database.
 """
 import argparse
-import collections
 import contextlib
 import itertools
 import json
@@ -56,85 +55,18 @@ import os
 import pathlib
 import sys
 import time
-from typing import Any, Deque, Dict, Iterator, Optional, Sequence, Set, Tuple
+from typing import Dict, Optional, Sequence, Set
 
 sys.path.append(str(pathlib.Path(__file__).resolve().parent.parent / "clients/python"))
 import romburik
 from romburik import Session
 from romburik.calling import add_words, check_words, session_of
-from romburik.columns import inputs_of
-from romburik.looking import final_of
-from romburik.owning import is_copy
-
-Line = Dict[str, Any]
+from romburik.feeding import Ahead, Line, Log, acknowledge, make_all, settled
+from romburik.taking import CannotGoOn
 
 
 def say(text: str) -> None:
     print(f"feed: {text}", file=sys.stderr, flush=True)
-
-
-class CannotGoOn(Exception):
-    """The feeder ends, since what it did next could be wrong."""
-
-
-class Scale:
-    """Gives each row of a stream an instant of its own."""
-
-    def __init__(self, scale: int) -> None:
-        self._scale = scale
-        self._rows: Dict[str, Tuple[int, int]] = {}
-
-    def line(self, line: Line) -> Line:
-        """A line as it is put, of lines that come in the log's order."""
-        if self._scale == 1:
-            return line
-        stream, at = line["stream"], line["at"]
-        if line["do"] == "beat":
-            return {**line, "at": at * self._scale + self._scale - 1}
-        last, count = self._rows.get(stream, (-1, 0))
-        count = count + 1 if last == at else 1
-        if count >= self._scale:
-            raise CannotGoOn(f"{stream} has {count} rows at {at}, and --scale {self._scale} less")
-        self._rows[stream] = at, count
-        return {**line, "at": at * self._scale + count}
-
-
-class Log:
-    """The lines of a file that are whole, numbered from 0."""
-
-    def __init__(self, path: str, scale: int) -> None:
-        self._file = open(path, "rb")
-        self._width = scale
-        self._scale = Scale(scale)
-        self._next = 0
-
-    def lines(self, start: int) -> Iterator[Line]:
-        """The lines from one on that are there so far."""
-        if start < self._next:
-            self._file.seek(0)
-            self._scale = Scale(self._width)
-            self._next = 0
-        while True:
-            line = self._file.readline()
-            if not line.endswith(b"\n"):
-                self._file.seek(-len(line), os.SEEK_CUR)
-                return
-            self._next += 1
-            read = self._scale.line(self._read(line))
-            if self._next > start:
-                yield read
-
-    def _read(self, line: bytes) -> Line:
-        with contextlib.suppress(ValueError):
-            read = json.loads(line)
-            if isinstance(read, dict) and read.get("do") in ("put", "beat"):
-                if isinstance(read.get("at"), int) and isinstance(read.get("stream"), str):
-                    return read
-        raise CannotGoOn(f"line {self._next} of the log is no put or heartbeat: {line!r:.100}")
-
-
-SETTLED = 0.3
-"""Seconds for which the streams' times stand still before they are relied on."""
 
 
 class Feeder:
@@ -152,8 +84,7 @@ class Feeder:
         self._told = 0
         # the streams that lines of the log name
         self._streams: Set[str] = set()
-        # the times of the last rows, without those that all consumers have taken
-        self._waiting: Deque[int] = collections.deque(maxlen=words.ahead)
+        self._ahead = Ahead(words.ahead)
 
     def run(self, key: str) -> None:
         """Feeds one server after another, without an end."""
@@ -174,21 +105,15 @@ class Feeder:
         is_new = not session.list().streams
         if is_new:
             self._answered = self._sent = 0
-        for command in self._setup:
-            try:
-                session.call(command)
-            except (romburik.StreamExists, romburik.AlreadyGranted, romburik.QueryExists):
-                pass  # it was made before the connection was lost
-            except romburik.Refused as refusal:
-                raise CannotGoOn(f"the setup's {command}: {refusal}") from refusal
+        make_all(session, self._setup)
         self._answered = self._first_line() if is_new else self._line_reached(session)
-        self._waiting.clear()
+        self._ahead.clear()
         if not is_new:
             lines = itertools.islice(self._log.lines(0), self._answered)
             for line in lines:
                 self._streams.add(line["stream"])
                 if line["do"] == "put":
-                    self._waiting.append(line["at"])
+                    self._ahead.put(line["at"])
 
     def _first_line(self) -> int:
         """The first line that the slowest consumer's windows may still look at."""
@@ -201,7 +126,7 @@ class Feeder:
 
     def _line_reached(self, session: Session) -> int:
         """The line behind those that came in, told by the times that the streams still take."""
-        told = self._settled(session)
+        told = settled(lambda: {it.name: it.open for it in session.list().streams})
         lines = [*itertools.islice(self._log.lines(0), self._sent)]
         told = {name: told.get(name, 0) for name in {line["stream"] for line in lines} or told}
         opens = dict.fromkeys(told, 0)
@@ -218,17 +143,6 @@ class Feeder:
                 "which gives each row an instant of its own"
             )
         return fits[-1]
-
-    def _settled(self, session: Session) -> Dict[str, int]:
-        """The times that the streams still take, once they stand still."""
-        told: Dict[str, int] = {}
-        since = time.monotonic()
-        while time.monotonic() - since < SETTLED:
-            now = {it.name: it.open for it in session.list().streams}
-            if now != told:
-                told, since = now, time.monotonic()
-            time.sleep(SETTLED / 10)
-        return told
 
     def _offset(self, query: str) -> int:
         """The instant up to which the query's consumer has taken all."""
@@ -260,38 +174,17 @@ class Feeder:
             if self._answered >= self._told:
                 say(f"line {self._answered + 1} of the log: {outcome}")
         elif line["do"] == "put":
-            self._waiting.append(line["at"])
+            self._ahead.put(line["at"])
         self._answered += 1
         self._told = max(self._told, self._answered)
 
     def _wait_for_consumers(self, session: Session, count: int) -> None:
         """Waits until so many more rows may be put."""
         while True:
-            slowest, final = self._acknowledge(session)
-            while self._waiting and self._waiting[0] < slowest:
-                self._waiting.popleft()
-            if slowest >= final or len(self._waiting) + count <= self._words.ahead:
+            slowest, final = acknowledge(session, self._streams, self._offset)
+            if self._ahead.has_room(slowest, final, count):
                 return
             time.sleep(self._words.poll)
-
-    def _acknowledge(self, session: Session) -> Tuple[int, int]:
-        """Acknowledges what consumers have taken, and gives the least cursor and the instant below
-        which all is final, of the queries over the log's streams alone."""
-        listing = session.list()
-        fed = {it.name: it.open for it in listing.streams if it.name in self._streams}
-        final = min(fed.values(), default=0)
-        slowest = final
-        # who looks at a copy of a query is nobody to wait for
-        for query in (it for it in listing.queries if not is_copy(it.name)):
-            told = final_of(listing, query)
-            offset = min(self._offset(query.name), final if told is None else told)
-            if offset > query.next:
-                # the consumer may have acknowledged more meanwhile
-                with contextlib.suppress(romburik.Behind):
-                    session.ack(query.name, offset)
-            if inputs_of(query.text) <= fed.keys():
-                slowest = min(slowest, max(offset, query.next))
-        return slowest, final
 
 
 def main(given: Optional[Sequence[str]] = None) -> int:

@@ -572,6 +572,8 @@ def by_tls(program, folder, name, command, text):
             ended = terminal(port, *words, "--quiet", "--file", "-", given=given)
             wanted = b'{"queries":[],"readable":[],"streams":[{"name":"s","open":1999}]}\n'
             yield f"lines by {name}", difference(ended, Ended(0, b"", wanted))
+            ended = terminal(port, "--tls-name", "localhost", *words[2:], given=LIST)
+            yield f"a name of its own by {name}", difference((ended.status, ended.said), (0, b""))
             ended = terminal(port, *words[:3], "--ca", f"{folder}/other.pem", given=LIST)
             said = b"certificate verify failed" in ended.said
             yield f"a certificate of nobody by {name}", difference((ended.status, said), (4, True))

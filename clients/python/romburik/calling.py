@@ -24,6 +24,9 @@ def add_words(parser: argparse.ArgumentParser) -> None:
         metavar="FILE",
         help="who vouches for the server's certificate, in place of the system",
     )
+    where.add_argument(
+        "--tls-name", metavar="NAME", help="the name that is asked for, in place of the machine's"
+    )
     where.add_argument("--cert", metavar="FILE", help="a certificate that is shown to the server")
     where.add_argument("--cert-key", metavar="FILE", help="the key of that certificate")
     where.add_argument(
@@ -35,8 +38,8 @@ def add_words(parser: argparse.ArgumentParser) -> None:
 
 def check_words(parser: argparse.ArgumentParser, given: argparse.Namespace) -> None:
     """Ends where the words don't go together."""
-    if not given.tls and (given.ca or given.cert or given.cert_key):
-        parser.error("--ca, --cert and --cert-key go with --tls")
+    if not given.tls and (given.ca or given.tls_name or given.cert or given.cert_key):
+        parser.error("--ca, --tls-name, --cert and --cert-key go with --tls")
     if given.cert_key and not given.cert:
         parser.error("--cert-key goes with --cert")
     if given.tls and given.insecure:
@@ -44,7 +47,7 @@ def check_words(parser: argparse.ArgumentParser, given: argparse.Namespace) -> N
 
 
 def tls_of(given: argparse.Namespace) -> Optional[Tls]:
-    return Tls(given.ca, given.cert, given.cert_key) if given.tls else None
+    return Tls(given.ca, given.cert, given.cert_key, given.tls_name) if given.tls else None
 
 
 def session_of(

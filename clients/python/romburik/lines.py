@@ -47,13 +47,15 @@ def checked(line: bytes) -> bytes:
 
 @dataclass(frozen=True)
 class Tls:
-    """How a connection is encrypted. The server shows a certificate for the host's name that `ca`, a
-    file of authorities, else the system's authorities vouch for; `cert` and `key` are files of what
-    this side shows, where the server asks for it."""
+    """How a connection is encrypted. The server shows a certificate that `ca`, a file of authorities,
+    else the system's authorities vouch for. It is for the name that is asked for, `name`, else the
+    host's; a proxy may go by it. `cert` and `key` are files of what this side shows, where the server
+    asks for it."""
 
     ca: Optional[str] = None
     cert: Optional[str] = None
     key: Optional[str] = None
+    name: Optional[str] = None
 
     def context(self) -> ssl.SSLContext:
         context = ssl.create_default_context(cafile=self.ca)
@@ -89,7 +91,8 @@ def _connected(address: Address, timeout: Optional[float]) -> socket.socket:
             raise ConnectionRefusedError("nobody listens")
         made.setsockopt(socket.IPPROTO_TCP, socket.TCP_NODELAY, 1)
         if address.tls:
-            made = address.tls.context().wrap_socket(made, server_hostname=address.host)
+            name = address.tls.name or address.host
+            made = address.tls.context().wrap_socket(made, server_hostname=name)
         elif not address.insecure and leaves_machine(made.getsockname()[0], made.getpeername()[0]):
             raise InTheClear(address.host)
         made.setblocking(False)

@@ -133,6 +133,7 @@ bench: build
 	bench/server $(SERVER)
 	bench/hall $(SERVER)
 	bench/callers $(SERVER)
+	bench/replies $(SERVER)
 	bench/memory $(SERVER)
 	bench/neighbours $(SERVER)
 	bench/hostile $(SERVER)

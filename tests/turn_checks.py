@@ -28,6 +28,7 @@ from spoken import (
     WIDE,
     conversation,
     filled,
+    growth,
     idleness,
     sessions_of,
     standing,
@@ -50,6 +51,16 @@ TALKERS, MOST_OF_A_TALKER = 100, 16 << 10
 ROUNDS, MOST_SENDS = 100, 1.3
 # How many long replies one caller takes, of which more than 64 MiB are held back in all.
 LONG_REPLIES = 5
+# Texts of which a query tells each so often: a reply has 10 MB. How many callers don't take it, and the bytes that
+# the server may take for them.
+REPEATED = [f"{at:02500}" for at in range(8)]
+OFTEN, DEAF, MOST_FLAT = 500, 3, 4 << 20
+OF_REPEATED = (
+    line_of(columns=[["v", "text"]], do="stream", name="s"),
+    line_of(do="query", name="p", text=f"Select Istream({','.join(['v'] * OFTEN)}) From s"),
+    *(put(at, text) for at, text in enumerate(REPEATED)),
+    beat(len(REPEATED)),
+)
 
 
 # ---- Whose turn it is.
@@ -219,6 +230,42 @@ def long_replies_in_pieces(program):
         yield "the reply to a last line without a feed", taken_later(last, wanted)
 
 
+def told_of_repeated():
+    """The reply to FETCH_ALL where each row tells its text OFTEN times."""
+    rows = ({"from": at, "rows": [[text] * OFTEN], "to": at} for at, text in enumerate(REPEATED))
+    return told(len(REPEATED) + 1, *rows)
+
+
+def replies_taken_late(program):
+    """Each of some callers takes his replies late, in another order than they asked: they are whole, and what
+    is told of the lines behind a fetch comes behind its reply. So it is too where calls are kept."""
+    for words in ({}, {"sessions": DEAF + 1, "audit": True}):
+        with Server(program, WIDE, workers=2, **words) as server, contextlib.ExitStack() as open_ones:
+            with Caller(server, "a") as maker:
+                maker.serve(OF_REPEATED)
+                wanted = told_of_repeated() + maker.ask(LIST) + told_of_repeated() + BAD_COMMAND
+            late = [open_ones.enter_context(Caller(server, "a", window=4096)) for _ in range(DEAF)]
+            for caller in late:
+                caller.send(FETCH_ALL, LIST, FETCH_ALL, b"{}\n")
+            time.sleep(SILENCE)
+            for number, caller in enumerate(reversed(late)):
+                found = caller.replies.read(len(wanted))
+                yield f"the replies to late one {number}, {words}", difference(found, wanted)
+
+
+def replies_that_nobody_takes(program):
+    """What callers don't take of long replies takes no memory of their bytes."""
+    with Server(program, WIDE, workers=2) as server, contextlib.ExitStack() as open_ones:
+        with Caller(server, "a") as maker:
+            maker.serve(OF_REPEATED)
+        before = server.memory()
+        for _ in range(DEAF):
+            open_ones.enter_context(Caller(server, "a", window=4096)).send(FETCH_ALL)
+        time.sleep(SILENCE)
+        yield "memory of replies that nobody takes", growth(before, server.peak(), MOST_FLAT)
+        yield "the time of who takes nothing", idleness(server, 1)
+
+
 def replies_keep_their_order(program):
     """Behind what can't be written nothing else is, though it could."""
     name = "a_query_of_a_long_name_{0:02}"
@@ -272,6 +319,8 @@ CHECKS = (
     fetches_among_lines,
     rounds_are_one_send,
     long_replies_in_pieces,
+    replies_taken_late,
+    replies_that_nobody_takes,
     replies_keep_their_order,
     quick_and_then_quiet,
     silent_behind_long_lines,

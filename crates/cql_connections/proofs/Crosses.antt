@@ -58,7 +58,10 @@ module _ (T : RattleType) where
   pub turns_send : IsSend T → IsSend (turns.the_field T).row
   turns_send s = struct_send (shape (turns.the_type T)) (
     queues_send s,
-    (queues_send s, (search sendable, (search sendable, (search (crosses, sendable) depth 30, (search sendable, tt))))),
+    (
+      queues_send s,
+      (search sendable, (search sendable, (search (crosses, sendable) depth 30, (search (crosses, sendable) depth 30, (search sendable, tt))))),
+    ),
   )
 
 module _ (T D : RattleType) where
@@ -77,7 +80,7 @@ module _ (T D : RattleType) where
               search sendable,
               (
                 search (crosses, sendable) depth 30,
-                (search sendable, (let v = Vec-send D e in search (sendable, v) depth 20, (search sendable, (search sendable, (search sendable, tt))))),
+                (search sendable, (let v = Vec-send D e in search (sendable, v) depth 20, (search sendable, (search sendable, (search sendable, (search sendable, tt)))))),
               ),
             ),
           ),

@@ -13,8 +13,12 @@ use slab::Slab;
 use std::alloc::{AllocError, Global};
 use std::time::{Duration, Instant};
 
-// How many bytes may be held for one tenant's callers who don't take them, beside one reply.
+// How many bytes replies may weigh that one tenant's callers are told and haven't taken: while there are
+// more, no answer is begun for the tenant.
 const MOST_HELD: usize = 64 << 20;
+
+// Who takes nothing for so many seconds is in the way of an answer that waits since too much is held.
+const DEAF: u64 = 1;
 
 // How many callers are looked at in a row.
 const AT_ONCE: usize = 4096;
@@ -170,6 +174,8 @@ pub struct Floor<T, D> {
     looked: usize,
     ends: Vec<D>,
     is_whole: bool,
+    // whether an answer waits that may be begun since less is held now
+    is_freed: bool,
     /// Whether a thread looks who has sent.
     pub(crate) is_looked: bool,
     /// Whether workers are to end.
@@ -189,6 +195,7 @@ impl<T: Drop, D: Drop> Drop for Floor<T, D> {
             looked: _,
             ends: _,
             is_whole: _,
+            is_freed: _,
             is_looked: _,
             is_closed: _,
         } = self;
@@ -220,6 +227,7 @@ impl<T: Connected<End = D>, D: Drop> Floor<T, D> {
             looked: 0,
             ends,
             is_whole: true,
+            is_freed: false,
             is_looked: false,
             is_closed: false,
         })
@@ -290,6 +298,7 @@ impl<T: Connected<End = D>, D: Drop> Floor<T, D> {
             looked: _,
             ends,
             is_whole,
+            is_freed: _,
             is_looked: _,
             is_closed: _,
         } = self;
@@ -323,12 +332,37 @@ impl<T: Connected<End = D>, D: Drop> Floor<T, D> {
 
     /// Nobody is connected any more under this key.
     pub(crate) fn forget(&mut self, key: usize) {
+        self.count(key, 0);
         if let Some(slot) = self.slots.try_remove(key) {
             match slot.place.checked_sub(1) {
                 Some(tenant) => self.places.give_back(tenant),
                 None => self.places.leave(),
             }
         }
+    }
+
+    // So many bytes are held for the caller of a key from now on, of whom it is counted whose place he has.
+    fn count(&mut self, key: usize, held: usize) {
+        let Some(slot) = self.slots.get_mut(key) else {
+            return;
+        };
+        let owner = slot.place;
+        let before = std::mem::replace(&mut slot.held, held);
+        if before == held {
+            return;
+        }
+        if let Some(all) = self.held.get_mut(owner) {
+            *all = all.saturating_sub(before).saturating_add(held);
+        }
+        let is_held_up = !self.holds_little(owner);
+        if self.turns.hold_up(owner, is_held_up) {
+            self.is_freed = true;
+        }
+    }
+
+    /// Whether an answer waits that may be begun since less is held now, where that wasn't asked before.
+    pub(crate) fn take_freed(&mut self) -> bool {
+        std::mem::replace(&mut self.is_freed, false)
     }
 
     /// Nobody is connected any more of whom it was to be told by this token.
@@ -344,6 +378,7 @@ impl<T: Connected<End = D>, D: Drop> Floor<T, D> {
         let Some(tenant) = turn.guest.tenant() else {
             return;
         };
+        self.count(turn.key, 0);
         let Some(slot) = self.slots.get_mut(turn.key) else {
             return;
         };
@@ -372,19 +407,14 @@ impl<T: Connected<End = D>, D: Drop> Floor<T, D> {
             slot.is_called = true;
             return None;
         };
-        let held = std::mem::replace(&mut slot.held, 0);
-        let turn = Turn {
+        Some(Turn {
             key,
             guest,
             token: slot.token,
             is_listed: slot.is_listed,
             place: slot.place,
             is_above: false,
-        };
-        if let Some(all) = self.held.get_mut(turn.owner()) {
-            *all = all.saturating_sub(held);
-        }
-        Some(turn)
+        })
     }
 
     // The key of a token, where its caller is connected.
@@ -445,6 +475,7 @@ impl<T: Connected<End = D>, D: Drop> Floor<T, D> {
         if self.is_gone(turn.key) {
             return Err(turn);
         }
+        self.count(turn.key, turn.guest.held());
         self.turns.push_short(turn.owner(), turn)
     }
 
@@ -456,6 +487,7 @@ impl<T: Connected<End = D>, D: Drop> Floor<T, D> {
         if self.is_gone(turn.key) {
             return Err(turn);
         }
+        self.count(turn.key, turn.guest.held());
         self.turns.push_answer(turn.owner(), turn)
     }
 
@@ -464,7 +496,8 @@ impl<T: Connected<End = D>, D: Drop> Floor<T, D> {
         self.turns.has_answers()
     }
 
-    /// Begins an answer for a guest, if it needn't wait and its caller hasn't gone.
+    /// Begins an answer for a guest, if it needn't wait and its caller hasn't gone. It has to wait while too
+    /// much is held for its tenant's callers.
     pub(crate) fn begin_answer(&mut self, turn: &Turn<T>) -> bool
         ensures gone { IfSome (get self.old.slots turn.now.key) (λ slot. slot.is_gone ≡ true → result ≡ false) }
     {
@@ -487,14 +520,13 @@ impl<T: Connected<End = D>, D: Drop> Floor<T, D> {
         if slot.is_gone {
             return Err(turn);
         }
+        self.count(turn.key, turn.guest.held());
+        let Some(slot) = self.slots.get_mut(turn.key) else {
+            return Err(turn);
+        };
         if slot.is_called {
             slot.is_called = false;
             return self.push(turn);
-        }
-        if let Some(all) = self.held.get_mut(turn.owner()) {
-            let held = turn.guest.link().held();
-            *all = all.saturating_add(held);
-            slot.held = held;
         }
         let is_parting = turn.guest.is_refused();
         let begins = if is_parting {
@@ -511,17 +543,35 @@ impl<T: Connected<End = D>, D: Drop> Floor<T, D> {
         Ok(())
     }
 
-    /// As long as too much is held for an owner's callers, takes the guest of the one who has taken
-    /// nothing for the longest of those who don't take all.
-    pub(crate) fn take_deaf(&mut self, owner: usize, deaf: &mut Vec<Turn<T>>) {
+    /// As long as too much is held for the owner's callers beside the guest of this turn, takes the guest of
+    /// the one who has taken nothing for the longest of those who don't take all.
+    pub(crate) fn take_deaf(&mut self, turn: &Turn<T>, deaf: &mut Vec<Turn<T>>) {
+        let owner = turn.owner();
+        self.count(turn.key, 0);
         for _ in 0..self.slots.len() {
             if self.holds_little(owner) || deaf.reserve(1).is_err() {
                 return;
             }
-            let Some(key) = self.deaf(owner) else {
+            let Some((key, _)) = self.deaf(owner) else {
                 return;
             };
+            self.count(key, 0);
             if let Some(turn) = self.leave_slot(key) {
+                deaf.push_reserved(turn);
+            }
+        }
+    }
+
+    /// Of each owner of whom an answer waits since too much is held for its callers, takes the guest of the
+    /// one who has taken nothing for the longest, if that is a second.
+    pub(crate) fn take_hindering(&mut self, now: Instant, deaf: &mut Vec<Turn<T>>) {
+        for owner in 0..self.held.len() {
+            if self.turns.waits_held_up(owner)
+                && deaf.reserve(1).is_ok()
+                && let Some((key, since)) = self.deaf(owner)
+                && now.saturating_duration_since(since) >= Duration::from_secs(DEAF)
+                && let Some(turn) = self.leave_slot(key)
+            {
                 deaf.push_reserved(turn);
             }
         }
@@ -531,8 +581,8 @@ impl<T: Connected<End = D>, D: Drop> Floor<T, D> {
         self.held.get(owner).is_none_or(|held| *held <= MOST_HELD)
     }
 
-    // The owner's guest who has waited for the longest until its caller takes something.
-    fn deaf(&self, owner: usize) -> Option<usize> {
+    // The owner's guest who has waited for the longest until its caller takes something, and since when.
+    fn deaf(&self, owner: usize) -> Option<(usize, Instant)> {
         let mut longest: Option<(usize, Instant)> = None;
         for key in 0..self.slots.capacity() {
             if let Some(slot) = self.slots.get(key)
@@ -544,8 +594,7 @@ impl<T: Connected<End = D>, D: Drop> Floor<T, D> {
                 longest = Some((key, slot.since));
             }
         }
-        let (key, _) = longest?;
-        Some(key)
+        longest
     }
 
     /// Guests whose time has passed by now, of some callers in a row. It goes on with those the next

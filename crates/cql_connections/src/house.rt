@@ -373,13 +373,29 @@ impl<'a, T: Connected<End = D>, D: Drop> House<'a, T, D> {
             }
             WaitsFor::Worker => {
                 turn.guest.settle(self.alloc, is_above);
-                self.floor.lock(rt).push(turn)
+                self.push(rt, turn)
             }
             WaitsFor::Answer => self.push_answer(rt, turn),
             WaitsFor::Bytes | WaitsFor::Room => self.keep(rt, gate, turn, needs),
         };
         if let Err(turn) = refused {
             self.end_gone(rt, gate, turn);
+        }
+    }
+
+    // Has a guest wait for a worker.
+    fn push<R: Wait>(&self, rt: &R, turn: Turn<T>) -> Result<(), Turn<T>> {
+        let mut floor = self.floor.lock(rt);
+        let pushed = floor.push(turn);
+        self.call_freed(&mut floor);
+        pushed
+    }
+
+    // Where an answer may be begun now since less is held, whoever could compute it is woken.
+    fn call_freed(&self, floor: &mut Floor<T, D>) {
+        if floor.take_freed() {
+            self.called.notify_all();
+            let _ = self.bell.wake();
         }
     }
 
@@ -419,16 +435,25 @@ impl<'a, T: Connected<End = D>, D: Drop> House<'a, T, D> {
         }
         let now = Instant::now(rt).ok();
         if needs == WaitsFor::Room {
-            self.end_deaf(rt, gate, turn.owner());
+            self.end_deaf(rt, gate, &turn);
         }
-        self.floor.lock(rt).keep(turn, now)
+        let mut floor = self.floor.lock(rt);
+        let kept = floor.keep(turn, now);
+        self.call_freed(&mut floor);
+        kept
     }
 
-    // Ends sessions of the owner's callers who don't take what is held, as long as that is too much.
-    fn end_deaf<R: Wait, G: Gate>(&self, rt: &R, gate: &G, owner: usize) {
+    // Ends sessions of the tenant's callers who don't take what is held, as long as that is too much beside
+    // what is held for the guest of this turn.
+    fn end_deaf<R: Wait, G: Gate>(&self, rt: &R, gate: &G, turn: &Turn<T>) {
         let mut deaf = Vec::new(self.alloc);
-        self.floor.lock(rt).take_deaf(owner, &mut deaf);
-        for turn in deaf {
+        self.floor.lock(rt).take_deaf(turn, &mut deaf);
+        self.end_all(rt, gate, deaf);
+    }
+
+    // Ends these sessions, as at a write that fails.
+    fn end_all<R: Wait, G: Gate>(&self, rt: &R, gate: &G, turns: Vec<Turn<T>>) {
+        for turn in turns {
             self.end(rt, gate, turn, Some(ScriptError::Write), EndReason::Fault);
         }
     }
@@ -453,19 +478,28 @@ impl<'a, T: Connected<End = D>, D: Drop> House<'a, T, D> {
         } = turn;
         let tenant = guest.tenant();
         let end = Box::into_inner(guest).leave(self.alloc, fault);
-        self.floor.lock(rt).leave(key, end);
+        let mut floor = self.floor.lock(rt);
+        floor.leave(key, end);
+        self.call_freed(&mut floor);
+        drop(floor);
         gate.at(Point::Closed(tenant, reason));
         let _ = self.waker.wake();
     }
 
     /// Ends the sessions of some of those whose time has passed. Where others wait for their places,
-    /// those who haven't logged in have little time.
+    /// those who haven't logged in have little time. Where answers of a tenant wait since too much is held
+    /// for its callers, the session ends of the one who has taken nothing for the longest.
     pub fn look_round<R: Wait + Clock, G: Gate>(&self, rt: &R, gate: &G, is_crowded: bool) {
         let Ok(now) = Instant::now(rt) else {
             return;
         };
         let mut late = Vec::new(self.alloc);
-        self.floor.lock(rt).take_late(now, is_crowded, &mut late);
+        let mut deaf = Vec::new(self.alloc);
+        let mut floor = self.floor.lock(rt);
+        floor.take_late(now, is_crowded, &mut late);
+        floor.take_hindering(now, &mut deaf);
+        drop(floor);
+        self.end_all(rt, gate, deaf);
         for turn in late {
             let (fault, reason) = (turn.fault_of_silence(), turn.reason_of_late());
             self.end(rt, gate, turn, fault, reason);

@@ -34,6 +34,11 @@ impl<T: Drop> OwnerQueues<T> {
         self.order.len() > 1 || self.order.front().is_some_and(|first| *first != owner)
     }
 
+    // Whether something of the owner waits.
+    fn has(&self, owner: usize) -> bool {
+        self.lines.get(owner).is_some_and(|line| !line.is_empty())
+    }
+
     // Puts it last in its owner's queue. Without memory it comes back.
     fn push(&mut self, owner: usize, item: T) -> Result<(), T> {
         let Some(line) = self.lines.get_mut(owner) else {
@@ -129,7 +134,8 @@ pub struct Task<T> {
 
 /// What waits for a worker: short turns, and answers. Owners take turns in either. Short turns go
 /// first, but for one answer after every sixteen of them. All workers may compute answers at once; and
-/// for one owner half of them, rounded up, while an answer of another one waits.
+/// for one owner half of them, rounded up, while an answer of another one waits. Of an owner who is held
+/// up no answer is begun.
 #[derive(Drop)]
 pub struct Turns<T> {
     short: OwnerQueues<T>,
@@ -138,6 +144,8 @@ pub struct Turns<T> {
     most: usize,
     busy: usize,
     busy_of: Vec<usize>,
+    // which owners are held up
+    held_up: Vec<bool>,
     // how many short turns were taken since the last answer
     in_a_row: u32,
 }
@@ -148,12 +156,14 @@ impl<T: Drop> Turns<T> {
         let short = OwnerQueues::new(alloc, owners)?;
         let answers = OwnerQueues::new(alloc, owners)?;
         let busy_of = vec![in alloc; 0; owners]?;
+        let held_up = vec![in alloc; false; owners]?;
         Ok(Turns {
             short,
             answers,
             most: workers,
             busy: 0,
             busy_of,
+            held_up,
             in_a_row: 0,
         })
     }
@@ -195,9 +205,29 @@ impl<T: Drop> Turns<T> {
         self.answers.take_out(&is_out, out);
     }
 
+    /// From now on no answer of the owner is begun, or they are. Whether one waits that may be now.
+    pub fn hold_up(&mut self, owner: usize, is_held_up: bool) -> bool {
+        let Some(held_up) = self.held_up.get_mut(owner) else {
+            return false;
+        };
+        let was_held_up = std::mem::replace(held_up, is_held_up);
+        was_held_up && !is_held_up && self.answers.has(owner)
+    }
+
+    // Whether no answer of the owner is begun.
+    fn is_held_up(&self, owner: usize) -> bool {
+        self.held_up.get(owner).is_some_and(|held_up| *held_up)
+    }
+
+    /// Whether an answer of the owner waits since it is held up.
+    pub(crate) fn waits_held_up(&self, owner: usize) -> bool {
+        self.is_held_up(owner) && self.answers.has(owner)
+    }
+
     /// Begins an answer that hasn't waited, where none waits and one more may be computed.
     pub fn begin_answer(&mut self, owner: usize) -> bool {
-        let may_begin = self.answers.count == 0 && self.busy < self.most;
+        let is_free = self.answers.count == 0 && self.busy < self.most;
+        let may_begin = is_free && !self.is_held_up(owner);
         if may_begin {
             self.begin(owner);
         }
@@ -224,7 +254,8 @@ impl<T: Drop> Turns<T> {
     fn may_begin(&self, owner: usize) -> bool {
         let busy = self.busy_of.get(owner).map_or(0, |busy| *busy);
         let share = self.most.div_ceil(2);
-        self.busy < self.most && (busy < share || !self.answers.has_other(owner))
+        let is_free = self.busy < self.most && !self.is_held_up(owner);
+        is_free && (busy < share || !self.answers.has_other(owner))
     }
 
     /// What is to be done next, if anything can be now, by a thread that computes answers or by one

@@ -7,10 +7,14 @@ use Rattle.std.proofs.Crossing.{crosses}
 use Rattle.std.below.std_heap.proofs.GlobalAllocator.TheSendSync as frees
 use Rattle.cql_lines.proofs.intake.Intake.TheSendSync as intake
 use Rattle.cql_hall.proofs.hall.Seat.TheSendSync as seat
+use Rattle.cql_reply.proofs.line_place.LinePlace.TheSendSync as place
+use Rattle.cql_core.proofs.CrossCores.{reply_send}
 use Rattle.cql_hall.proofs.Crosses.{receipt_row_send}
+use Rattle.cql_wire.specs.contracts.held_reply.HeldReply as held
 use Rattle.cql_sessions.specs.contracts.caller.Caller as caller
 use Rattle.cql_sessions.specs.contracts.ending.Ending as ending
 use Rattle.cql_sessions.specs.contracts.guest.Guest as guest
+use Rattle.cql_sessions.specs.contracts.in_hand.Taking as taking
 use Rattle.cql_sessions.specs.contracts.connection.Connection as link
 use Rattle.cql_sessions.specs.contracts.parting.Parting as parting
 use Rattle.cql_sessions.specs.contracts.visit.Visit as visit
@@ -21,8 +25,26 @@ ending_send = search (sendable, seat.the_send, vec.the_send, heap.the_send, free
 pub ending_row_send : IsSend ending.the_row
 ending_row_send = search (sendable, ending_send) depth 20
 
+pub held_send : IsSend (held.the_field).row
+held_send = struct_send (shape held.the_type) (search (sendable, reply_send) depth 20, (place.the_field_send, (search sendable, tt)))
+
+pub held_row_send : IsSend held.the_row
+held_row_send = search (sendable, held_send) depth 20
+
+pub taking_send : IsSend (taking.the_field).row
+taking_send = search (sendable, held_row_send) depth 20
+
+pub taking_row_send : IsSend taking.the_row
+taking_row_send = search (sendable, taking_send) depth 20
+
 pub caller_send : IsSend (caller.the_field).row
-caller_send = search (sendable, vec.the_send, heap.the_send, frees.the_frees, receipt_row_send) depth 20
+caller_send = struct_send (shape caller.the_type) (
+  search (sendable, seat.the_send) depth 20,
+  (
+    search (sendable, vec.the_send, heap.the_send, frees.the_frees, receipt_row_send) depth 20,
+    (search sendable, (search (sendable, taking_send) depth 20, tt)),
+  ),
+)
 
 pub caller_row_send : IsSend caller.the_row
 caller_row_send = search (sendable, caller_send) depth 20

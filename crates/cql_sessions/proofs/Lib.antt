@@ -2,3 +2,4 @@ pub mod BenchesCrosses
 pub mod Crosses
 pub mod Seating
 pub mod Taking
+pub mod Telling

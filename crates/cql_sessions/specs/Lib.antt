@@ -1,5 +1,6 @@
 pub mod Agreed
 pub mod Answering
+pub mod InHand
 pub mod Request
 pub mod Seating
 pub mod Tallies

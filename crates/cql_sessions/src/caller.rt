@@ -1,8 +1,9 @@
 // A caller who has logged in.
-ghost use Rattle.std.specs.Prelude.{◌≡◌, ◌≢◌, [], true, Some, Ok, IfOk};
+ghost use Rattle.std.specs.Prelude.{◌≡◌, ◌≢◌, ◌++◌, [], true, None, Some, Ok, IfOk, is_none};
 ghost use Rattle.cql_sessions.specs.Tallies.{Tallies};
 
 use crate::callable::Callable;
+use crate::in_hand::Taking;
 use crate::request::{Request, prepared_of};
 use crate::sessions::SessionEnd;
 use cql_core::{Evaluator, Reply, TenantId, TenantTable};
@@ -34,11 +35,13 @@ pub(crate) enum LineOutcome {
     Held,
 }
 
-/// A seat, and the receipts of its calls where calls are kept.
+/// A seat, the receipts of its calls where calls are kept, and the reply that is being told.
 pub(crate) struct Caller {
     pub seat: Seat,
     receipts: Vec<Receipt>,
     is_kept: bool,
+    // the reply that is being told, which is the last receipt's where calls are kept
+    taking: Taking,
     ghost tallies: { Tallies is_kept seat receipts.items },
 }
 
@@ -48,6 +51,7 @@ impl Drop for Caller {
             seat: _,
             receipts: _,
             is_kept: _,
+            taking: _,
         } = self;
     }
 }
@@ -55,17 +59,22 @@ impl Drop for Caller {
 impl Caller {
     ghost use Rattle.std.specs.Arc.{arc_value};
     ghost use Rattle.cql_lines.specs.Next.{text_of};
+    ghost use Rattle.cql_lines.specs.Watched.{inner_of};
     ghost use Rattle.cql_sessions.specs.Answering.{Calls};
+    ghost use Rattle.cql_sessions.specs.InHand.{caller_to_come, TellsLine};
     ghost use Rattle.cql_sessions.specs.Request.{request_of};
     ghost use Rattle.cql_sessions.specs.Seating.{of_caller};
 
-    /// A caller of the tenant, who has made no call.
+    /// A caller of the tenant, who has made no call. What is told of his fetches is told bit by bit, or at
+    /// once.
     pub(crate) fn new<H: Wait, C: Callable<H, G>, G: Gate>(
         service: &Service<'_, H, C, G>,
         tenant: TenantId,
         is_kept: bool,
+        is_bitwise: bool,
     ) -> Caller
         ensures kept { result.is_kept ≡ is_kept }
+        ensures nothing { caller_to_come result ≡ [] }
         ensures whose { result.seat.tenant ≡ tenant }
         ensures none { result.receipts.items ≡ [] }
     {
@@ -73,7 +82,32 @@ impl Caller {
             seat: service.hall.seat(tenant),
             receipts: Vec::new(service.alloc),
             is_kept,
+            taking: Taking::new(is_bitwise),
         }
+    }
+
+    /// Whether nothing is to come of the last reply.
+    pub(crate) fn is_told(&self) -> bool
+        ensures { result ≡ is_none self.now.taking.held }
+    {
+        self.taking.is_done()
+    }
+
+    /// Moves what is to come of the last reply behind what is buffered, as far as there is room.
+    pub(crate) fn fill(&mut self, buffer: &mut ReplyBuffer)
+        ensures told { buffer.new ++ caller_to_come self.new ≡ buffer.old ++ caller_to_come self.old }
+        ensures same { (self.new.is_kept ≡ self.old.is_kept) × (of_caller self.new ≡ of_caller self.old) }
+    {
+        let lent = match self.receipts.last() {
+            Some(receipt) => Some(&receipt.reply),
+            None => None,
+        };
+        self.taking.fill(lent, buffer);
+    }
+
+    /// What the reply weighs that is being told, in bytes.
+    pub(crate) fn weight(&self) -> usize {
+        self.taking.weight()
     }
 
     /// How its session ends.
@@ -85,6 +119,7 @@ impl Caller {
             seat,
             receipts,
             is_kept: _,
+            taking: _,
         } = self;
         SessionEnd {
             seat: Some(seat),
@@ -93,8 +128,8 @@ impl Caller {
         }
     }
 
-    // Makes a call, buffers its reply, and keeps its receipt where calls are kept. Without room
-    // for the receipt no call is made, and the line is told so (70).
+    // Makes a call, tells its reply as far as that is told at once, and keeps its receipt where calls are
+    // kept. Without room for the receipt no call is made, and the line is told so (70).
     fn call<H: Wait, C: Callable<H, G>, E: Evaluator, G: Gate, W: Write>(
         &mut self,
         service: &Service<'_, H, C, G>,
@@ -107,6 +142,8 @@ impl Caller {
         ensures bench { E.is_ready bench.new }
         ensures kept { self.new.is_kept ≡ self.old.is_kept }
         ensures calls { Calls (Ok (arc_value request.prepared)) (of_caller self.old) (of_caller self.new) }
+        ensures told { self.old.taking.held ≡ None → TellsLine self.old.is_kept (of_caller self.old) (of_caller self.new) (Ok (arc_value request.prepared))
+            (W.contents (inner_of writer.old)) (W.contents (inner_of writer.new)) buffer.old (buffer.new ++ caller_to_come self.new) result }
     {
         if self.is_kept && self.receipts.reserve(1).is_err() {
             service
@@ -122,10 +159,19 @@ impl Caller {
             .call(service.rt, gate, &mut self.seat, prepared);
         let receipt = pending.finish(service.alloc, bench, gate);
         tell(gate, kind, begun, &receipt.reply);
-        let told = buffer.put_reply(service.alloc, writer, &receipt.reply);
-        if self.is_kept {
-            self.receipts.push_reserved(receipt);
+        if !self.is_kept {
+            let Receipt {
+                tenant: _,
+                prepared: _,
+                place: _,
+                reply,
+            } = receipt;
+            return self.taking.begin(service.alloc, writer, reply, buffer);
         }
+        let told = self
+            .taking
+            .begin_lent(service.alloc, writer, &receipt.reply, buffer);
+        self.receipts.push_reserved(receipt);
         told
     }
 

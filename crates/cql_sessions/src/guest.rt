@@ -84,6 +84,9 @@ pub trait Connected: Drop {
     /// it, it is told want of memory (70) in the place of the reply to its login, and it is over.
     fn settle(&mut self, alloc: Global, is_above: bool);
 
+    /// How many bytes are held back or not used yet, with what the reply weighs that is being told.
+    fn held(&self) -> usize;
+
     /// Gives back what memory it doesn't need while nothing comes.
     fn rest(&mut self);
 
@@ -97,7 +100,7 @@ impl Connected for Guest {
     fn new(alloc: Global, stream: TcpStream, is_kept: bool) -> io::Result<Guest> {
         Ok(Guest {
             link: Connection::new(alloc, stream)?,
-            visit: Visit::new(alloc, is_kept),
+            visit: Visit::new(alloc, is_kept, true),
             parting: Parting::new(),
             is_away: false,
         })
@@ -127,6 +130,10 @@ impl Connected for Guest {
         let _ = self.link.send(alloc);
     }
 
+    fn held(&self) -> usize {
+        self.link.held().saturating_add(self.visit.weight())
+    }
+
     fn rest(&mut self) {
         self.visit.intake.rest();
     }
@@ -145,10 +152,10 @@ impl Connected for Guest {
 }
 
 impl Guest {
-    /// Serves its session for a while: writes what is held back, or reads once and answers lines
-    /// up to a fetch, or the login alone, whose reply is held back until its next turn. A caller who
-    /// doesn't take what is written is not read from. Of one whose login was refused what still comes is
-    /// read and let go of. Nothing of its replies stays in the buffers.
+    /// Serves its session for a while: writes what is held back, or tells some of the reply in hand, or
+    /// reads once and answers lines up to a fetch, or the login alone, whose reply is held back until its
+    /// next turn. A caller who doesn't take what is written is not read from. Of one whose login was
+    /// refused what still comes is read and let go of. Nothing of its replies stays in the buffers.
     pub fn turn<H: Wait, C: Callable<H, G>, E: Evaluator, G: Gate>(
         &mut self,
         service: &Service<'_, H, C, G>,
@@ -277,17 +284,19 @@ impl Guest {
     // Its session ends behind what was answered, and what is told of that is want of memory.
     fn end_without_memory(&mut self) -> WaitsFor {
         self.visit.is_over = true;
-        if self.link.unsent.is_empty() {
+        if !self.link.unsent.is_empty() {
+            WaitsFor::Room
+        } else if self.visit.is_telling() {
+            WaitsFor::Worker
+        } else {
             self.link.tell_no_memory();
             WaitsFor::End(Some(ScriptError::NoMemory))
-        } else {
-            WaitsFor::Room
         }
     }
 }
 
-// Answers the fetch that is held, or else lines of what isn't used yet, or else of what one read
-// gives. Gives what isn't used now; or nothing has come.
+// Tells some of the reply in hand; or answers the fetch that is held, or else lines of what isn't used
+// yet, or else of what one read gives. Gives what isn't used now; or nothing has come.
 fn answer_next<H: Wait, C: Callable<H, G>, E: Evaluator, G: Gate>(
     service: &Service<'_, H, C, G>,
     bench: &mut E,
@@ -305,6 +314,10 @@ fn answer_next<H: Wait, C: Callable<H, G>, E: Evaluator, G: Gate>(
         scratch,
         buffer,
     } = buffers;
+    if visit.is_telling() {
+        visit.fill(buffer);
+        return Ok(Came::Unasked);
+    }
     if !visit.is_held {
         let Some(bytes) = next_bytes(outbox.inner().stream, unread, chunk)? else {
             return Ok(Came::Nothing);

@@ -10,6 +10,7 @@ mod caller;
 mod connection;
 mod ending;
 mod guest;
+mod in_hand;
 mod login;
 mod parting;
 mod request;

@@ -75,7 +75,7 @@ where
         table,
         gate,
     };
-    let mut visit = Visit::new(alloc, J::is_kept());
+    let mut visit = Visit::new(alloc, J::is_kept(), false);
     let served = attend(&service, bench, &mut visit, &mut reader, &mut writer);
     if served == Err(ScriptError::NoMemory) && visit.tenant().is_none() {
         let _ = write_fault(&mut writer, &LineFault::NoMemory);

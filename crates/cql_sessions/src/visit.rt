@@ -22,6 +22,8 @@ pub(crate) struct Visit {
     pub intake: Intake,
     /// Whether its calls are kept.
     pub is_kept: bool,
+    // whether what is told of fetches is told bit by bit
+    is_bitwise: bool,
     /// Whether the line is whole: a fetch that waits to be answered. No bytes are taken before it is.
     pub is_held: bool,
     /// Whether nothing more comes.
@@ -37,6 +39,7 @@ impl Drop for Visit {
             caller: _,
             intake: _,
             is_kept: _,
+            is_bitwise: _,
             is_held: _,
             is_ended: _,
             is_over: _,
@@ -47,6 +50,8 @@ impl Drop for Visit {
 /// How far a session is.
 #[derive(Clone, Copy)]
 pub(crate) struct Stage {
+    /// Whether something is to come of the last reply.
+    pub is_telling: bool,
     /// Whether a fetch waits to be answered.
     pub is_held: bool,
     /// Whether no more is answered.
@@ -63,10 +68,11 @@ pub(crate) struct Progress {
 
 impl Visit {
     ghost use Rattle.cql_lines.specs.Text.{shown_line};
+    ghost use Rattle.cql_sessions.specs.InHand.{visit_to_come};
     ghost use Rattle.cql_sessions.specs.Seating.{IsNew, HasGoneOn, Visits, Faces, Served, Answers, account_of};
 
-    /// Nothing has come yet. Takes no memory.
-    pub(crate) fn new(alloc: Global, is_kept: bool) -> Visit
+    /// Nothing has come yet. Takes no memory. What is told of fetches is told bit by bit, or at once.
+    pub(crate) fn new(alloc: Global, is_kept: bool, is_bitwise: bool) -> Visit
         ensures kept { result.is_kept ≡ is_kept }
         ensures going { result.is_held ≡ false }
         ensures begins { IsNew result }
@@ -75,6 +81,7 @@ impl Visit {
             caller: None,
             intake: Intake::new(alloc),
             is_kept,
+            is_bitwise,
             is_held: false,
             is_ended: false,
             is_over: false,
@@ -84,8 +91,35 @@ impl Visit {
     /// How far it is.
     pub(crate) fn stage(&self) -> Stage {
         Stage {
+            is_telling: self.is_telling(),
             is_held: self.is_held,
             is_over: self.is_over,
+        }
+    }
+
+    /// Whether something is to come of its caller's last reply.
+    pub(crate) fn is_telling(&self) -> bool {
+        match &self.caller {
+            Some(caller) => !caller.is_told(),
+            None => false,
+        }
+    }
+
+    /// Moves what is to come of its caller's last reply behind what is buffered, as far as there is room.
+    pub(crate) fn fill(&mut self, buffer: &mut ReplyBuffer)
+        ensures same { (self.new.is_kept ≡ self.old.is_kept) × (account_of self.new.caller ≡ account_of self.old.caller) }
+        ensures told { buffer.new ++ visit_to_come self.new.caller ≡ buffer.old ++ visit_to_come self.old.caller }
+    {
+        if let Some(caller) = &mut self.caller {
+            caller.fill(buffer);
+        }
+    }
+
+    /// What the reply weighs that its caller is told, in bytes.
+    pub(crate) fn weight(&self) -> usize {
+        match &self.caller {
+            Some(caller) => caller.weight(),
+            None => 0,
         }
     }
 
@@ -211,7 +245,7 @@ impl Visit {
         match answer_login(alloc, service.table, line, buffer, writer)? {
             Some(tenant) => {
                 service.gate.at(Point::LoggedIn(tenant));
-                self.caller = Some(Caller::new(service, tenant, self.is_kept));
+                self.caller = Some(Caller::new(service, tenant, self.is_kept, self.is_bitwise));
                 Ok(LineOutcome::Last)
             }
             None => {
@@ -234,6 +268,7 @@ impl Visit {
             caller,
             intake: _,
             is_kept: _,
+            is_bitwise: _,
             is_held: _,
             is_ended: _,
             is_over: _,

@@ -1,24 +1,13 @@
 use Rattle.std.proofs.lemmas.Grind.{common_steps}
-use Rattle.std.proofs.Common.{arith}
+use Rattle.std.proofs.Common.{rules, arith}
+use Rattle.cql_sessions.proofs.Telling.{told_no_memory, told_kept}
 use Rattle.cql_sessions.proofs.caller.Caller.call.Goals as goal
 
-pub invariant_of-self-then-self-2 : goal.invariant_of-self-then-self-2
-invariant_of-self-then-self-2 g c = grind (arith, common_steps)
+pub returns-then-is_err-clause-told : goal.returns-then-is_err-clause-told
+returns-then-is_err-clause-told g c = λ nothing.
+    told_no_memory _ _ _ _ _ _ _ _ _ _ (first_of (search rules, grind (arith, common_steps))) nothing c.put_fault.ensures.buffers
 
-pub invariant_of-self : goal.invariant_of-self
-invariant_of-self g c = grind (arith, common_steps)
-
-pub invariant_of-self-else-self-2 : goal.invariant_of-self-else-self-2
-invariant_of-self-else-self-2 g c = grind (arith, common_steps)
-
-pub push_reserved-requires : goal.push_reserved-requires
-push_reserved-requires g c = grind (arith, common_steps)
-
-pub returns-then-self-2-clause-calls : goal.returns-then-self-2-clause-calls
-returns-then-self-2-clause-calls g c = grind (arith, common_steps)
-
-pub returns-then-is_err-clause-calls : goal.returns-then-is_err-clause-calls
-returns-then-is_err-clause-calls g c = grind (arith, common_steps)
-
-pub returns-else-self-2-clause-calls : goal.returns-else-self-2-clause-calls
-returns-else-self-2-clause-calls g c = grind (arith, common_steps)
+pub returns-clause-told : goal.returns-clause-told
+returns-clause-told g c = λ nothing.
+    told_kept _ _ _ _ c.finish-receipt.result _ _ c.args.buffer.now c.begin_lent-told.new.buffer c.begin_lent-told.new.self.held c.begin_lent-told.result (first_of (search rules, grind (arith, common_steps))) (first_of (search rules, grind (arith, common_steps)))
+    (first_of (search rules, grind (arith, common_steps))) c.call-pending.ensures.tenant.1 (first_of (search rules, grind (arith, common_steps))) c.begin_lent-told.ensures.told

@@ -9,6 +9,7 @@ pub mod Crosses
 pub mod Fit
 pub mod Keeps
 pub mod Numbers
+pub mod Bare
 pub mod Changes
 pub mod Trims
 pub mod Next

@@ -6,9 +6,11 @@ use Rattle.std.proofs.lemmas.List.{get_or-set_same, get_or-set_other, get_or_pas
 use Rattle.cql_bag.specs.Levels.{changed_where}
 use Rattle.cql_bag.proofs.Marked.{changed_at, length-changed_where}
 use Rattle.cql_store.specs.declared.stub.Stub.{Stub}
-use Rattle.cql_store.specs.Sequence.{Slots, slot_of, at_some, held_count, emptied, marked, greatest, limit, first_at, limit_at, IsLive, AreOf, AreKnown, AreWithin}
+use Rattle.cql_store.specs.Sequence.{Slots, slot_of, at_some, held_count, emptied, lapsed, bare, marked, greatest, limit, first_at, limit_at, IsLive, AreOf, AreKnown, AreWithin}
 use Rattle.cql_store.proofs.Keeps.{slot_map, marked_not}
-use Rattle.cql_store.proofs.Numbers.{get_or_any, limit_live, past_limit, within_limit, map_none, mark_same}
+use Rattle.std.proofs.lemmas.Simd.{map-map}
+use Rattle.cql_store.proofs.Numbers.{get_or_any, limit_live, past_limit, within_limit, map_none, map_same}
+use Rattle.cql_store.proofs.Bare.{AreSameBare}
 
 -- where no stub's limit is below the count, none is marked
 pub mark_over : (count : ℕ) (slots : Slots) → AreWithin slots → ((id : ℕ) (s : Stub) → IsLive slots id s → count ≤ limit s) → map (at_some (marked count)) slots ≡ slots
@@ -100,9 +102,21 @@ known_lifted slots firsts limits count known within top = record {
 
 -- ---- the walk over all slots
 
+-- a slot of which the stub is marked, and then keeps nothing where it is overrun
+abbrev pub marked_bare : ℕ → Option Stub → Option Stub
+marked_bare count o = at_some bare (at_some (marked count) o)
+
+-- a stub that lapses is as it is marked
+lapsed_marked : (count : ℕ) (s : Stub) → s.overrun ≡ false → nat_lt s.hold (held_count count s) ≡ true → marked_bare count (Some (lapsed s)) ≡ marked_bare count (Some s)
+lapsed_marked count s live over =
+    let a : marked count (lapsed s) ≡ lapsed s = grind arith in
+    let b : marked count s ≡ emptied s = grind (arith, live, over) in
+    let c : bare (lapsed s) ≡ bare (emptied s) = grind arith in
+    ap (λ (u : Stub). Some (bare u)) a ∙ ap (λ (u : Stub). Some u) c ∙ sym (ap (λ (u : Stub). Some (bare u)) b)
+
 -- the stubs of the slots before one were marked
 pub record Walked (count : ℕ) (old now : Slots) (limits : List ℕ) (k : ℕ) : Type 0 where
-  pub stubs : map (at_some (marked count)) now ≡ map (at_some (marked count)) old
+  pub stubs : map (marked_bare count) now ≡ map (marked_bare count) old
   pub done : (id : ℕ) (s : Stub) → id < k → IsLive now id s → count ≤ limit s
   pub ahead : (id : ℕ) → k ≤ id → slot_of now id ≡ slot_of old id
   pub covers : (id : ℕ) (s : Stub) → slot_of now id ≡ Some s → id < length limits
@@ -117,9 +131,10 @@ walked_none count old limits of within = record {
   within = within;
 }
 
-pub walked_all : (count : ℕ) (old now : Slots) (limits : List ℕ) (k : ℕ) → Walked count old now limits k → length limits ≤ k → now ≡ map (at_some (marked count)) old
+pub walked_all : (count : ℕ) (old now : Slots) (limits : List ℕ) (k : ℕ) → Walked count old now limits k → length limits ≤ k → AreSameBare now (map (at_some (marked count)) old)
 walked_all count old now limits k walked past =
-    sym (mark_over count now walked.within (λ id s live. walked.done id s (let inside : id < length limits = walked.covers id s live.held in omega (arith, inside, past)) live)) ∙ walked.stubs
+    let over : map (at_some (marked count)) now ≡ now = mark_over count now walked.within (λ id s live. walked.done id s (let inside : id < length limits = walked.covers id s live.held in omega (arith, inside, past)) live) in
+    sym (ap (map (at_some bare)) over) ∙ map-map (at_some bare) (at_some (marked count)) now ∙ walked.stubs ∙ sym (map-map (at_some bare) (at_some (marked count)) old)
 
 -- a slot whose number isn't below the count
 pub walked_past : (count : ℕ) (old now : Slots) (limits : List ℕ) (k : ℕ) → Walked count old now limits k → AreOf limit_at old limits → k < length limits → count ≤ get_or limits k 0 → Walked count old now limits (k + 1)
@@ -137,8 +152,8 @@ walked_past count old now limits k walked of within high = record {
   within = walked.within;
 }
 
-emptied_dead : (s t : Stub) → Some (emptied s) ≡ Some t → t.overrun ≡ false → ⊥
-emptied_dead s t is live = absurd (let e : emptied s ≡ t = cc in let over : (emptied s).overrun ≡ t.overrun = ap (λ (u : Stub). u.overrun) e in cc)
+lapsed_dead : (s t : Stub) → Some (lapsed s) ≡ Some t → t.overrun ≡ false → ⊥
+lapsed_dead s t is live = absurd (let e : lapsed s ≡ t = cc in let over : (lapsed s).overrun ≡ t.overrun = ap (λ (u : Stub). u.overrun) e in cc)
 
 inside_of : (slots : Slots) (k : ℕ) (s : Stub) → slot_of slots k ≡ Some s → k < length slots
 inside_of [] k s found = absurd cc
@@ -146,27 +161,27 @@ inside_of (x ∷ slots) zero s found = omega arith
 inside_of (x ∷ slots) (suc k) s found = let inner : k < length slots = inside_of slots k s found in omega (arith, inner)
 
 -- a slot whose number is below the count, and whose stub is marked
-pub walked_over : (count : ℕ) (old now new : Slots) (limits : List ℕ) (k : ℕ) → Walked count old now limits k → AreOf limit_at old limits → k < length limits → get_or limits k 0 < count → count ≤ greatest → ((s : Stub) → slot_of now k ≡ Some s → new ≡ set now k (Some (emptied s))) → Walked count old new limits (k + 1)
+pub walked_over : (count : ℕ) (old now new : Slots) (limits : List ℕ) (k : ℕ) → Walked count old now limits k → AreOf limit_at old limits → k < length limits → get_or limits k 0 < count → count ≤ greatest → ((s : Stub) → slot_of now k ≡ Some s → new ≡ set now k (Some (lapsed s))) → Walked count old new limits (k + 1)
 walked_over count old now new limits k walked of within low top is =
     let at = low_live old limits k count of within low top in
     let s = at.0 in
     let found : slot_of now k ≡ Some s = walked.ahead k (omega arith) ∙ at.1.held in
     let past : nat_lt s.hold (held_count count s) ≡ true = past_limit count s at.2 top in
     let inside : k < length now = inside_of now k s found in
-    let here : slot_of (set now k (Some (emptied s))) k ≡ Some (emptied s) = get_or-set_same now k (Some (emptied s)) None inside in
+    let here : slot_of (set now k (Some (lapsed s))) k ≡ Some (lapsed s) = get_or-set_same now k (Some (lapsed s)) None inside in
     rw (is s found) (record {
-      stubs = mark_same count now k s found at.1.live past ∙ walked.stubs;
+      stubs = map_same (marked_bare count) now k s (Some (lapsed s)) found (lapsed_marked count s at.1.live past) ∙ walked.stubs;
       done = λ id t below live. elim (cases_eq id k) [
-        | inl same ↦ absurd (emptied_dead s t (sym here ∙ ap (slot_of (set now k (Some (emptied s)))) (sym same) ∙ live.held) live.live)
-        | inr differs ↦ walked.done id t (omega (arith, below, differs)) (record { held = sym (get_or-set_other now k id (Some (emptied s)) None differs) ∙ live.held; live = live.live })
+        | inl same ↦ absurd (lapsed_dead s t (sym here ∙ ap (slot_of (set now k (Some (lapsed s)))) (sym same) ∙ live.held) live.live)
+        | inr differs ↦ walked.done id t (omega (arith, below, differs)) (record { held = sym (get_or-set_other now k id (Some (lapsed s)) None differs) ∙ live.held; live = live.live })
       ];
-      ahead = λ id above. let differs : id ≢ k = omega (arith, above) in get_or-set_other now k id (Some (emptied s)) None differs ∙ walked.ahead id (omega (arith, above));
+      ahead = λ id above. let differs : id ≢ k = omega (arith, above) in get_or-set_other now k id (Some (lapsed s)) None differs ∙ walked.ahead id (omega (arith, above));
       covers = λ id t held. elim (cases_eq id k) [
         | inl same ↦ omega (arith, same, within)
-        | inr differs ↦ walked.covers id t (sym (get_or-set_other now k id (Some (emptied s)) None differs) ∙ held)
+        | inr differs ↦ walked.covers id t (sym (get_or-set_other now k id (Some (lapsed s)) None differs) ∙ held)
       ];
       within = λ id t live. elim (cases_eq id k) [
-        | inl same ↦ absurd (emptied_dead s t (sym here ∙ ap (slot_of (set now k (Some (emptied s)))) (sym same) ∙ live.held) live.live)
-        | inr differs ↦ walked.within id t (record { held = sym (get_or-set_other now k id (Some (emptied s)) None differs) ∙ live.held; live = live.live })
+        | inl same ↦ absurd (lapsed_dead s t (sym here ∙ ap (slot_of (set now k (Some (lapsed s)))) (sym same) ∙ live.held) live.live)
+        | inr differs ↦ walked.within id t (record { held = sym (get_or-set_other now k id (Some (lapsed s)) None differs) ∙ live.held; live = live.live })
       ];
     })

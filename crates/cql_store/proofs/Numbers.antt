@@ -101,7 +101,7 @@ within_limit count s low few = omega (arith, low, few)
 marked_once : (count : ℕ) (s : Stub) → s.overrun ≡ false → nat_lt s.hold (held_count count s) ≡ true → marked count (emptied s) ≡ marked count s
 marked_once count s live over = grind (arith, live, over)
 
-map_same : (F : Option Stub → Option Stub) (slots : Slots) (id : ℕ) (s : Stub) (o : Option Stub) → slot_of slots id ≡ Some s → F o ≡ F (Some s) → map F (set slots id o) ≡ map F slots
+pub map_same : (F : Option Stub → Option Stub) (slots : Slots) (id : ℕ) (s : Stub) (o : Option Stub) → slot_of slots id ≡ Some s → F o ≡ F (Some s) → map F (set slots id o) ≡ map F slots
 map_same F [] id s o found same = refl
 map_same F (x ∷ slots) zero s o found same = λ i. (same ∙ ap F (sym found)) i ∷ map F slots
 map_same F (x ∷ slots) (suc id) s o found same = ap (λ l. F x ∷ l) (map_same F slots id s o found same)

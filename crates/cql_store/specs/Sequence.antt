@@ -38,6 +38,14 @@ held_count len s = len - s.first + length s.kept
 abbrev pub emptied : Stub → Stub
 emptied s = record s { overrun = true; kept = [] }
 
+-- one that is overrun, and still keeps its rows: nobody sees them
+abbrev pub lapsed : Stub → Stub
+lapsed s = record s { overrun = true }
+
+-- a stub without what it keeps, if it is overrun
+abbrev pub bare : Stub → Stub
+bare s = if s.overrun then record s { kept = [] } else s
+
 abbrev pub marked : ℕ → Stub → Stub
 marked len s = if s.overrun then s else if nat_lt s.hold (held_count len s) then emptied s else s
 
@@ -49,6 +57,10 @@ at_some f (Some s) = Some (f s)
 pub record IsLive (slots : Slots) (id : ℕ) (s : Stub) : Type 0 where
   pub held : slot_of slots id ≡ Some s
   pub live : s.overrun ≡ false
+
+-- from one slot to before another no stub that is overrun keeps rows
+abbrev pub AreBareIn : Slots → ℕ → ℕ → Type 0
+AreBareIn slots from to = (id : ℕ) (s : Stub) → from ≤ id → id < to → slot_of slots id ≡ Some s → s.overrun ≡ true → s.kept ≡ []
 
 -- a window of parts keeps its content itself, which are the newest of their parts; any other none
 abbrev pub IsKept : Window → List Element → ℕ → ℕ → Type 0

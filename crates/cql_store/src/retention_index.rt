@@ -1,13 +1,13 @@
 // What the stubs need of the store's rows, without a look at them.
-ghost use Rattle.std.specs.Prelude.{◌≡◌, ◌≤◌, ◌<◌, ◌+◌, [], IfSome, IfNone, IsSome, IsTrue, OnOk, Some, length, set, slice_index, map, drop};
+ghost use Rattle.std.specs.Prelude.{◌≡◌, ◌≢◌, ◌↔◌, ◌≤◌, ◌<◌, ◌+◌, ℕ, [], IfSome, IfNone, IsSome, IsTrue, OnOk, Some, length, set, slice_index, map, min, drop};
 ghost use Rattle.std.specs.List.{All, Contains};
 ghost use Rattle.cql_bag.specs.Levels.{changed_where};
 ghost use Rattle.cql_store.specs.declared.stub.Stub.{Stub as StubValue};
-ghost use Rattle.cql_store.specs.Sequence.{greatest, AreLonger, AreKnown, AreOf, AreWithin, IsKnown, IsStore, Slots, all_shown, at_some, emptied, limit_at, marked, live_count, slot_of};
+ghost use Rattle.cql_store.specs.Sequence.{greatest, AreLonger, AreKnown, AreOf, AreBareIn, AreWithin, IsKnown, IsStore, Slots, all_shown, at_some, bare, lapsed, limit_at, marked, live_count, slot_of};
 
-use crate::stub::{Stub, mark};
+use crate::stub::{Stub, clear_lapsed, lapse, mark};
 use cql_bag::MinTree;
-use cql_chunks::{Chunks, Waste};
+use cql_chunks::{Budget, Chunks, Waste};
 use slab::Slab;
 use std::alloc::{AllocError, Global};
 use std::marker::Model;
@@ -24,6 +24,9 @@ const SHARE: usize = 64;
 pub(crate) struct RetentionIndex {
     pub(crate) firsts: MinTree,
     pub(crate) limits: MinTree,
+    /// From this slot on some stubs that are overrun may still keep rows; where it is the greatest
+    /// number none does.
+    pub(crate) swept: usize,
 }
 
 impl RetentionIndex {
@@ -35,6 +38,7 @@ impl RetentionIndex {
         RetentionIndex {
             firsts: MinTree::new(alloc),
             limits: MinTree::new(alloc),
+            swept: usize::MAX,
         }
     }
 
@@ -85,14 +89,23 @@ impl RetentionIndex {
     }
 
     /// The numbers of each slot whose stub has one too many where so many rows have come become the
-    /// greatest, in one walk over all slots. This takes no memory.
+    /// greatest, in one walk over all slots. Those stubs may still keep rows. This takes no memory.
     pub(crate) fn lift(&mut self, count: u64)
         ensures firsts { self.new.firsts ≡ changed_where self.old.limits count greatest self.old.firsts }
         ensures limits { self.new.limits ≡ changed_where self.old.limits count greatest self.old.limits }
+        ensures none_swept { self.new.swept ≡ 0 }
     {
         self.firsts
             .set_where(self.limits.numbers(), count, u64::MAX);
         self.limits.set_below(count, u64::MAX);
+        self.swept = 0;
+    }
+
+    /// Whether some stubs that are overrun may still keep rows.
+    pub(crate) fn is_swept(&self) -> bool
+        ensures { IsTrue result ↔ self.now.swept ≡ greatest }
+    {
+        self.swept == usize::MAX
     }
 }
 
@@ -154,32 +167,69 @@ fn mark_few(
     retention.overdue(count).is_none()
 }
 
-// Marks the stub of a slot.
-fn mark_at(stubs: &mut Slab<Stub>, waste: &mut Waste, slot: usize)
+// The stub of a slot is overrun, and still keeps its rows.
+fn lapse_at(stubs: &mut Slab<Stub>, slot: usize)
     requires { IsSome (slot_of stubs.old.slots slot) }
-    ensures { (s : StubValue) → slot_of stubs.old.slots slot ≡ Some s → stubs.new.slots ≡ set stubs.old.slots slot (Some (emptied s)) }
+    ensures { (s : StubValue) → slot_of stubs.old.slots slot ≡ Some s → stubs.new.slots ≡ set stubs.old.slots slot (Some (lapsed s)) }
 {
     match stubs.get_mut(slot) {
-        Some(stub) => mark(stub, waste),
+        Some(stub) => lapse(stub),
         None => unreachable!(),
     }
 }
 
-// Marks each stub whose limit is below the count, in one walk over all limits.
-fn mark_slots(stubs: &mut Slab<Stub>, limits: &[u64], waste: &mut Waste, count: u64)
+// Each stub whose limit is below the count is overrun, by one walk over all limits. What these keep
+// stays for now: it would take longer than the walk.
+fn lapse_slots(stubs: &mut Slab<Stub>, limits: &[u64], count: u64)
     requires limits { AreOf limit_at stubs.old.slots limits.now }
     requires within { AreWithin stubs.old.slots }
-    ensures { stubs.new.slots ≡ map (at_some (marked count)) stubs.old.slots }
+    ensures { map (at_some bare) stubs.new.slots ≡ map (at_some bare) (map (at_some (marked count)) stubs.old.slots) }
 {
     for (slot, limit) in limits.iter().enumerate() {
         if *limit < count {
-            mark_at(stubs, waste, slot);
+            lapse_at(stubs, slot);
         }
     }
 }
 
+// What the stub of a slot still keeps is let go where it is overrun.
+fn clear_at(stubs: &mut Slab<Stub>, waste: &mut Waste, slot: usize)
+    ensures same { map (at_some bare) stubs.new.slots ≡ map (at_some bare) stubs.old.slots }
+    ensures others { (id : ℕ) → id ≢ slot → slot_of stubs.new.slots id ≡ slot_of stubs.old.slots id }
+    ensures bare { AreBareIn stubs.new.slots slot (slot + 1) }
+{
+    if let Some(stub) = stubs.get_mut(slot) {
+        clear_lapsed(stub, waste);
+    }
+}
+
+/// Lets go of what stubs that are overrun still keep, slot by slot from where it stopped, as far as
+/// the budget has units: each slot takes one.
+pub(crate) fn sweep(
+    stubs: &mut Slab<Stub>,
+    retention: &mut RetentionIndex,
+    waste: &mut Waste,
+    budget: &mut Budget,
+)
+    ensures same { map (at_some bare) stubs.new.slots ≡ map (at_some bare) stubs.old.slots }
+    ensures firsts { retention.new.firsts ≡ retention.old.firsts }
+    ensures limits { retention.new.limits ≡ retention.old.limits }
+    ensures bare { AreBareIn stubs.new.slots retention.old.swept (min retention.new.swept (length retention.old.limits)) }
+    ensures all { 0 < budget.new.units → retention.new.swept ≡ greatest }
+{
+    for slot in retention.swept..retention.limits.len() {
+        if budget.units == 0 {
+            return;
+        }
+        clear_at(stubs, waste, slot);
+        budget.units -= 1;
+        retention.swept = slot + 1;
+    }
+    retention.swept = usize::MAX;
+}
+
 /// Marks each stub that has more than it may hold where so many rows have come. Where these are few
-/// it looks at no other stub; else it walks once over all. What the stubs kept is let go later.
+/// it looks at no other stub; else it walks once over all, and what they keep stays for `sweep`.
 pub(crate) fn mark_all(
     stubs: &mut Slab<Stub>,
     retention: &mut RetentionIndex,
@@ -188,13 +238,13 @@ pub(crate) fn mark_all(
 )
     requires known { AreKnown stubs.old.slots retention.old.firsts retention.old.limits }
     requires within { AreWithin stubs.old.slots }
-    ensures stubs { stubs.new.slots ≡ map (at_some (marked count)) stubs.old.slots }
+    ensures stubs { map (at_some bare) stubs.new.slots ≡ map (at_some bare) (map (at_some (marked count)) stubs.old.slots) }
     ensures known { AreKnown stubs.new.slots retention.new.firsts retention.new.limits }
 {
     if mark_few(stubs, retention, waste, count) {
         return;
     }
-    mark_slots(stubs, retention.limits.numbers(), waste, count);
+    lapse_slots(stubs, retention.limits.numbers(), count);
     retention.lift(count);
 }
 

@@ -5,7 +5,7 @@ ghost use Rattle.cql_store.specs.Sequence.{all_shown, shown, shifted, slot_of, I
 
 use crate::moves::{go_to, kept_at, pin_of};
 use crate::ready::Ready;
-use crate::retention_index::{RetentionIndex, mark_all, trim};
+use crate::retention_index::{RetentionIndex, mark_all, sweep, trim};
 use crate::stub::{Stub, StubId, StubRows, limit_of};
 use cql_chunks::{Budget, Chunks, Waste};
 use cql_value::Timed;
@@ -184,6 +184,12 @@ impl Store {
         ensures { self.new ≡ self.old }
     {
         self.rows.settle(&mut self.waste, budget);
+        sweep(
+            &mut self.stubs,
+            &mut self.retention,
+            &mut self.waste,
+            budget,
+        );
         self.waste.settle(budget);
     }
 
@@ -191,7 +197,8 @@ impl Store {
     pub(crate) fn begins_to_wait(&mut self) -> bool
         ensures { self.new ≡ self.old }
     {
-        let waits = self.waits || self.gone != self.noted || !self.waste.is_empty();
+        let waste = !self.waste.is_empty() || !self.retention.is_swept();
+        let waits = self.waits || self.gone != self.noted || waste;
         let begins = waits && !self.waits;
         self.noted = self.gone;
         self.waits = waits;

@@ -1,6 +1,6 @@
 // A window on the store's rows.
 ghost use Rattle.std.specs.Prelude.{◌≡◌, ◌++◌, [], length, IfOk, OnOk};
-ghost use Rattle.cql_store.specs.Sequence.{emptied, limit};
+ghost use Rattle.cql_store.specs.Sequence.{bare, emptied, lapsed, limit};
 
 use crate::kept_parts::KeptParts;
 use cql_chunks::{Chunks, Waste};
@@ -166,12 +166,28 @@ impl Drop for Stub {
     }
 }
 
+/// There are more rows than the stub may hold. Those that it keeps are let go by `clear_lapsed`.
+pub(crate) fn lapse(stub: &mut Stub)
+    ensures { stub.new ≡ lapsed stub.old }
+{
+    stub.overrun = true;
+}
+
+/// Lets go of the rows that the stub still keeps where it is overrun.
+pub(crate) fn clear_lapsed(stub: &mut Stub, waste: &mut Waste)
+    ensures { stub.new ≡ bare stub.old }
+{
+    if stub.overrun {
+        stub.kept.clear(waste);
+    }
+}
+
 /// Lets the rows go: there are more than the stub may hold.
 pub(crate) fn mark(stub: &mut Stub, waste: &mut Waste)
     ensures { stub.new ≡ emptied stub.old }
 {
-    stub.overrun = true;
-    stub.kept.clear(waste);
+    lapse(stub);
+    clear_lapsed(stub, waste);
 }
 
 /// So many rows may have come before the stub has one too many.

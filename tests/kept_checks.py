@@ -77,6 +77,21 @@ def left_of(server, before, kept):
     return None if left <= kept // 3 else f"{left} of {kept} bytes are left"
 
 
+def gone_with_its_grant(program):
+    """What a bench keeps goes with the grant of a stream that its query reads."""
+    table = tenants("ab", hold=65536, result=65536)
+    with Server(program, table, GIVES_BACK, workers=1) as server, Caller(server, "a") as a, Caller(server, "b") as b:
+        # a window needs the rows, whichever grant is taken back
+        a.serve([STREAM, query("stays", "Select Istream(*) From s"), line_of(do="grant", stream="s", to="b")])
+        b.serve([query("q", HEAVY.format(1).replace("From s", "From a.s"))])
+        a.serve(filled(MOST))
+        before = server.memory()
+        b.ask(fetch("q"))
+        kept = server.memory() - before
+        a.serve([line_of(do="revoke", stream="s", to="b")])
+        yield "memory behind a grant", left_of(server, before, kept)
+
+
 def let_go_by_itself(program):
     """Rows that nobody needs any more are let go though nobody calls."""
     columns = line_of(columns=[["v", "text"]], do="stream", name="s")
@@ -121,4 +136,4 @@ def heavy_answers(program):
             yield f"the last piece {name}", difference(caller.ask(fetch("q")), whole(ROWS - PIECE, ROWS))
 
 
-CHECKS = kept_within_room, gone_with_its_query, let_go_by_itself, heavy_answers
+CHECKS = kept_within_room, gone_with_its_query, gone_with_its_grant, let_go_by_itself, heavy_answers

@@ -24,6 +24,8 @@ pub struct Pin {
     next: u64,
     limit: u64,
     windows: Vec<WindowPin>,
+    // so many others hold its plan as long as its query can be fetched
+    holders: usize,
 }
 
 impl Drop for Pin {
@@ -35,6 +37,7 @@ impl Drop for Pin {
             next: _,
             limit: _,
             windows: _,
+            holders: _,
         } = self;
     }
 }
@@ -77,7 +80,18 @@ impl Pin {
             next,
             limit,
             windows,
+            holders: 1,
         }
+    }
+
+    /// The same. So many others hold its plan as long as its query can be fetched, and fewer from then on.
+    /// Of a new pin it is one.
+    pub fn with_holders(self, holders: usize) -> Pin
+        ensures { result ≡ self }
+    {
+        let mut pin = self;
+        pin.holders = holders;
+        pin
     }
 
     /// What the query computes.
@@ -163,10 +177,10 @@ impl Pin {
         bytes
     }
 
-    /// Whether nobody else has its plan: then its query was dropped. Of one that was taken out twice it
-    /// isn't known.
+    /// Whether fewer others hold its plan: then its query was dropped, or lost a stream. Of one that was
+    /// taken out twice it isn't known.
     pub(crate) fn is_forsaken(&self) -> bool {
-        Arc::strong_count(&self.plan) == 1
+        Arc::strong_count(&self.plan) <= self.holders
     }
 
     /// Whether another pin is of the same plan, with the same limit. Takes no memory.

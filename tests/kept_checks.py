@@ -13,6 +13,9 @@ STREAM = line_of(columns=[["v", "int"]], do="stream", name="s")
 # A bench over the rows of such a query keeps some megabytes.
 HEAVY = "Select Istream(Count(*)) From s Where v > {}"
 MEBIBYTE = 1 << 20
+# Of rows of so many bytes a call lets a few go. With this setting each goes back to the system at once.
+LONG, LONG_ROWS = 60_000, 400
+AT_ONCE = "env", "GLIBC_TUNABLES=glibc.malloc.mmap_threshold=16384"
 
 
 def query(name, text):
@@ -89,6 +92,19 @@ def gone_with_its_grant(program):
         yield "memory behind a grant", left_of(server, before, kept)
 
 
+def let_go_by_itself(program):
+    """Rows that nobody needs any more are let go though nobody calls."""
+    columns = line_of(columns=[["v", "text"]], do="stream", name="s")
+    with Server(program, TABLE, AT_ONCE, workers=1) as server, Caller(server, "a") as caller:
+        caller.serve([columns, query("q", "Select Istream(*) From s")])
+        before = server.memory()
+        caller.serve(put(it, f"{it:0{LONG}}") for it in range(LONG_ROWS))
+        kept = server.memory() - before
+        caller.serve([line_of(do="drop", name="q")])
+        yield "long rows", None if kept > LONG * LONG_ROWS // 2 else f"{kept} bytes"
+        yield "rows that nobody needs", left_of(server, before, kept)
+
+
 # Each instant tells all rows up to it.
 WHOLE = "Select Rstream(v) From s Where v >= 0"
 ROWS = 2_000
@@ -120,4 +136,4 @@ def heavy_answers(program):
             yield f"the last piece {name}", difference(caller.ask(fetch("q")), whole(ROWS - PIECE, ROWS))
 
 
-CHECKS = kept_within_room, gone_with_its_query, gone_with_its_grant, heavy_answers
+CHECKS = kept_within_room, gone_with_its_query, gone_with_its_grant, let_go_by_itself, heavy_answers

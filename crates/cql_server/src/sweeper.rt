@@ -7,13 +7,49 @@ use crate::held::tell_held;
 use cql_core::Operator;
 use cql_hall::{Gate, Point};
 use cql_sessions::{Callable, Service, SharedPool};
-use crossbeam_channel::Receiver;
+use crossbeam_channel::{Receiver, RecvTimeoutError};
 use std::sync::Wait;
 use std::thread::{Builder, Scope};
-use std::time::Clock;
+use std::time::{Clock, Duration};
+
+// The hall lets go of rows at most so many times a second, and so many times without a pause, in which
+// others get its lock.
+const TURNS: u64 = 2048;
+
+const TURNS_AT_ONCE: u64 = 4;
+
+const PAUSE_MICROS: u64 = 50;
+
+// The hall lets go of rows a few times. Whether some are left.
+fn settle_few<R: Wait, C: Callable<R, G>, G: Gate>(service: &Service<'_, R, C, G>) -> bool {
+    for _ in 0..TURNS_AT_ONCE {
+        if !service.hall.settle(service.rt) {
+            return false;
+        }
+    }
+    true
+}
+
+// The hall lets go of rows that nothing needs any more, with a pause each few times, until none is left,
+// or it did so as often as it may in a second, or the sender is let go.
+fn settle_some<R: Wait + Clock, C: Callable<R, G>, G: Gate>(
+    service: &Service<'_, R, C, G>,
+    stopped: &Receiver<()>,
+) {
+    for _ in 0..TURNS / TURNS_AT_ONCE {
+        if !settle_few(service) {
+            return;
+        }
+        match stopped.recv_timeout(service.rt, Duration::from_micros(PAUSE_MICROS)) {
+            Err(RecvTimeoutError::Timeout) => {}
+            _ => return,
+        }
+    }
+}
 
 // Tells the gate each second, with which rows are held where it wants that, gives up answers that
-// take too long, and lets go of what nobody used or will use, until the sender is let go.
+// take too long, and lets go of what nobody used or will use, of benches and of the hall, until the
+// sender is let go.
 fn sweep_on<R: Wait + Clock, C: Callable<R, G>, G: Gate, O: Operator>(
     service: &Service<'_, R, C, G>,
     pool: &SharedPool<O>,
@@ -28,6 +64,7 @@ fn sweep_on<R: Wait + Clock, C: Callable<R, G>, G: Gate, O: Operator>(
             tell_held(service);
         }
         pool.sweep(service.rt);
+        settle_some(service, stopped);
     }
 }
 

@@ -22,6 +22,10 @@ pub trait Callable<H: Wait, G: Gate> {
 
     /// The tenant's own streams of which rows are held now, in order of making.
     fn held_streams(&self, rt: &H, tenant: TenantId) -> Result<Vec<HeldStream>, AllocError>;
+
+    /// Lets go of a few rows that nothing needs any more, as each call does, though nobody calls. Tells
+    /// whether some are left.
+    fn settle(&self, rt: &H) -> bool;
 }
 
 impl<H: Wait, G: Gate, J: Journal> Callable<H, G> for Hall<J> {
@@ -35,5 +39,9 @@ impl<H: Wait, G: Gate, J: Journal> Callable<H, G> for Hall<J> {
 
     fn held_streams(&self, rt: &H, tenant: TenantId) -> Result<Vec<HeldStream>, AllocError> {
         Hall::held_streams(self, rt, tenant)
+    }
+
+    fn settle(&self, rt: &H) -> bool {
+        Hall::settle(self, rt)
     }
 }

@@ -1,0 +1,3 @@
+mod Cutting
+mod Parsing
+mod Batches

@@ -1,10 +1,10 @@
 -- What batches a text begins with is one.
-use Rattle.std.proofs.Common.{◌≡◌, ◌≢◌, ℕ, ◌+◌, ◌≤◌, inl, inr, List, [], ◌∷◌, ◌++◌, length, drop, refl, sym, ap, subst, ◌∙◌, arith, append_assoc, append-nil, length-append}
+use Rattle.std.proofs.Common.{◌≡◌, ◌≢◌, ℕ, ◌+◌, ◌<◌, ◌≤◌, inl, inr, List, [], ◌∷◌, ◌++◌, length, drop, refl, sym, ap, subst, ◌∙◌, arith, append_assoc, append-nil, length-append}
 use Rattle.std.specs.List.{AllByRecursion}
 use Rattle.std.proofs.lemmas.Bool.{cases_lt}
-use Rattle.cql_journal.specs.Record.{Entry, Lacks, Fits, first_chain, heading, chain_after, record_line, record_lines, batch, batch_chain, written, chain_behind, AreBatches, NoBatch}
+use Rattle.cql_journal.specs.Record.{IsChain, Entry, Lacks, Fits, first_chain, heading, chain_after, record_line, record_lines, batch, batch_chain, written, chain_behind, AreBatches, NoBatch}
 use Rattle.cql_journal.specs.Splits.{IsOneReadingLaw, IsRoundTripLaw, IsFrontLaw, EndsBefore}
-use Rattle.cql_journal.proofs.Parsing.{IsChain, first_is_chain, after_is_chain, no_chain, lines_then, lines_are, line_behind, is_longer, cancel}
+use Rattle.cql_journal.proofs.Parsing.{first_is_chain, after_is_chain, no_chain, lines_then, lines_are, line_behind, is_longer, cancel}
 
 then_more : (l k more : List ℕ) → (l ++ (k ++ 10 ∷ [])) ++ more ≡ l ++ (k ++ 10 ∷ more)
 then_more l k more = append_assoc l (k ++ 10 ∷ []) more ∙ ap (λ t. l ++ t) (append_assoc k (10 ∷ []) more)
@@ -17,13 +17,19 @@ batch_size chain es =
     let k : length (batch_chain chain es) ≡ 16 = (after_is_chain chain (record_lines chain es)).size in
     omega (arith, length-append (record_lines chain es) (batch_chain chain es ++ 10 ∷ []), length-append (batch_chain chain es) (10 ∷ []))
 
--- a line that is neither a record nor the commit line
+pub batch_rest : (chain : List ℕ) (es : List Entry) (more : List ℕ) → batch chain es ++ more ≡ record_lines chain es ++ (batch_chain chain es ++ 10 ∷ more)
+batch_rest chain es more = then_more (record_lines chain es) (batch_chain chain es) more
+
+-- a line that is neither a record nor the commit line, or one behind too many records
 pub no_commit : (chain text : List ℕ) (es : List Entry) (line behind : List ℕ) → IsChain chain → AllByRecursion Fits es → text ≡ record_lines chain es ++ (line ++ 10 ∷ behind)
-    → Lacks 10 line → ((e : Entry) → Fits e → line ≢ record_line chain e) → line ≢ chain_after chain (record_lines chain es) → NoBatch chain text
+    → Lacks 10 line → ((e : Entry) → Fits e → line ≢ record_line chain e) → (line ≡ chain_after chain (record_lines chain es) → 16777216 < length (record_lines chain es) + 17) → NoBatch chain text
 no_commit chain text es line behind c fits is lacks other wrong = λ fs more b that.
     let same = sym (lines_are chain es _) ∙ sym is ∙ that ∙ batch_then chain fs more in
     let found = line_behind chain (batch_chain chain fs) c (after_is_chain chain (record_lines chain fs)) es fs line behind more fits b.fit lacks other same in
-    wrong (found.1.0 ∙ ap (λ x. chain_after chain (record_lines chain x)) (sym found.0))
+    let long = wrong (found.1.0 ∙ ap (λ x. chain_after chain (record_lines chain x)) (sym found.0)) in
+    let len : length (record_lines chain es) ≡ length (record_lines chain fs) = ap (λ x. length (record_lines chain x)) found.0 in
+    let s : length (batch chain fs) ≤ 16777216 = b.short in
+    absurd (omega (arith, long, len, s, batch_size chain fs))
 
 -- no line feed comes, or none for so long that the batch would be too long
 pub no_room : (chain text : List ℕ) (es : List Entry) (part behind : List ℕ) → IsChain chain → AllByRecursion Fits es → text ≡ record_lines chain es ++ (part ++ behind)

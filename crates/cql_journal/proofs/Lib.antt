@@ -1,3 +1,4 @@
 mod Cutting
 mod Parsing
 mod Batches
+mod Finding

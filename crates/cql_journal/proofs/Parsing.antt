@@ -6,7 +6,7 @@ use Rattle.hex.specs.Hex.{encode_lower, encode_with, lower_digits}
 use Rattle.md5.specs.Md5.{md5}
 use Rattle.md5.proofs.StandardFacts.{length-md5}
 use Rattle.std.proofs.lemmas.List.{length-take}
-use Rattle.cql_journal.specs.Record.{Entry, Lacks, Fits, body, first_chain, chain_after, record_line, record_lines}
+use Rattle.cql_journal.specs.Record.{IsChain, Entry, Lacks, Fits, body, first_chain, chain_after, record_line, record_lines}
 
 -- ---- lists
 
@@ -54,11 +54,6 @@ fits line chain bytes tenant rest is cut space feed =
     let whole : Lacks 10 bytes = (lacks_behind 10 chain (32 ∷ bytes) (subst (Lacks 10) is feed)).1 in
     let parts : Lacks 10 (tenant ++ 32 ∷ rest) = subst (Lacks 10) cut whole in
     record { spaceless = space; feedless = lacks_before 10 tenant _ parts; whole = (lacks_behind 10 tenant _ parts).1 }
-
--- 16 bytes and no line feed
-pub record IsChain (chain : List ℕ) : Type 0 where
-  pub size : length chain ≡ 16
-  pub feedless : Lacks 10 chain
 
 lacks_at : (b : ℕ) (xs : List ℕ) (n : ℕ) → 0 ≢ b → Lacks b xs → slice_index xs n ≢ b
 lacks_at b [] n z p = z

@@ -1,3 +1,4 @@
 pub mod Record
 pub mod Taken
 pub mod Splits
+pub mod Reading

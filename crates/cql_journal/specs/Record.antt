@@ -1,5 +1,5 @@
 -- The records of a journal's file. They stand in batches, of which each ends with a commit line.
-use Rattle.std.specs.Prelude.{⊤, ◌≢◌, ◌≤◌, ℕ, List, [], ◌∷◌, ◌++◌, length, take, codes}
+use Rattle.std.specs.Prelude.{⊤, ◌≡◌, ◌≢◌, ◌≤◌, ℕ, List, [], ◌∷◌, ◌++◌, length, take, codes}
 use Rattle.std.specs.List.{AllByRecursion}
 use Rattle.md5.specs.Md5.{md5}
 use Rattle.hex.specs.Hex.{encode_lower}
@@ -19,6 +19,11 @@ pub record Fits (e : Entry) : Type 0 where
   pub spaceless : Lacks 32 e.tenant
   pub feedless : Lacks 10 e.tenant
   pub whole : Lacks 10 e.line
+
+-- 16 bytes and no line feed
+pub record IsChain (chain : List ℕ) : Type 0 where
+  pub size : length chain ≡ 16
+  pub feedless : Lacks 10 chain
 
 -- a record without its chain
 abbrev pub body : Entry → List ℕ

@@ -3,6 +3,8 @@
 #![tactic(auto)]
 
 pub mod law;
+mod reading;
 mod record;
 
+pub use reading::{MAX_BATCH, ReadStop};
 pub use record::{CHAIN, Chain, FIRST, Record, append_record, chain_after, commit, record_in};

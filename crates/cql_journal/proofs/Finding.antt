@@ -3,7 +3,7 @@ use Rattle.std.proofs.Common.{◌≡◌, ℕ, ◌+◌, ◌<◌, ◌≤◌, Bool,
 use Rattle.std.specs.Prelude.{IfSome}
 use Rattle.std.specs.List.{AllByRecursion}
 use Rattle.std.specs.Io.KnownBytes.{Keeps, prepend_known}
-use Rattle.cql_journal.specs.Record.{IsChain, Entry, Lacks, Fits, chain_after, record_line, record_lines, batch_chain, NoBatch}
+use Rattle.cql_journal.specs.Record.{IsChain, Entry, Lacks, Fits, chain_after, record_line, record_lines, batch, batch_chain, NoBatch}
 use Rattle.cql_journal.specs.Reading.{StartsRecords, StartsBatch, Follows, Fills}
 use Rattle.cql_journal.specs.declared.reading.Next.{Next}
 use Rattle.cql_journal.specs.declared.reading.Next.TheVariants.{Record, Commit, Wrong, Part}
@@ -24,7 +24,7 @@ fit_more (x ∷ es) e p f = (p.0, fit_more es e p.1 f)
 
 -- ---- the front and what is behind it
 
-drop_front : (a b : List ℕ) → drop (length a) (a ++ b) ≡ b
+pub drop_front : (a b : List ℕ) → drop (length a) (a ++ b) ≡ b
 drop_front [] b = refl
 drop_front (x ∷ a) b = drop_front a b
 
@@ -111,3 +111,6 @@ pub come_stays : (held new : List ℕ) (before after : Option (List ℕ)) (more 
 come_stays held new None after more fill = tt
 come_stays held new (Some xs) None more fill = fill.consumed
 come_stays held new (Some xs) (Some ys) more fill = ap (λ t. t ++ ys) fill.grown ∙ append_assoc held fill.piece ys ∙ ap (λ t. held ++ t) (sym fill.consumed)
+
+pub batch_within : (chain held : List ℕ) (size : ℕ) → StartsBatch chain size held → size + 17 ≤ length held
+batch_within chain held size b = omega (arith, b.size_is, batch_size chain b.entries, ap length b.held_is ∙ length-append (batch chain b.entries) b.behind)

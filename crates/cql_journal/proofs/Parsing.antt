@@ -116,6 +116,14 @@ lines_are chain (e ∷ es) rest = append_assoc (record_line chain e) (10 ∷ rec
 size_more : (chain : List ℕ) (e : Entry) (es : List Entry) → length (record_lines chain (e ∷ es)) ≡ length (record_line chain e) + suc (length (record_lines chain es))
 size_more chain e es = length-append (record_line chain e) (10 ∷ record_lines chain es)
 
+pub one_lines : (chain : List ℕ) (es fs : List Entry) → IsChain chain → AllByRecursion Fits es → AllByRecursion Fits fs → record_lines chain es ≡ record_lines chain fs → es ≡ fs
+one_lines chain [] [] c p q is = refl
+one_lines chain [] (f ∷ fs) c p q is = let len : 0 ≡ length (record_lines chain (f ∷ fs)) = ap length is in absurd (omega (arith, len, size_more chain f fs))
+one_lines chain (e ∷ es) [] c p q is = let len : length (record_lines chain (e ∷ es)) ≡ 0 = ap length is in absurd (omega (arith, len, size_more chain e es))
+one_lines chain (e ∷ es) (f ∷ fs) c p q is =
+    let parts = line_same 10 (record_line chain e) (record_line chain f) (record_lines chain es) (record_lines chain fs) (record_feedless chain e c p.0) (record_feedless chain f c q.0) is in
+    ap (λ x. x ∷ es) (one_record chain e f p.0 q.0 parts.0) ∙ ap (λ t. f ∷ t) (one_lines chain es fs c p.1 q.1 parts.1)
+
 module _ (chain k : List ℕ) (c : IsChain chain) (d : IsChain k) where
   -- a line behind records that is no record itself is the commit line, or there is no batch
   pub line_behind : (es fs : List Entry) (line behind more : List ℕ) → AllByRecursion Fits es → AllByRecursion Fits fs → Lacks 10 line → ((e : Entry) → Fits e → line ≢ record_line chain e)

@@ -5,6 +5,10 @@
 pub mod law;
 mod reading;
 mod record;
+mod recovery;
+mod replaying;
 
 pub use reading::{MAX_BATCH, ReadStop};
 pub use record::{CHAIN, Chain, FIRST, Record, append_record, chain_after, commit, record_in};
+pub use recovery::{Recovered, RecoveryFault, recover};
+pub use replaying::{Unfit, UnfitRecord};

@@ -155,6 +155,7 @@ pub(crate) fn next_batch<R: Read>(
     requires { IsChain chain.now }
     ensures kept { OnOk result (Keeps (prepend_known ahead.old (R.remaining (inner_of reader.old))) (prepend_known ahead.new (R.remaining (inner_of reader.new)))) }
     ensures some { IfOk result (λ found. IfSome found (λ size. StartsBatch chain.now size ahead.new)) }
+    ensures room { IfOk result (λ found. IfSome found (λ size. size + 17 ≤ length ahead.new)) }
     ensures none { IfOk result (λ found. IfNone found (IfSome (prepend_known ahead.new (R.remaining (inner_of reader.new))) (λ text. NoBatch chain.now text))) }
     ensures fault { result ≡ Err ReadStop.Failed → has_failed reader.new ≡ true }
 {

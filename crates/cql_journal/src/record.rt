@@ -16,6 +16,9 @@ use std::alloc::{AllocError, Global};
 /// How many bytes a chain has.
 pub const CHAIN: usize = 16;
 
+/// How many bytes a commit line has, with its line feed.
+pub(crate) const COMMIT: usize = 17;
+
 /// The chain behind which a batch stands: that of the batch before it.
 pub type Chain = [u8; 16];
 

@@ -1,0 +1,29 @@
+-- Where a byte is first, as a search tells it.
+use Rattle.std.proofs.Common.{◌≡◌, ◌≢◌, ℕ, zero, suc, ◌+◌, ◌<◌, List, [], ◌∷◌, ◌++◌, length, take, drop, Some, None, ap, arith, add-one}
+use Rattle.std.specs.Prelude.{slice_index}
+use Rattle.std.proofs.lemmas.Bool.{eqb-true, eq-eqb}
+use Rattle.memchr.specs.Find.{IsFirstByte, is_byte}
+use Rattle.cql_journal.specs.Record.{Lacks}
+
+splits : (b : ℕ) (xs : List ℕ) (k : ℕ) → k < length xs → slice_index xs k ≡ b → xs ≡ take k xs ++ b ∷ drop (suc k) xs
+splits b [] k h e = absurd (omega arith)
+splits b (x ∷ xs) zero h e = ap (λ y. y ∷ xs) e
+splits b (x ∷ xs) (suc k) h e = ap (λ l. x ∷ l) (splits b xs k (omega arith) e)
+
+none_in : (b : ℕ) (xs : List ℕ) → ((j : ℕ) → j < length xs → slice_index xs j ≢ b) → Lacks b xs
+none_in b [] h = tt
+none_in b (x ∷ xs) h = (h 0 (omega arith), none_in b xs (λ j l. h (suc j) (omega arith)))
+
+none_before : (b : ℕ) (xs : List ℕ) (k : ℕ) → k < length xs → ((j : ℕ) → j < k → slice_index xs j ≢ b) → Lacks b (take k xs)
+none_before b [] k l h = absurd (omega arith)
+none_before b (x ∷ xs) zero l h = tt
+none_before b (x ∷ xs) (suc k) l h = (h 0 (omega arith), none_before b xs k (omega arith) (λ j m. h (suc j) (omega arith)))
+
+pub cut : (b : ℕ) (xs : List ℕ) (k : ℕ) → IsFirstByte (is_byte b) xs (Some k) → xs ≡ take k xs ++ b ∷ drop (k + 1) xs
+cut b xs k h = rw add-one (splits b xs k h.0.high (eqb-true _ _ h.1))
+
+pub lacks_front : (b : ℕ) (xs : List ℕ) (k : ℕ) → IsFirstByte (is_byte b) xs (Some k) → Lacks b (take k xs)
+lacks_front b xs k h = none_before b xs k h.0.high (λ j l e. h.0.before j (omega arith) l (eq-eqb _ _ e))
+
+pub lacks_all : (b : ℕ) (xs : List ℕ) → IsFirstByte (is_byte b) xs None → Lacks b xs
+lacks_all b xs h = none_in b xs (λ j l e. h j (omega arith) l (eq-eqb _ _ e))

@@ -1,0 +1,8 @@
+mod Cutting
+mod Parsing
+mod Batches
+mod Finding
+mod Leaving
+mod Stepping
+mod Recovering
+mod Instances

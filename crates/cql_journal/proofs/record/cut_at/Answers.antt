@@ -1,0 +1,8 @@
+use Rattle.cql_journal.proofs.Cutting.{lacks_all, lacks_front}
+use Rattle.cql_journal.proofs.record.cut_at.Goals as goal
+
+pub returns-in_default-clause-none : goal.returns-in_default-clause-none
+returns-in_default-clause-none c = lacks_all _ _ c.in_default.ensures
+
+pub returns-clause-first : goal.returns-clause-first
+returns-clause-first c = lacks_front _ _ _ c.in-Some.ensures

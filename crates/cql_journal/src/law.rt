@@ -1,0 +1,28 @@
+//! The laws of a journal: functions that do nothing, whose contracts are the laws.
+ghost use Rattle.cql_journal.specs.Law.{IsRecordedLaw};
+ghost use Rattle.cql_journal.specs.Splits.{IsFrontLaw, IsOneReadingLaw, IsRoundTripLaw};
+
+use cql_core::law::{fetch_law, refusal_law};
+
+/// A text has one list of whole batches, and one rest behind them.
+pub fn one_reading_law()
+    ensures { IsOneReadingLaw }
+{}
+
+/// What is read of a file that was written are its batches, and nothing is left.
+pub fn round_trip_law()
+    ensures { IsRoundTripLaw }
+{}
+
+/// What is read of any front of a file that has its heading are the batches that are whole in it.
+pub fn front_law()
+    ensures { IsFrontLaw }
+{}
+
+/// Calls without those that are refused, fetches and lists lead to the same state.
+pub fn recorded_law()
+    ensures { IsRecordedLaw }
+{
+    refusal_law();
+    fetch_law();
+}

@@ -90,82 +90,86 @@ def mistakes_are_named(program):
     yield "how many", difference(len(replies), len(MISTAKES))
 
 
-# Sixty texts that are wrong, as a newcomer writes them.
+# Sixty texts that are wrong, as a newcomer writes them; behind a ~ what is wrong in each, of two that something is
+# missing.
 WRONG_TEXTS = """\
-Select rom From reading
-Select * From reding
-Select * From reading Where degres > 20
-Select Avg(degrees) From reading
-Select room, Max(degrees) From reading Group By romm
-Select * From reading Where degrees = "20"
-Select * From reading Order By degrees
-Select * From reading Limit 10
-Select Count(room) From reading
-Select room, degrees From reading Group By room
-Select * From reading Where room like 'h%'
-Select * From reading Where degrees between 1 and 5
-Select * From reading Where degrees in (1,2)
-Select * From reading r Join bound b On r.room = b.room
-Select * From reading r, bound b Where room = 'x'
-Select r.room, b.max From reading r, bound b
-Select * From reading Where degrees is null
-Select degrees / 2 From reading
-Select * From reading [5 minutes]
-Select * From reading [Range 5 min]
-Select * From reading [Range 5 Mins]
-Select * From reading (Range 5)
-Select * From reading [Last 5 Minutes]
-Select Sum(degrees) As sum From reading
-Select count From reading
-Select Sum(room) From reading
-Select * From reading Where room > 5
-Select * From reading Where degrees > 'x'
-Select * from reading having sum(degrees) > 5
+Select rom From reading ~ rom
+Select * From reding ~ reding
+Select * From reading Where degres > 20 ~ degres
+Select Avg(degrees) From reading ~ Avg
+Select room, Max(degrees) From reading Group By romm ~ romm
+Select * From reading Where degrees = "20" ~ "
+Select * From reading Order By degrees ~ Order
+Select * From reading Limit 10 ~ Limit
+Select Count(room) From reading ~ Count
+Select room, degrees From reading Group By room ~ degrees
+Select * From reading Where room like 'h%' ~ like
+Select * From reading Where degrees between 1 and 5 ~ between
+Select * From reading Where degrees in (1,2) ~ in
+Select * From reading r Join bound b On r.room = b.room ~ Join
+Select * From reading r, bound b Where room = 'x' ~ room
+Select r.room, b.max From reading r, bound b ~ max
+Select * From reading Where degrees is null ~ null
+Select degrees / 2 From reading ~ /
+Select * From reading [5 minutes] ~ 5
+Select * From reading [Range 5 min] ~ min
+Select * From reading [Range 5 Mins] ~ Mins
+Select * From reading (Range 5) ~ (
+Select * From reading [Last 5 Minutes] ~ Last
+Select Sum(degrees) As sum From reading ~ sum
+Select count From reading ~ count
+Select Sum(room) From reading ~ room
+Select * From reading Where room > 5 ~ room
+Select * From reading Where degrees > 'x' ~ degrees
+Select * from reading having sum(degrees) > 5 ~ having
 Select * From reading Where degrees > 5 Or
-Select Max(degrees), room From reading
-Select room From reading Union Select room From bound
-Select room From reading Union All Select room, most From bound
-Select room From reading Union All Select most From bound
-Select * From reading Group By room
-Select room || 'x' From reading
-Select 'x' + room From reading
-Select * From reading, reading
-Select a.* From reading a
-Select Top 5 * From reading
-Insert Into reading Values (1)
-Select * From c.reading
-Select * From a.readings
-Select reading.temp From reading
-Select * From reading [Partition By rum Rows 1]
-Select degrees - room From reading
-Select upper(room) From reading
-Select * From reading Where not degrees
-Select * From reading Where degrees == 5
-Select * From reading Where degrees => 5
-Select room, sum(degrees) total From reading Group By room
-Select Case When degrees > 5 Then 1 Else 0 End From reading
-Select * From (Select * From reading)
-Select * From reading Where degrees > (Select Max(most) From bound)
-Select Istream * From reading
-Select room degrees From reading
-Select room, From reading
+Select Max(degrees), room From reading ~ room
+Select room From reading Union Select room From bound ~ Union
+Select room From reading Union All Select room, most From bound ~ most
+Select room From reading Union All Select most From bound ~ most
+Select * From reading Group By room ~ *
+Select room || 'x' From reading ~ |
+Select 'x' + room From reading ~ 'x'
+Select * From reading, reading ~ reading
+Select a.* From reading a ~ *
+Select Top 5 * From reading ~ Top
+Insert Into reading Values (1) ~ Insert
+Select * From c.reading ~ c.reading
+Select * From a.readings ~ a.readings
+Select reading.temp From reading ~ temp
+Select * From reading [Partition By rum Rows 1] ~ rum
+Select degrees - room From reading ~ room
+Select upper(room) From reading ~ upper
+Select * From reading Where not degrees ~ degrees
+Select * From reading Where degrees == 5 ~ =
+Select * From reading Where degrees => 5 ~ >=
+Select room, sum(degrees) total From reading Group By room ~ total
+Select Case When degrees > 5 Then 1 Else 0 End From reading ~ Case
+Select * From (Select * From reading) ~ (
+Select * From reading Where degrees > (Select Max(most) From bound) ~ (
+Select Istream * From reading ~ Istream
+Select room degrees From reading ~ degrees
+Select room, From reading ~ comma
 Select * From reading Where
-Select * From reading Where room = hall
-Select * From reading Where room = 'hall
+Select * From reading Where room = hall ~ hall
+Select * From reading Where room = 'hall ~ 'hall
 """
 
 
 def wrong_texts(program):
-    """Of sixty texts that are refused nearly all are so with a reason, by the module as by a terminal."""
-    texts, silent = WRONG_TEXTS.splitlines(), []
+    """Of sixty texts that are refused nearly all are so with a reason that names what is wrong."""
+    silent = []
     with Server(program, tenants("a")) as server, session(server) as it:
         it.stream("reading", READING)
         it.stream("bound", BOUND)
-        for text in texts:
+        for text, _, wrong in (line.partition(" ~ ") for line in WRONG_TEXTS.splitlines()):
             error = error_of(it.query, "q", text)
-            if not getattr(error, "reason", None) and not getattr(error, "why", None):
+            reason = getattr(error, "reason", None) or getattr(error, "why", None)
+            is_named = wrong and re.search(rf"(?<!\w){re.escape(wrong)}(?!\w)", str(error), re.IGNORECASE)
+            if not (reason and is_named):
                 silent.append(text)
-    yield "texts with no reason", difference((len(texts), silent[2:]), (60, []))
+    ends = ["Select * From reading Where degrees > 5 Or", "Select * From reading Where"]
+    yield "texts whose reason names nothing", None if silent == ends else f"they are {silent}"
 
 
 def natural_texts(program):

@@ -413,6 +413,7 @@ def copies_see_all(program):
             # the page goes over to a copy as soon as somebody acknowledges
             while events.next("look")["since"] is None:
                 it.beat("s", it.list().streams[0].open)
+                it.ack("q", it.fetch("q").next)
             first = it.list().streams[0].open
             eager_consumer(it, range(first, first + 20))
             seen = set()

@@ -78,7 +78,7 @@ def silent_callers(program):
 
 def a_thousand_callers(program):
     """Most say nothing. Others are served beside them, and each of them at once when he speaks."""
-    with Server(program, TENANTS, login=0) as server, contextlib.ExitStack() as open_ones:
+    with Server(program, TENANTS, login=0, callers=2 * MANY) as server, contextlib.ExitStack() as open_ones:
         yield "before a thousand", served_in(server, TICK)
         before = server.memory()
         mute = sessions_of(open_ones, server, MANY - LOGGED_IN)
@@ -100,7 +100,7 @@ def a_thousand_callers(program):
 def further_callers(program):
     """More than --callers are accepted as others leave, in whatever way they do."""
     with Server(program, TENANTS, callers=4, workers=2) as server, contextlib.ExitStack() as open_ones:
-        first = sessions_of(open_ones, server, 4, "a")
+        first = sessions_of(open_ones, server, 3, "a") + sessions_of(open_ones, server, 1, "b")
         files = files_of(server)
         further = sessions_of(open_ones, server, 3)
         for caller in further:
@@ -123,7 +123,8 @@ def further_callers(program):
 
 def logins_of_a_thousand(program):
     """Each of a thousand who say nothing is let go in the time of --login."""
-    with Server(program, TENANTS, login=2 * TICK) as server, contextlib.ExitStack() as open_ones:
+    words = {"login": 2 * TICK, "callers": 3 * MANY}
+    with Server(program, TENANTS, **words) as server, contextlib.ExitStack() as open_ones:
         first = time.monotonic()
         silent = sessions_of(open_ones, server, MANY)
         last = time.monotonic()
@@ -426,7 +427,7 @@ FEWER = b"cqld: the system lets it open 40 files, so 24 callers are connected at
 def files_for_callers(program):
     """Where there are files for fewer callers than may be connected it says so, and takes so many."""
     with Server(program, TENANTS, FORTY, login=0) as server, contextlib.ExitStack() as open_ones:
-        callers = sessions_of(open_ones, server, 24, "a")
+        callers = sessions_of(open_ones, server, 18, "a") + sessions_of(open_ones, server, 6, "b")
         further = open_ones.enter_context(Caller(server))
         further.send(login("a"))
         yield "a caller beyond the files", None if further.is_silent(SILENCE) else "it is answered"

@@ -158,13 +158,25 @@ class Server:
         return Ended(self.child.returncode, said, written)
 
 
+# The time in a line of the log: UTC, in milliseconds.
+STAMP = re.compile(r"\d{4}-\d\d-\d\dT\d\d:\d\d:\d\d\.\d{3}Z")
+
+
+def unstamped(line):
+    """What a line of the log tells but for its time, which stands before all else."""
+    told = json.loads(line)
+    if next(iter(told)) != "at" or not STAMP.fullmatch(told.pop("at")):
+        raise OSError(f"{line!r} has no time")
+    return told
+
+
 def counts_of(server, seconds):
-    """The counts that a server tells in so long, line by line."""
+    """The counts that a server tells in so long, line by line, without their times."""
     source, lines, end = server.child.stderr.fileno(), b"", time.monotonic() + seconds
     while (left := end - time.monotonic()) > 0:
         if select.select([source], [], [], left)[0]:
             lines += os.read(source, 1 << 16)
-    return [json.loads(line) for line in lines.splitlines()]
+    return [unstamped(line) for line in lines.splitlines()]
 
 
 def went_on_and_anew(server):

@@ -2,22 +2,34 @@
 use denote.RattleType.{RattleType}
 use denote.Struct.Declared.{shape}
 use denote.Param.Send.{IsSend, IsSync, struct_send, struct_sync, sendable}
+use denote.Ref.{NamedLft}
 use Rattle.std.proofs.sync.Mutex.TheSendSync as mutex
 use Rattle.std.proofs.alloc.Global.TheSendSync as heap
 use Rattle.std.proofs.Crossing.{crosses, Box-send, Vec-send, Deque-send}
 use Rattle.slab.proofs.Slab.TheSendSync as slab
 use Rattle.std.below.std_heap.proofs.GlobalAllocator.TheSendSync as frees
+use Rattle.cql_sessions.proofs.BenchesCrosses.{answers_row_sync}
 use Rattle.cql_connections.specs.contracts.floor.Floor as floor
 use Rattle.cql_connections.specs.contracts.floor.Slot as slot
 use Rattle.cql_connections.specs.contracts.floor.Turn as turn
 use Rattle.cql_connections.specs.contracts.house.House as house
 use Rattle.cql_connections.specs.contracts.lookout.Lookout as lookout
+use Rattle.cql_connections.specs.contracts.places.Places as places
 use Rattle.cql_connections.specs.contracts.turns.OwnerQueues as queues
 use Rattle.cql_connections.specs.contracts.turns.Turns as turns
 
+pub places_send : IsSend (places.the_field).row
+places_send = search (crosses, sendable) depth 30
+
 module _ (T : RattleType) where
   pub turn_send : IsSend T → IsSend (turn.the_field T).row
-  turn_send s = struct_send (shape (turn.the_type T)) (search sendable, (let b = Box-send T s in search (sendable, b) depth 20, (search sendable, tt)))
+  turn_send s = struct_send (shape (turn.the_type T)) (
+    search sendable,
+    (
+      let b = Box-send T s in search (sendable, b) depth 20,
+      (search (crosses, sendable) depth 20, (search sendable, (search sendable, (search sendable, tt)))),
+    ),
+  )
 
   pub turn_row_send : IsSend T → IsSend (turn.the_row T)
   turn_row_send s = let t = turn_send s in search (sendable, t) depth 20
@@ -25,7 +37,16 @@ module _ (T : RattleType) where
   pub slot_send : IsSend T → IsSend (slot.the_field T).row
   slot_send s = struct_send (shape (slot.the_type T)) (
     let b = Box-send T s in search (sendable, b) depth 20,
-    (search (crosses, sendable) depth 20, (search sendable, (search sendable, (search sendable, tt)))),
+    (
+      search (crosses, sendable) depth 20,
+      (
+        search sendable,
+        (
+          search (crosses, sendable) depth 20,
+          (search sendable, (search sendable, (search sendable, (search sendable, (search sendable, tt))))),
+        ),
+      ),
+    ),
   )
 
   pub slot_row_send : IsSend T → IsSend (slot.the_row T)
@@ -47,12 +68,18 @@ module _ (T D : RattleType) where
     (
       let p : Unit {0} → IsSend (slot.the_row T) = λ u. slot_row_send T s in search (sendable, slab.the_send, heap.the_send, frees.the_frees, p) depth 20,
       (
-        turns_send (turn.the_row T) (turn_row_send T s),
+        places_send,
         (
           search sendable,
           (
-            search (crosses, sendable) depth 30,
-            (search sendable, (let v = Vec-send D e in search (sendable, v) depth 20, (search sendable, (search sendable, (search sendable, tt))))),
+            turns_send (turn.the_row T) (turn_row_send T s),
+            (
+              search sendable,
+              (
+                search (crosses, sendable) depth 30,
+                (search sendable, (let v = Vec-send D e in search (sendable, v) depth 20, (search sendable, (search sendable, (search sendable, tt))))),
+              ),
+            ),
           ),
         ),
       ),
@@ -62,20 +89,24 @@ module _ (T D : RattleType) where
   pub floor_row_send : IsSend T → IsSend D → IsSend (floor.the_row T D)
   floor_row_send s e = let f = floor_send s e in search (sendable, f) depth 20
 
-  pub house_sync : IsSend T → IsSend D → IsSync (house.the_field T D).row
-  house_sync s e = struct_sync (shape (house.the_type T D)) (
+module _ (a : NamedLft) (T D : RattleType) where
+  pub house_sync : IsSend T → IsSend D → IsSync (house.the_field a T D).row
+  house_sync s e = struct_sync (shape (house.the_type a T D)) (
     search (crosses, sendable) depth 20,
     (
-      search sendable,
+      search (sendable, answers_row_sync) depth 20,
       (
-        let f : Unit {0} → IsSend (floor.the_row T D) = λ u. floor_row_send s e in search (sendable, mutex.the_sync, f) depth 20,
+        search sendable,
         (
-          search (crosses, sendable) depth 30,
+          let f : Unit {0} → IsSend (floor.the_row T D) = λ u. floor_row_send T D s e in search (sendable, mutex.the_sync, f) depth 20,
           (
             search (crosses, sendable) depth 30,
             (
-              let l : Unit {0} → IsSend lookout.the_row = λ u. search (crosses, sendable) depth 40 in search (sendable, mutex.the_sync, l) depth 20,
-              (search (crosses, sendable) depth 30, (search (crosses, sendable) depth 30, (search (crosses, sendable) depth 30, tt))),
+              search (crosses, sendable) depth 30,
+              (
+                let l : Unit {0} → IsSend lookout.the_row = λ u. search (crosses, sendable) depth 40 in search (sendable, mutex.the_sync, l) depth 20,
+                (search (crosses, sendable) depth 30, (search (crosses, sendable) depth 30, (search (crosses, sendable) depth 30, tt))),
+              ),
             ),
           ),
         ),
@@ -83,5 +114,5 @@ module _ (T D : RattleType) where
     ),
   )
 
-  pub house_row_sync : IsSend T → IsSend D → IsSync (house.the_row T D)
+  pub house_row_sync : IsSend T → IsSend D → IsSync (house.the_row a T D)
   house_row_sync s e = let h = house_sync s e in search (sendable, h) depth 20

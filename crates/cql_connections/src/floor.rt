@@ -1,10 +1,13 @@
 // The callers who are connected: who waits, whose turn it is, and whose time has passed.
+ghost use Rattle.std.specs.Prelude.{◌≡◌, ◌%◌};
 
 use crate::limits::Limits;
+use crate::places::Places;
 use crate::turns::{Task, Turns};
 use cql_hall::EndReason;
-use cql_sessions::{Connected, WaitsFor};
+use cql_sessions::Connected;
 use cql_wire::ScriptError;
+use mio::Token;
 use slab::Slab;
 use std::alloc::{AllocError, Global};
 use std::time::{Duration, Instant};
@@ -18,13 +21,35 @@ const AT_ONCE: usize = 4096;
 // After so many turns it is looked who has sent, though others wait.
 const TURNS: u32 = 4;
 
+// For so many seconds it is read of a caller whose login was refused.
+const PARTING: u64 = 1;
+
+// For so many milliseconds a caller has to log in where others wait for his place.
+const CROWDED: u64 = 100;
+
+// Keys are below this number.
+const KEYS: usize = 1 << 32;
+
+// The key of a token.
+fn key_of(token: Token) -> usize
+    ensures { result ≡ token.0 % 4294967296 }
+{
+    token.0 % KEYS
+}
+
 /// A guest whose turn it is, under its key.
 #[derive(Drop)]
 pub struct Turn<T> {
     pub key: usize,
     pub guest: Box<T>,
+    // what it is told by, which nobody else was who had the key
+    pub(crate) token: Token,
     // whether it is told of bytes, each time that they come
     pub(crate) is_listed: bool,
+    // whose place it has, as owners of turns are numbered
+    pub(crate) place: usize,
+    // whether its tenant may have no further place
+    pub(crate) is_above: bool,
 }
 
 impl<T: Connected> Turn<T> {
@@ -37,10 +62,16 @@ impl<T: Connected> Turn<T> {
         }
     }
 
+    /// Whether its caller has logged in and still has a stranger's place.
+    pub(crate) fn wants_place(&self) -> bool {
+        self.place == 0 && self.owner() > 0
+    }
+
     /// Why its session has ended, by this fault if by one.
     pub(crate) fn reason(&self, fault: Option<ScriptError>) -> EndReason {
         match fault {
             Some(_) => EndReason::Fault,
+            None if self.is_above => EndReason::Places,
             None if self.guest.is_refused() => EndReason::Refused,
             None => EndReason::Caller,
         }
@@ -50,20 +81,36 @@ impl<T: Connected> Turn<T> {
     pub(crate) fn reason_of_late(&self) -> EndReason {
         match self.guest.tenant() {
             Some(_) => EndReason::Idle,
+            None if self.guest.is_refused() => EndReason::Refused,
             None => EndReason::Login,
+        }
+    }
+
+    /// By which fault it ends where its caller has gone or its time has passed: as at a read that
+    /// fails, but for one whose login was refused.
+    pub(crate) fn fault_of_silence(&self) -> Option<ScriptError> {
+        if self.guest.is_refused() {
+            None
+        } else {
+            Some(ScriptError::Read)
         }
     }
 }
 
 // A caller who is connected: the guest unless it is at a worker or waits for one, since when it is
-// waited for, what is held for it, whether it is told of bytes, and whether it was told of something
-// since the guest's last turn began.
+// waited for, what is held for it, by what it is told and whether of bytes, whose place it has, whether
+// it was told of something since the guest's last turn began, whether the caller has gone meanwhile, and
+// whether the guest waits for the end of a caller whose login was refused.
 struct Slot<T> {
     guest: Option<Box<T>>,
     since: Instant,
     held: usize,
+    token: Token,
     is_listed: bool,
+    place: usize,
     is_called: bool,
+    is_gone: bool,
+    is_parting: bool,
 }
 
 impl<T: Drop> Drop for Slot<T> {
@@ -72,10 +119,25 @@ impl<T: Drop> Drop for Slot<T> {
             guest: _,
             since: _,
             held: _,
+            token: _,
             is_listed: _,
+            place: _,
             is_called: _,
+            is_gone: _,
+            is_parting: _,
         } = self;
     }
+}
+
+/// Where a guest was whose caller has gone.
+#[derive(Drop)]
+pub(crate) enum Gone<T> {
+    /// Nobody is connected who is told of by that token.
+    Nobody,
+    /// It waited for its caller.
+    Waited(Turn<T>),
+    /// It is at a worker or waits for one.
+    Served(usize),
 }
 
 /// What a thread is to do next.
@@ -95,6 +157,9 @@ pub(crate) enum Next<T> {
 pub struct Floor<T, D> {
     limits: Limits,
     slots: Slab<Slot<T>>,
+    places: Places,
+    // how many callers have come
+    came: usize,
     turns: Turns<Turn<T>>,
     // how many turns were taken since it was looked who has sent
     taken: u32,
@@ -115,6 +180,8 @@ impl<T: Drop, D: Drop> Drop for Floor<T, D> {
         let Floor {
             limits: _,
             slots: _,
+            places: _,
+            came: _,
             turns: _,
             taken: _,
             held: _,
@@ -139,9 +206,12 @@ impl<T: Connected<End = D>, D: Drop> Floor<T, D> {
         let turns = Turns::new(alloc, owners, workers)?;
         let held = vec![in alloc; 0; owners]?;
         let ends = Vec::with_capacity(alloc, room)?;
+        let places = Places::new(alloc, limits.callers as usize, owners)?;
         Ok(Floor {
             limits,
             slots: Slab::new(alloc),
+            places,
+            came: 0,
             turns,
             taken: 0,
             held,
@@ -160,7 +230,12 @@ impl<T: Connected<End = D>, D: Drop> Floor<T, D> {
 
     /// Whether no further caller has room.
     pub(crate) fn is_full(&self) -> bool {
-        self.slots.len() >= self.limits.callers as usize
+        self.places.is_full()
+    }
+
+    /// Whether those who haven't logged in keep others out.
+    pub(crate) fn is_crowded(&self) -> bool {
+        self.places.is_crowded()
     }
 
     /// How much waits that a worker could do now. To look who has sent is such.
@@ -205,6 +280,8 @@ impl<T: Connected<End = D>, D: Drop> Floor<T, D> {
         let Floor {
             limits: _,
             slots: _,
+            places: _,
+            came: _,
             turns: _,
             taken: _,
             held: _,
@@ -217,25 +294,55 @@ impl<T: Connected<End = D>, D: Drop> Floor<T, D> {
         if is_whole { Ok(ends) } else { Err(AllocError) }
     }
 
-    /// A guest has come of whose bytes it is told, and waits for its caller. Its key; or there was no
-    /// memory.
-    pub(crate) fn enter(&mut self, guest: Box<T>, since: Instant) -> Result<usize, AllocError> {
+    /// A guest has come of whose bytes it is told, and waits for its caller. The token by which it is
+    /// told; or there was no memory.
+    pub(crate) fn enter(&mut self, guest: Box<T>, since: Instant) -> Result<Token, AllocError> {
+        let key = self.slots.vacant_key();
+        let serial = self.came.wrapping_mul(KEYS);
+        let token = Token(serial.wrapping_add(key));
+        self.came = self.came.wrapping_add(1);
         let slot = Slot {
             guest: Some(guest),
             since,
             held: 0,
+            token,
             is_listed: true,
+            place: 0,
             is_called: false,
+            is_gone: false,
+            is_parting: false,
         };
-        match self.slots.insert(slot) {
-            Ok(key) => Ok(key),
-            Err(_) => Err(AllocError),
+        if self.slots.insert(slot).is_err() {
+            return Err(AllocError);
         }
+        self.places.enter();
+        Ok(token)
     }
 
     /// Nobody is connected any more under this key.
     pub(crate) fn forget(&mut self, key: usize) {
-        let _ = self.slots.try_remove(key);
+        if let Some(slot) = self.slots.try_remove(key) {
+            self.places.leave(slot.place);
+        }
+    }
+
+    /// Nobody is connected any more of whom it was to be told by this token.
+    pub(crate) fn turn_away(&mut self, token: Token) {
+        self.forget(key_of(token));
+    }
+
+    /// A guest whose caller has logged in has a place of its tenant's from now on, if that may have one
+    /// more.
+    pub(crate) fn seat(&mut self, turn: &mut Turn<T>)
+        ensures guest { (turn.new.key ≡ turn.old.key) × (turn.new.guest ≡ turn.old.guest) }
+    {
+        let owner = turn.owner();
+        if !self.places.log_in(owner) {
+            turn.is_above = true;
+        } else if let Some(slot) = self.slots.get_mut(turn.key) {
+            slot.place = owner;
+            turn.place = owner;
+        }
     }
 
     /// The session of a key has ended, and how is kept.
@@ -255,12 +362,14 @@ impl<T: Connected<End = D>, D: Drop> Floor<T, D> {
             slot.is_called = true;
             return None;
         };
-        let is_listed = slot.is_listed;
         let held = std::mem::replace(&mut slot.held, 0);
         let turn = Turn {
             key,
             guest,
-            is_listed,
+            token: slot.token,
+            is_listed: slot.is_listed,
+            place: slot.place,
+            is_above: false,
         };
         if let Some(all) = self.held.get_mut(turn.owner()) {
             *all = all.saturating_sub(held);
@@ -268,28 +377,74 @@ impl<T: Connected<End = D>, D: Drop> Floor<T, D> {
         Some(turn)
     }
 
-    /// Something has come for the guest of a key: it waits for a worker. Without memory for that
+    // The key of a token, where its caller is connected.
+    fn key_now(&self, token: Token) -> Option<usize> {
+        let key = key_of(token);
+        let slot = self.slots.get(key)?;
+        if slot.token == token { Some(key) } else { None }
+    }
+
+    /// Something has come for the guest of a token: it waits for a worker. Without memory for that
     /// it comes back.
-    pub(crate) fn call(&mut self, key: usize) -> Result<(), Turn<T>> {
+    pub(crate) fn call(&mut self, token: Token) -> Result<(), Turn<T>> {
+        let Some(key) = self.key_now(token) else {
+            return Ok(());
+        };
         match self.leave_slot(key) {
             Some(turn) => self.push(turn),
             None => Ok(()),
         }
     }
 
-    /// A guest waits for a worker. Without memory for that it comes back.
+    /// The caller of a token has gone. The guest comes back if it waits for him; else the key, of a
+    /// guest at a worker or who waits for one.
+    pub(crate) fn go(&mut self, token: Token) -> Gone<T> {
+        let Some(key) = self.key_now(token) else {
+            return Gone::Nobody;
+        };
+        if let Some(turn) = self.leave_slot(key) {
+            return Gone::Waited(turn);
+        }
+        if let Some(slot) = self.slots.get_mut(key) {
+            slot.is_gone = true;
+        }
+        Gone::Served(key)
+    }
+
+    /// Takes out the guests who wait for a worker and whose callers have gone, as far as there is memory
+    /// for them.
+    pub(crate) fn take_gone(&mut self, gone: &mut Vec<Turn<T>>) {
+        let slots = &self.slots;
+        let is_gone = |turn: &Turn<T>| slots.get(turn.key).is_some_and(|slot| slot.is_gone);
+        self.turns.take_out(is_gone, gone);
+    }
+
+    // Whether the caller of a key has gone.
+    fn is_gone(&self, key: usize) -> bool {
+        self.slots.get(key).is_some_and(|slot| slot.is_gone)
+    }
+
+    /// A guest waits for a worker. Without memory for that it comes back, and where its caller has
+    /// gone.
     pub(crate) fn push(&mut self, turn: Turn<T>) -> Result<(), Turn<T>> {
+        if self.is_gone(turn.key) {
+            return Err(turn);
+        }
         self.turns.push_short(turn.owner(), turn)
     }
 
-    /// A guest waits for a worker who may compute an answer. Without memory it comes back.
+    /// A guest waits for a worker who may compute an answer. Without memory it comes back, and where
+    /// its caller has gone.
     pub(crate) fn push_answer(&mut self, turn: Turn<T>) -> Result<(), Turn<T>> {
+        if self.is_gone(turn.key) {
+            return Err(turn);
+        }
         self.turns.push_answer(turn.owner(), turn)
     }
 
-    /// Begins an answer for the owner, if it needn't wait.
-    pub(crate) fn begin_answer(&mut self, owner: usize) -> bool {
-        self.turns.begin_answer(owner)
+    /// Begins an answer for a guest, if it needn't wait and its caller hasn't gone.
+    pub(crate) fn begin_answer(&mut self, turn: &Turn<T>) -> bool {
+        !self.is_gone(turn.key) && self.turns.begin_answer(turn.owner())
     }
 
     /// An answer for the owner has ended.
@@ -298,51 +453,81 @@ impl<T: Connected<End = D>, D: Drop> Floor<T, D> {
     }
 
     /// A guest who waits for its caller from now on; who waits for a worker where something has
-    /// come meanwhile. It comes back without memory, or where too much is held already for its
-    /// owner.
-    pub(crate) fn keep(
-        &mut self,
-        turn: Turn<T>,
-        needs: WaitsFor,
-        now: Option<Instant>,
-    ) -> Result<(), Turn<T>> {
+    /// come meanwhile. It comes back without memory, and where its caller has gone.
+    pub(crate) fn keep(&mut self, turn: Turn<T>, now: Option<Instant>) -> Result<(), Turn<T>> {
         let Some(slot) = self.slots.get_mut(turn.key) else {
             return Err(turn);
         };
+        if slot.is_gone {
+            return Err(turn);
+        }
         if slot.is_called {
             slot.is_called = false;
             return self.push(turn);
         }
         if let Some(all) = self.held.get_mut(turn.owner()) {
             let held = turn.guest.link().held();
-            if needs == WaitsFor::Room && *all > MOST_HELD {
-                return Err(turn);
-            }
             *all = all.saturating_add(held);
             slot.held = held;
         }
-        if turn.guest.tenant().is_some()
+        let is_parting = turn.guest.is_refused();
+        if (turn.guest.tenant().is_some() || is_parting && !slot.is_parting)
             && let Some(now) = now
         {
             slot.since = now;
         }
+        slot.is_parting = is_parting;
         slot.is_listed = turn.is_listed;
         slot.guest = Some(turn.guest);
         Ok(())
     }
 
-    /// Guests whose time has passed by now, of some callers in a row. It goes on with those the next
-    /// time.
-    pub(crate) fn take_late(&mut self, now: Instant, late: &mut Vec<Turn<T>>) {
-        if self.limits.login.is_none() && self.limits.idle.is_none() {
-            return;
+    /// As long as too much is held for an owner's callers, takes the guest of the one who has taken
+    /// nothing for the longest of those who don't take all.
+    pub(crate) fn take_deaf(&mut self, owner: usize, deaf: &mut Vec<Turn<T>>) {
+        for _ in 0..self.slots.len() {
+            if self.holds_little(owner) || deaf.reserve(1).is_err() {
+                return;
+            }
+            let Some(key) = self.deaf(owner) else {
+                return;
+            };
+            if let Some(turn) = self.leave_slot(key) {
+                deaf.push_reserved(turn);
+            }
         }
+    }
+
+    fn holds_little(&self, owner: usize) -> bool {
+        self.held.get(owner).is_none_or(|held| *held <= MOST_HELD)
+    }
+
+    // The owner's guest who has waited for the longest until its caller takes something.
+    fn deaf(&self, owner: usize) -> Option<usize> {
+        let mut longest: Option<(usize, Instant)> = None;
+        for key in 0..self.slots.capacity() {
+            if let Some(slot) = self.slots.get(key)
+                && slot.place == owner
+                && slot.guest.is_some()
+                && !slot.is_listed
+                && longest.is_none_or(|(_, since)| slot.since < since)
+            {
+                longest = Some((key, slot.since));
+            }
+        }
+        let (key, _) = longest?;
+        Some(key)
+    }
+
+    /// Guests whose time has passed by now, of some callers in a row. It goes on with those the next
+    /// time. Where others wait for their places, those who haven't logged in have little time.
+    pub(crate) fn take_late(&mut self, now: Instant, is_crowded: bool, late: &mut Vec<Turn<T>>) {
         let first = self.looked;
         let end = self.slots.capacity();
         let last = end.min(first.saturating_add(AT_ONCE));
         self.looked = if last < end { last } else { 0 };
         for key in first..last {
-            if self.is_late(now, key)
+            if self.is_late(now, key, is_crowded)
                 && late.reserve(1).is_ok()
                 && let Some(turn) = self.leave_slot(key)
             {
@@ -352,7 +537,7 @@ impl<T: Connected<End = D>, D: Drop> Floor<T, D> {
     }
 
     // Whether a guest that is waited for has let its time pass.
-    fn is_late(&self, now: Instant, key: usize) -> bool {
+    fn is_late(&self, now: Instant, key: usize, is_crowded: bool) -> bool {
         let Some(slot) = self.slots.get(key) else {
             return false;
         };
@@ -361,6 +546,10 @@ impl<T: Connected<End = D>, D: Drop> Floor<T, D> {
         };
         let within = if guest.tenant().is_some() {
             self.limits.idle
+        } else if is_crowded {
+            Some(Duration::from_millis(CROWDED))
+        } else if slot.is_parting {
+            Some(Duration::from_secs(PARTING))
         } else {
             earlier(self.limits.login, self.limits.idle)
         };
@@ -378,6 +567,3 @@ fn earlier(a: Option<Duration>, b: Option<Duration>) -> Option<Duration> {
         (None, b) => b,
     }
 }
-
-/// Why a guest whose time has passed is sent away: as at a read that fails.
-pub(crate) const LATE: ScriptError = ScriptError::Read;

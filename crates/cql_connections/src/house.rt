@@ -1,12 +1,12 @@
 // What the accepting thread and the workers share.
 ghost use Rattle.std.specs.Prelude.{◌≡◌, ◌⊎◌, true, false, IfSome};
 
-use crate::floor::{Floor, LATE, Next, Turn};
-use crate::hub::Wires;
+use crate::floor::{Floor, Gone, Next, Turn};
 use crate::lookout::Lookout;
 use crate::turns::Task;
+use crate::wires::Wires;
 use cql_hall::{EndReason, Gate, Point};
-use cql_sessions::{Connected, May, WaitsFor};
+use cql_sessions::{Answers, Connected, May, WaitsFor};
 use cql_wire::ScriptError;
 use mio::unix::SourceFd;
 use mio::{Interest, Registry, Token, Waker};
@@ -18,8 +18,10 @@ use std::sync::{Condvar, Mutex, MutexGuard, Wait};
 use std::time::{Clock, Instant};
 
 /// The callers who are connected, and what tells of those who send.
-pub struct House<T, D> {
+pub struct House<'a, T, D> {
     alloc: Global,
+    // what the threads compute
+    answers: &'a Answers,
     // whether calls are kept
     is_kept: bool,
     floor: Mutex<Floor<T, D>>,
@@ -36,10 +38,11 @@ pub struct House<T, D> {
     waker: Waker,
 }
 
-impl<T: Drop, D: Drop> Drop for House<T, D> {
+impl<T: Drop, D: Drop> Drop for House<'_, T, D> {
     fn drop(self) {
         let House {
             alloc: _,
+            answers: _,
             is_kept: _,
             floor: _,
             called: _,
@@ -52,9 +55,15 @@ impl<T: Drop, D: Drop> Drop for House<T, D> {
     }
 }
 
-impl<T: Connected<End = D>, D: Drop> House<T, D> {
-    /// Nobody is connected. Calls are kept or aren't.
-    pub fn new(alloc: Global, is_kept: bool, floor: Floor<T, D>, wires: Wires) -> House<T, D> {
+impl<'a, T: Connected<End = D>, D: Drop> House<'a, T, D> {
+    /// Nobody is connected. Calls are kept or aren't. The threads compute these answers.
+    pub fn new(
+        alloc: Global,
+        answers: &'a Answers,
+        is_kept: bool,
+        floor: Floor<T, D>,
+        wires: Wires,
+    ) -> House<'a, T, D> {
         let Wires {
             lookout,
             registry,
@@ -63,6 +72,7 @@ impl<T: Connected<End = D>, D: Drop> House<T, D> {
         } = wires;
         House {
             alloc,
+            answers,
             is_kept,
             floor: Mutex::new(floor),
             called: Condvar::new(),
@@ -78,6 +88,7 @@ impl<T: Connected<End = D>, D: Drop> House<T, D> {
     pub fn into_ends(self) -> Result<Vec<D>, AllocError> {
         let House {
             alloc: _,
+            answers: _,
             is_kept: _,
             floor,
             called: _,
@@ -91,13 +102,18 @@ impl<T: Connected<End = D>, D: Drop> House<T, D> {
     }
 
     /// Whether nobody is connected.
-    pub(crate) fn is_empty<R: Wait>(&self, rt: &R) -> bool {
+    pub fn is_empty<R: Wait>(&self, rt: &R) -> bool {
         self.floor.lock(rt).is_empty()
     }
 
     /// Whether no further caller has room.
-    pub(crate) fn is_full<R: Wait>(&self, rt: &R) -> bool {
+    pub fn is_full<R: Wait>(&self, rt: &R) -> bool {
         self.floor.lock(rt).is_full()
+    }
+
+    /// Whether callers who haven't logged in keep others out.
+    pub fn is_crowded<R: Wait>(&self, rt: &R) -> bool {
+        self.floor.lock(rt).is_crowded()
     }
 
     // Whether something waits for a worker.
@@ -113,7 +129,7 @@ impl<T: Connected<End = D>, D: Drop> House<T, D> {
     }
 
     /// Lets a caller in, and waits for its first bytes.
-    pub(crate) fn let_in<R: Wait + Clock, G: Gate>(
+    pub fn let_in<R: Wait + Clock, G: Gate>(
         &self,
         rt: &R,
         gate: &G,
@@ -122,24 +138,26 @@ impl<T: Connected<End = D>, D: Drop> House<T, D> {
         let since = Instant::now(rt)?;
         let guest = Box::new(self.alloc, T::new(self.alloc, stream, self.is_kept)?)?;
         let fd = guest.link().raw_fd();
-        let key = self.floor.lock(rt).enter(guest, since)?;
+        let token = self.floor.lock(rt).enter(guest, since)?;
         let told = self
             .registry
-            .register(&mut SourceFd(&fd), Token(key), Interest::READABLE);
+            .register(&mut SourceFd(&fd), token, Interest::READABLE);
         if told.is_ok() {
             gate.at(Point::Opened);
         } else {
-            self.floor.lock(rt).forget(key);
+            self.floor.lock(rt).turn_away(token);
         }
         told
     }
 
-    /// The next guest whose turn it is, once there is one, at a thread that computes answers or at one
-    /// that doesn't; or none where the workers are to end. The thread may look who has sent.
+    /// The next guest whose turn it is, once there is one, at a thread of this index that computes
+    /// answers or at one that doesn't; or none where the workers are to end. The thread may look who has
+    /// sent.
     pub fn next<R: Wait + Clock, G: Gate>(
         &self,
         rt: &R,
         gate: &G,
+        thread: usize,
         computes: bool,
     ) -> Option<Task<Turn<T>>> {
         let mut floor = self.floor.lock(rt);
@@ -151,6 +169,9 @@ impl<T: Connected<End = D>, D: Drop> House<T, D> {
             self.waiting.store(floor.waiting(), Ordering::SeqCst);
             match next {
                 Next::Turn(task) => {
+                    if task.is_answer {
+                        self.answers.attend(rt, thread, task.item.key);
+                    }
                     if floor.has_more() {
                         self.called.notify_one();
                     }
@@ -180,33 +201,69 @@ impl<T: Connected<End = D>, D: Drop> House<T, D> {
     ) -> MutexGuard<'_, Floor<T, D>> {
         let mut lookout = self.lookout.lock(rt);
         lookout.look(rt, may_wait);
+        let mut left = Vec::new(self.alloc);
         let mut floor = self.floor.lock(rt);
         for event in &lookout.events {
-            if let Err(turn) = floor.call(event.token().0) {
+            let token = event.token();
+            let ended = if event.is_error() || event.is_write_closed() {
+                self.let_go(rt, &mut floor, token)
+            } else {
+                floor.call(token)
+            };
+            if let Err(turn) = ended {
                 drop(floor);
-                self.end(
-                    rt,
-                    gate,
-                    turn,
-                    Some(ScriptError::NoMemory),
-                    EndReason::Fault,
-                );
+                self.end_gone(rt, gate, turn);
                 floor = self.floor.lock(rt);
             }
         }
+        floor.take_gone(&mut left);
         floor.is_looked = false;
-        floor
+        if left.is_empty() {
+            return floor;
+        }
+        drop(floor);
+        for turn in left {
+            self.end_gone(rt, gate, turn);
+        }
+        self.floor.lock(rt)
     }
 
-    /// What a worker may do next for a guest who has had a turn, if it goes on with the guest: answer
-    /// the fetch that waits, where it computes answers; or lines, of one who needs a worker or bytes.
-    /// An answer that it computed has ended.
+    // Ends the session of a caller who has gone.
+    fn end_gone<R: Wait, G: Gate>(&self, rt: &R, gate: &G, turn: Turn<T>) {
+        let fault = turn.fault_of_silence();
+        let reason = turn.reason(fault);
+        self.end(rt, gate, turn, fault, reason);
+    }
+
+    // The caller of a token has gone. A guest who waits for him comes back; an answer that is computed
+    // for him is given up.
+    fn let_go<R: Wait>(
+        &self,
+        rt: &R,
+        floor: &mut Floor<T, D>,
+        token: Token,
+    ) -> Result<(), Turn<T>> {
+        match floor.go(token) {
+            Gone::Nobody => Ok(()),
+            Gone::Waited(turn) => Err(turn),
+            Gone::Served(key) => {
+                self.answers.give_up(rt, key);
+                Ok(())
+            }
+        }
+    }
+
+    /// What a worker of this index may do next for a guest who has had a turn, if it goes on with the
+    /// guest: answer the fetch that waits, where it computes answers; or lines, of one who needs a worker
+    /// or bytes. An answer that it computed has ended. Who has logged in has a place of its tenant's, or
+    /// is told nothing more where that may have no further one.
     pub fn goes_on<R: Wait>(
         &self,
         rt: &R,
         turn: &mut Turn<T>,
         needs: WaitsFor,
         last: May,
+        thread: usize,
         computes: bool,
     ) -> Option<May>
         ensures guest { (turn.new.key ≡ turn.old.key) × (turn.new.guest ≡ turn.old.guest) }
@@ -214,20 +271,24 @@ impl<T: Connected<End = D>, D: Drop> House<T, D> {
         ensures short { IfSome result (λ may. may.fetch ≡ false → (needs ≡ WaitsFor.Worker) ⊎ (needs ≡ WaitsFor.Bytes)) }
     {
         if last.fetch {
-            self.end_answer(rt, turn.owner());
+            self.end_answer(rt, turn.owner(), thread);
+        }
+        if turn.wants_place() {
+            self.floor.lock(rt).seat(turn);
+            if turn.is_above {
+                return None;
+            }
         }
         match needs {
-            WaitsFor::Answer if computes && self.floor.lock(rt).begin_answer(turn.owner()) => {
-                Some(May {
-                    fetch: true,
-                    wait: false,
-                })
-            }
+            WaitsFor::Answer if computes && self.begin_answer(rt, turn, thread) => Some(May {
+                fetch: true,
+                wait: false,
+            }),
             WaitsFor::Worker if !self.is_waited_for() => Some(May {
                 fetch: false,
                 wait: last.wait,
             }),
-            WaitsFor::Bytes if turn.guest.link().is_quick() && !self.is_waited_for() => {
+            WaitsFor::Bytes if self.may_wait_for(turn) => {
                 self.unlist(turn);
                 Some(May {
                     fetch: false,
@@ -238,20 +299,35 @@ impl<T: Connected<End = D>, D: Drop> House<T, D> {
         }
     }
 
-    // An answer for the owner has ended.
-    fn end_answer<R: Wait>(&self, rt: &R, owner: usize) {
+    // Whether a worker may wait a moment for the guest's caller, who mostly sends again at once.
+    fn may_wait_for(&self, turn: &Turn<T>) -> bool {
+        turn.guest.link().is_quick() && !turn.guest.is_refused() && !self.is_waited_for()
+    }
+
+    // Begins an answer for the guest at the thread of this index, if it needn't wait.
+    fn begin_answer<R: Wait>(&self, rt: &R, turn: &Turn<T>, thread: usize) -> bool {
+        let mut floor = self.floor.lock(rt);
+        let has_begun = floor.begin_answer(turn);
+        if has_begun {
+            self.answers.attend(rt, thread, turn.key);
+        }
+        has_begun
+    }
+
+    // An answer for the owner by the thread of this index has ended.
+    fn end_answer<R: Wait>(&self, rt: &R, owner: usize, thread: usize) {
+        self.answers.leave(rt, thread);
         let mut floor = self.floor.lock(rt);
         floor.end_answer(owner);
         self.waiting.store(floor.waiting(), Ordering::SeqCst);
     }
 
-    // From now on it isn't told what comes for the guest.
+    // From now on it isn't told what comes for the guest, but still where its caller has gone.
     fn unlist(&self, turn: &mut Turn<T>)
         ensures guest { (turn.new.key ≡ turn.old.key) × (turn.new.guest ≡ turn.old.guest) }
     {
         if turn.is_listed {
-            let fd = turn.guest.link().raw_fd();
-            turn.is_listed = self.registry.deregister(&mut SourceFd(&fd)).is_err();
+            turn.is_listed = self.listen(turn, Interest::PRIORITY).is_err();
         }
     }
 
@@ -267,15 +343,16 @@ impl<T: Connected<End = D>, D: Drop> House<T, D> {
         } else {
             Interest::READABLE
         };
-        let fd = turn.guest.link().raw_fd();
-        let mut source = SourceFd(&fd);
-        // it may be listed for room, or not at all
-        let _ = self.registry.deregister(&mut source);
-        turn.is_listed = false;
-        self.registry
-            .register(&mut source, Token(turn.key), interest)?;
+        self.listen(turn, interest)?;
         turn.is_listed = !wants_room;
         Ok(())
+    }
+
+    // From now on it is told this of the guest's caller, and where he has gone.
+    fn listen(&self, turn: &Turn<T>, interest: Interest) -> io::Result<()> {
+        let fd = turn.guest.link().raw_fd();
+        self.registry
+            .reregister(&mut SourceFd(&fd), turn.token, interest)
     }
 
     /// Takes back a guest who has had a turn, and ends its session where it needs nothing more.
@@ -286,6 +363,10 @@ impl<T: Connected<End = D>, D: Drop> House<T, D> {
         turn: Turn<T>,
         needs: WaitsFor,
     ) {
+        if turn.is_above {
+            let reason = turn.reason(None);
+            return self.end(rt, gate, turn, None, reason);
+        }
         let refused = match needs {
             WaitsFor::End(fault) => {
                 let reason = turn.reason(fault);
@@ -293,7 +374,7 @@ impl<T: Connected<End = D>, D: Drop> House<T, D> {
             }
             WaitsFor::Worker => self.floor.lock(rt).push(turn),
             WaitsFor::Answer => self.push_answer(rt, turn),
-            WaitsFor::Bytes | WaitsFor::Room => self.keep(rt, turn, needs),
+            WaitsFor::Bytes | WaitsFor::Room => self.keep(rt, gate, turn, needs),
         };
         if let Err(turn) = refused {
             self.end(rt, gate, turn, Some(ScriptError::Write), EndReason::Fault);
@@ -314,15 +395,34 @@ impl<T: Connected<End = D>, D: Drop> House<T, D> {
         pushed
     }
 
-    // Keeps a guest until what it needs has come.
-    fn keep<R: Wait + Clock>(&self, rt: &R, turn: Turn<T>, needs: WaitsFor) -> Result<(), Turn<T>> {
+    // Keeps a guest until what it needs has come. Where too much is held already for callers of its
+    // tenant, the session ends of who has taken nothing for the longest.
+    fn keep<R: Wait + Clock, G: Gate>(
+        &self,
+        rt: &R,
+        gate: &G,
+        turn: Turn<T>,
+        needs: WaitsFor,
+    ) -> Result<(), Turn<T>> {
         let mut turn = turn;
         turn.guest.rest();
         if self.list(&mut turn, needs).is_err() {
             return Err(turn);
         }
         let now = Instant::now(rt).ok();
-        self.floor.lock(rt).keep(turn, needs, now)
+        if needs == WaitsFor::Room {
+            self.end_deaf(rt, gate, turn.owner());
+        }
+        self.floor.lock(rt).keep(turn, now)
+    }
+
+    // Ends sessions of the owner's callers who don't take what is held, as long as that is too much.
+    fn end_deaf<R: Wait, G: Gate>(&self, rt: &R, gate: &G, owner: usize) {
+        let mut deaf = Vec::new(self.alloc);
+        self.floor.lock(rt).take_deaf(owner, &mut deaf);
+        for turn in deaf {
+            self.end(rt, gate, turn, Some(ScriptError::Write), EndReason::Fault);
+        }
     }
 
     /// Ends a session, for this reason. The accepting thread is told, since there is room for one
@@ -338,7 +438,10 @@ impl<T: Connected<End = D>, D: Drop> House<T, D> {
         let Turn {
             key,
             guest,
+            token: _,
             is_listed: _,
+            place: _,
+            is_above: _,
         } = turn;
         let tenant = guest.tenant();
         let end = Box::into_inner(guest).leave(self.alloc, fault);
@@ -347,16 +450,17 @@ impl<T: Connected<End = D>, D: Drop> House<T, D> {
         let _ = self.waker.wake();
     }
 
-    /// Ends the sessions of some of those whose time has passed.
-    pub(crate) fn look_round<R: Wait + Clock, G: Gate>(&self, rt: &R, gate: &G) {
+    /// Ends the sessions of some of those whose time has passed. Where others wait for their places,
+    /// those who haven't logged in have little time.
+    pub fn look_round<R: Wait + Clock, G: Gate>(&self, rt: &R, gate: &G, is_crowded: bool) {
         let Ok(now) = Instant::now(rt) else {
             return;
         };
         let mut late = Vec::new(self.alloc);
-        self.floor.lock(rt).take_late(now, &mut late);
+        self.floor.lock(rt).take_late(now, is_crowded, &mut late);
         for turn in late {
-            let reason = turn.reason_of_late();
-            self.end(rt, gate, turn, Some(LATE), reason);
+            let (fault, reason) = (turn.fault_of_silence(), turn.reason_of_late());
+            self.end(rt, gate, turn, fault, reason);
         }
     }
 }

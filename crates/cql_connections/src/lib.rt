@@ -1,18 +1,17 @@
-//! The callers who are connected: the thread that lets them in, who looks what they send, who waits for
-//! a worker and whose turn it is, and whose time has passed; and what is told of them.
+//! The callers who are connected: how many there may be of each tenant, who looks what they send and who
+//! has gone, who waits for a worker and whose turn it is, and whose time has passed.
 #![tactic(auto)]
 
 mod floor;
 mod house;
-mod hub;
 mod limits;
 mod lookout;
+mod places;
 mod turns;
-mod watch;
+mod wires;
 
 pub use floor::{Floor, Turn};
 pub use house::House;
-pub use hub::{Door, Hub, Wires};
 pub use limits::Limits;
 pub use turns::{Task, Turns};
-pub use watch::Watch;
+pub use wires::Wires;

@@ -14,13 +14,13 @@ const EVENTS: usize = 1024;
 // For how many milliseconds a thread sleeps where the system can't tell.
 const PAUSE: u64 = 10;
 
-// A token that is no key of a caller.
-const WAKER: Token = Token(1 << 32);
+// A token that is no caller's.
+const WAKER: Token = Token(usize::MAX);
 
 /// What tells who has sent. A thread has it while it looks, and no other does meanwhile.
 pub(crate) struct Lookout {
     poll: Poll,
-    /// What the last look has told, of keys as tokens; and maybe of a token that is no key.
+    /// What the last look has told, by tokens of callers; and maybe of one that is none.
     pub(crate) events: Events,
 }
 

@@ -63,12 +63,60 @@ impl<T: Drop> OwnerQueues<T> {
         item
     }
 
+    // Takes out those of which this holds, as far as there is memory for them.
+    fn take_out<F: Fn(&T) -> bool>(&mut self, is_out: &F, out: &mut Vec<T>)
+        requires { F.IsAlwaysCallable is_out.now }
+    {
+        for line in self.lines.iter_mut() {
+            let taken = take_out(line, is_out, out);
+            self.count = self.count.saturating_sub(taken);
+        }
+        self.leave_order();
+    }
+
+    // Owners of whom nothing waits are in the order no more.
+    fn leave_order(&mut self) {
+        for _ in 0..self.order.len() {
+            if let Some(owner) = self.order.pop_front()
+                && let Some(line) = self.lines.get(owner)
+                && !line.is_empty()
+            {
+                // there is room for each owner
+                let _ = self.order.push_back(owner);
+            }
+        }
+    }
+
     // Passes over the owner whose turn it is.
     fn pass(&mut self) {
         if let Some(owner) = self.order.pop_front() {
             let _ = self.order.push_back(owner);
         }
     }
+}
+
+// Takes out of a queue those of which this holds, as far as there is memory for them. Gives how many.
+fn take_out<T: Drop, F: Fn(&T) -> bool>(
+    line: &mut VecDeque<T>,
+    is_out: &F,
+    out: &mut Vec<T>,
+) -> usize
+    requires { F.IsAlwaysCallable is_out.now }
+{
+    let mut taken: usize = 0;
+    for _ in 0..line.len() {
+        let Some(item) = line.pop_front() else {
+            break;
+        };
+        if is_out(&item) && out.reserve(1).is_ok() {
+            out.push_reserved(item);
+            taken = taken.saturating_add(1);
+        } else {
+            // its own room is free
+            let _ = line.push_back(item);
+        }
+    }
+    taken
 }
 
 /// What a worker is to do.
@@ -132,6 +180,14 @@ impl<T: Drop> Turns<T> {
     /// An answer waits. Without memory it comes back.
     pub fn push_answer(&mut self, owner: usize, item: T) -> Result<(), T> {
         self.answers.push(owner, item)
+    }
+
+    /// Takes out all that wait of which this holds, as far as there is memory for them.
+    pub(crate) fn take_out<F: Fn(&T) -> bool>(&mut self, is_out: F, out: &mut Vec<T>)
+        requires { F.IsAlwaysCallable is_out }
+    {
+        self.short.take_out(&is_out, out);
+        self.answers.take_out(&is_out, out);
     }
 
     /// Begins an answer that hasn't waited, where none waits and one more may be computed.

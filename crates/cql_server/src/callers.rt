@@ -3,15 +3,15 @@ ghost use Rattle.std.specs.Prelude.{◌≡◌, All, IfErr, true, false, Err};
 ghost use Rattle.cql_ops.specs.Bench.{IsBench};
 ghost use Rattle.cql_server.specs.declared.failure.Failure.TheVariants as failure;
 
+use crate::auditing::{Audited, audit_sessions};
 use crate::failure::Failure;
+use crate::hub::Hub;
 use crate::sweeper::start_sweeper;
 use crate::workers::start_all;
-use cql_connections::{Door, Floor, House, Hub, Limits};
+use cql_connections::{Floor, House, Limits};
 use cql_core::{BenchOf, Operator, TenantTable};
 use cql_hall::{Bare, Gate, Hall, Kept};
-use cql_sessions::{
-    Answers, Audited, Callable, Ending, Guest, Rooms, Service, SharedPool, audit_sessions,
-};
+use cql_sessions::{Answers, Callable, Ending, Guest, Rooms, Service, SharedPool};
 use crossbeam_channel::Receiver;
 use std::alloc::Global;
 use std::io::Write;
@@ -191,7 +191,7 @@ where
     let floor: Floor<Guest, Ending> = Floor::new(alloc, limits, owners, own.len(), room)?;
     let (stop, stopped) = crossbeam_channel::bounded(alloc, 1)?;
     let (door, wires) = hub.into_parts();
-    let house = House::new(alloc, is_kept, floor, wires);
+    let house = House::new(alloc, pool.answers(), is_kept, floor, wires);
     let shared = &house;
     let rt = service.rt;
     thread::scope(

@@ -1,20 +1,26 @@
 // What `cqld` does.
+ghost use Rattle.std.specs.Prelude.{All};
+ghost use Rattle.cql_ops.specs.Bench.{IsBench};
 
 use crate::callers::{Benches, serve};
 use crate::failure::Failure;
 use crate::files::callers_with_files;
 use crate::forms::{keyed_lists, plain_lists};
-use cql_connections::{Hub, Limits, Watch};
+use crate::hub::Hub;
+use crate::log::{LogLines, Stamp};
+use crate::watch::Watch;
+use cql_connections::Limits;
 use cql_core::{Operator, TenantTable};
+use cql_hall::Gate;
 use cql_sessions::{Rooms, benches_of};
 use cql_wire::{Config, JoinForm, NoConfig, TableFault, Watched, config_of, given_table};
 use std::alloc::Global;
 use std::env::Env;
-use std::io;
 use std::net::{Ipv4Addr, Net, TcpListener, TcpStream};
 use std::sync::Wait;
-use std::thread::Threads;
+use std::thread::{Builder, Scope, Threads};
 use std::time::Clock;
+use std::{io, thread};
 
 /// The program `cqld`: reads its words, and the tenants line on standard input; and tells that this is
 /// right, or serves callers on 127.0.0.1 as the words say. What is wrong is told on standard error.
@@ -116,15 +122,15 @@ where
 }
 
 // Tells the log the port that can't be listened at, and why.
-fn tell_unbound(rt: &impl Eprint, config: &Config, error: &io::Error) {
+fn tell_unbound<R: Clock + Eprint>(rt: &R, config: &Config, error: &io::Error) {
     if config.log > 0 {
-        let (port, why) = (config.port, error.kind());
-        let _ = eprintln!(rt; "{{\"cannot_listen\":{port},\"why\":\"{why}\"}}");
+        let (stamp, port, why) = (Stamp::now(rt), config.port, error.kind());
+        let _ = eprintln!(rt; "{{{stamp},\"cannot_listen\":{port},\"why\":\"{why}\"}}");
     }
 }
 
-// Makes a bench of each list of operators, and serves. Tells where fewer callers than were asked for have
-// files, and the port once the threads stand.
+// Makes a bench of each list of operators, and serves at the port. Tells where fewer callers than were
+// asked for have files.
 fn listen<R, O>(
     rt: &R,
     alloc: Global,
@@ -163,27 +169,82 @@ where
     let Ok(addr) = listener.local_addr() else {
         return Err(Failure::Listening);
     };
-    let Some(watch) = Watch::new(rt, alloc, table, config.log, addr.port()) else {
+    let log = LogLines::new(alloc);
+    let Some(watch) = Watch::new(rt, alloc, table, &log, config.log, addr.port()) else {
         return Err(Failure::NoMemory);
     };
     let callers = callers_with_files(rt, config.callers.max(1));
-    serve(
-        rt,
-        alloc,
-        hub,
-        Limits::of_seconds(config.login, config.idle)
-            .with_callers(callers)
-            .with_answer(config.answer),
-        &mut io::writer(rt),
-        table,
-        benches,
-        config.sessions,
-        config.audit,
-        &watch,
-    )?;
+    let config = Config { callers, ..config };
+    attend(rt, alloc, hub, config, table, benches, &log, &watch)?;
     if watch.has_opened() {
         Ok(())
     } else {
         Err(Failure::Writing)
+    }
+}
+
+// Serves as the words say, while a thread writes what the log is told, if it is told anything. The gate
+// tells the port once the threads stand.
+fn attend<R, G, O>(
+    rt: &R,
+    alloc: Global,
+    hub: Hub<'_>,
+    config: Config,
+    table: &TenantTable,
+    benches: Benches<O>,
+    log: &LogLines,
+    gate: &G,
+) -> Result<(), Failure>
+where
+    R: Threads + Wait + Clock + Print + Eprint + Sync,
+    G: Gate + Sync,
+    O: Operator + Send,
+    requires own { All (IsBench O.model_of) benches.own.items }
+    requires shared { All (IsBench O.model_of) benches.shared.items }
+{
+    let limits = Limits::of_seconds(config.login, config.idle)
+        .with_callers(config.callers)
+        .with_answer(config.answer);
+    thread::scope(
+        thread::scope_env(),
+        rt,
+        move |scope| -> Result<(), Failure>
+            requires own { All (IsBench O.model_of) benches.own.items }
+            requires shared { All (IsBench O.model_of) benches.shared.items }
+        {
+            start_writer(scope, rt, log, config.log > 0)?;
+            let served = serve(
+                rt,
+                alloc,
+                hub,
+                limits,
+                &mut io::writer(rt),
+                table,
+                benches,
+                config.sessions,
+                config.audit,
+                gate,
+            );
+            log.close(rt);
+            served
+        },
+    )
+}
+
+// Starts the thread that writes the log until it is closed, if the log is told anything; or it can't be
+// made.
+fn start_writer<'s, T, R: Wait + Clock + Eprint + Sync + 's>(
+    scope: &Scope<'s, T>,
+    rt: &'s R,
+    log: &'s LogLines,
+    is_told: bool,
+) -> Result<(), Failure> {
+    if !is_told {
+        return Ok(());
+    }
+    let started = Builder::new().spawn_scoped(scope, move || log.write_on(rt));
+    match started {
+        Ok(_handle) => Ok(()),
+        Err(_refused) => Err(Failure::NoMemory),
     }
 }

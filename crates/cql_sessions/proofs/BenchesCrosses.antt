@@ -19,6 +19,7 @@ use Rattle.cql_eval.specs.contracts.pool.Pool as pool
 use Rattle.cql_eval.specs.contracts.pool.Pooled as pooled
 use Rattle.cql_core.proofs.CrossCores.{pin_send, pin_sync}
 use Rattle.cql_sessions.specs.contracts.answers.Answers as answers
+use Rattle.cql_sessions.specs.contracts.answers.Desk as desk
 use Rattle.cql_sessions.specs.contracts.answers.UnderWay as under_way
 use Rattle.cql_sessions.specs.contracts.shared_pool.Borrower as borrower
 use Rattle.cql_sessions.specs.contracts.shared_pool.SharedPool as shared_pool
@@ -32,8 +33,17 @@ under_way_send = search (crosses, sendable, cancellation.the_field_send) depth 2
 under_way_row_send : IsSend under_way.the_row
 under_way_row_send = search (sendable, under_way_send) depth 20
 
+desk_send : IsSend (desk.the_field).row
+desk_send = search (crosses, sendable, under_way_row_send) depth 30
+
+desk_row_send : IsSend desk.the_row
+desk_row_send = search (sendable, desk_send) depth 20
+
 answers_sync : IsSync (answers.the_field).row
-answers_sync = search (crosses, sendable, under_way_row_send) depth 30
+answers_sync = search (crosses, sendable, desk_row_send) depth 30
+
+pub answers_row_sync : IsSync answers.the_row
+answers_row_sync = search (sendable, answers_sync) depth 20
 
 module _ (O : RattleType) where
   pub bench_send : IsSend O → IsSend (bench_type.the_row O)

@@ -12,6 +12,7 @@ use Rattle.cql_sessions.specs.contracts.caller.Caller as caller
 use Rattle.cql_sessions.specs.contracts.ending.Ending as ending
 use Rattle.cql_sessions.specs.contracts.guest.Guest as guest
 use Rattle.cql_sessions.specs.contracts.connection.Connection as link
+use Rattle.cql_sessions.specs.contracts.parting.Parting as parting
 use Rattle.cql_sessions.specs.contracts.visit.Visit as visit
 
 pub ending_send : IsSend (ending.the_field).row
@@ -38,8 +39,14 @@ link_send = struct_send (shape link.the_type) (
   (search (crosses, sendable) depth 30, (search (crosses, sendable) depth 30, (search sendable, (search sendable, (search sendable, tt))))),
 )
 
+pub parting_send : IsSend (parting.the_field).row
+parting_send = search sendable depth 20
+
 pub guest_send : IsSend (guest.the_field).row
-guest_send = struct_send (shape guest.the_type) (search (sendable, link_send) depth 20, (search (sendable, visit_send) depth 20, tt))
+guest_send = struct_send (shape guest.the_type) (
+  search (sendable, link_send) depth 20,
+  (search (sendable, visit_send) depth 20, (search (sendable, parting_send) depth 20, tt)),
+)
 
 pub guest_row_send : IsSend guest.the_row
 guest_row_send = search (sendable, guest_send) depth 20

@@ -5,7 +5,9 @@ use crate::callable::Callable;
 use crate::caller::{LineOutcome, Service};
 use crate::connection::{Came, Connection, Outbox, next_bytes};
 use crate::ending::Ending;
+use crate::parting::Parting;
 use crate::session_buffers::SessionBuffers;
+use crate::turn_length::{LINES, TurnLength};
 use crate::visit::Visit;
 use cql_core::{Evaluator, TenantId};
 use cql_hall::Gate;
@@ -15,18 +17,20 @@ use std::io;
 use std::net::TcpStream;
 use std::sync::Wait;
 
-// The most lines of one turn.
-const LINES: u32 = 256;
-
 /// A caller's connection that never waits for long, and its session.
 pub struct Guest {
     link: Connection,
     visit: Visit,
+    parting: Parting,
 }
 
 impl Drop for Guest {
     fn drop(self) {
-        let Guest { link: _, visit: _ } = self;
+        let Guest {
+            link: _,
+            visit: _,
+            parting: _,
+        } = self;
     }
 }
 
@@ -87,6 +91,7 @@ impl Connected for Guest {
         Ok(Guest {
             link: Connection::new(alloc, stream)?,
             visit: Visit::new(alloc, is_kept),
+            parting: Parting::new(),
         })
     }
 
@@ -108,7 +113,11 @@ impl Connected for Guest {
     }
 
     fn leave(self, alloc: Global, fault: Option<ScriptError>) -> Option<Ending> {
-        let Guest { link: _, visit } = self;
+        let Guest {
+            link: _,
+            visit,
+            parting: _,
+        } = self;
         let is_kept = visit.is_kept;
         let end = visit.into_end(alloc, fault);
         if is_kept { Some(Ending::of(end)) } else { None }
@@ -117,8 +126,9 @@ impl Connected for Guest {
 
 impl Guest {
     /// Serves its session for a while: writes what is held back, or reads once and answers lines
-    /// up to a fetch. A caller who doesn't take what is written is not read from. Nothing of its
-    /// replies stays in the buffers.
+    /// up to a fetch. A caller who doesn't take what is written is not read from. Of one whose login
+    /// was refused what still comes is read and let go of. Nothing of its replies stays in the
+    /// buffers.
     pub fn turn<H: Wait, C: Callable<H, G>, E: Evaluator, G: Gate>(
         &mut self,
         service: &Service<'_, H, C, G>,
@@ -132,13 +142,11 @@ impl Guest {
         ensures nothing { buffers.new.buffer ≡ [] }
     {
         let needs = match self.serve(service, bench, buffers, may) {
-            Ok(needs) => needs,
-            Err(fault) => {
-                if fault == ScriptError::NoMemory && self.visit.caller.is_none() {
-                    self.link.tell_no_memory();
-                }
-                WaitsFor::End(Some(fault))
+            Ok(WaitsFor::End(None)) if self.is_refused() => {
+                self.parting.go_on(&self.link.stream, &mut buffers.chunk)
             }
+            Ok(needs) => needs,
+            Err(fault) => WaitsFor::End(Some(fault)),
         };
         buffers.buffer.clear();
         needs
@@ -162,8 +170,9 @@ impl Guest {
             stream: &self.link.stream,
             is_waiting: &mut self.link.is_waiting,
             held: &mut self.link.unsent,
+            written: 0,
         });
-        let came = answer_next(
+        let answered = answer_next(
             service,
             bench,
             &mut self.visit,
@@ -171,12 +180,31 @@ impl Guest {
             buffers,
             may.fetch,
             &mut outbox,
-        )?;
-        buffers.buffer.flush(&mut outbox)?;
+        );
+        if matches!(answered, Ok(_) | Err(ScriptError::NoMemory)) {
+            // what was done is told, also where there is no memory for what comes then
+            buffers.buffer.flush(&mut outbox)?;
+        }
         drop(outbox);
+        let came = match answered {
+            Ok(came) => came,
+            Err(ScriptError::NoMemory) => return Ok(self.end_without_memory()),
+            Err(fault) => return Err(fault),
+        };
         let is_spent = matches!(came, Came::Nothing);
         self.link.note(came, may.wait);
         Ok(self.link.needs(self.visit.stage(), is_spent))
+    }
+
+    // Its session ends behind what was answered, and what is told of that is want of memory.
+    fn end_without_memory(&mut self) -> WaitsFor {
+        self.visit.is_over = true;
+        if self.link.unsent.is_empty() {
+            self.link.tell_no_memory();
+            WaitsFor::End(Some(ScriptError::NoMemory))
+        } else {
+            WaitsFor::Room
+        }
     }
 }
 
@@ -216,8 +244,8 @@ fn answer_next<H: Wait, C: Callable<H, G>, E: Evaluator, G: Gate>(
     Ok(Came::Unused)
 }
 
-// Answers lines that are whole in the bytes, up to a fetch, or as long as all is written. Gives
-// how many bytes were used.
+// Answers lines that are whole in the bytes, up to a fetch, or as long as all is written and the turn
+// lasts. Gives how many bytes were used.
 fn answer_some<H: Wait, C: Callable<H, G>, E: Evaluator, G: Gate>(
     service: &Service<'_, H, C, G>,
     bench: &mut E,
@@ -233,9 +261,13 @@ fn answer_some<H: Wait, C: Callable<H, G>, E: Evaluator, G: Gate>(
     ensures within { IfOk result (λ used. used ≤ length bytes.now) }
 {
     let mut used = 0;
-    for _ in 0..LINES {
+    let length = TurnLength::begin(service.gate);
+    for line in 0..LINES {
         let rest = &bytes[used..];
         if rest.is_empty() || visit.is_over || visit.is_held || !outbox.inner().held.is_empty() {
+            break;
+        }
+        if length.is_over(service.gate, line, outbox.inner().written) {
             break;
         }
         let step = visit.take_line(service, bench, rest, may_fetch, buffer, scratch, outbox)?;

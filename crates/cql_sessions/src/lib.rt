@@ -1,10 +1,9 @@
 //! Sessions of callers: one over any reader and writer, and one between two pieces of its input, at a
-//! connection that never waits for long; the benches that compute their answers, which threads borrow;
-//! and the audit of what they were told.
+//! connection that never waits for long; and the benches that compute their answers, which threads
+//! borrow.
 #![tactic(auto)]
 
 mod answers;
-mod auditing;
 mod benches;
 mod callable;
 mod caller;
@@ -12,15 +11,15 @@ mod connection;
 mod ending;
 mod guest;
 mod login;
+mod parting;
 mod request;
 mod session_buffers;
 mod sessions;
 mod shared_pool;
-mod tables;
+mod turn_length;
 mod visit;
 
 pub use answers::Answers;
-pub use auditing::{AuditFailure, Audited, audit_sessions};
 pub use benches::benches_of;
 pub use callable::Callable;
 pub use caller::Service;

@@ -14,8 +14,8 @@ use std::time::{Clock, Duration, Instant};
 // For so many seconds a bench stands unused before what it stands for is let go of.
 const UNUSED: u64 = 40;
 
-// How often answers are looked at that may take only so long: so many times a second.
-const LOOKS: u64 = 4;
+// How often answers are looked at that are to be given up: so many times a second.
+const LOOKS: u64 = 10;
 
 /// How many bytes benches may keep together that nobody has borrowed, and how many an answer may weigh,
 /// with what its bench keeps for it.
@@ -75,6 +75,11 @@ impl<O: Operator> SharedPool<O> {
             answers,
             room: rooms.answer,
         })
+    }
+
+    /// What the threads compute.
+    pub fn answers(&self) -> &Answers {
+        &self.answers
     }
 
     // The seconds since it was made; 0 where the clock can't be read.
@@ -153,15 +158,10 @@ impl<O: Operator> SharedPool<O> {
         let _ = self.let_go(rt, since);
     }
 
-    /// Waits for a second, and gives up late answers meanwhile. Whether the sender is still there.
+    /// Waits for a second, and gives up answers meanwhile that are late or whose callers have gone. Whether the sender is still there.
     pub fn second<R: Wait + Clock>(&self, rt: &R, stopped: &Receiver<()>) -> bool {
-        let (looks, pause) = if self.answers.are_limited() {
-            (LOOKS, 1000 / LOOKS)
-        } else {
-            (1, 1000)
-        };
-        for _ in 0..looks {
-            match stopped.recv_timeout(rt, Duration::from_millis(pause)) {
+        for _ in 0..LOOKS {
+            match stopped.recv_timeout(rt, Duration::from_millis(1000 / LOOKS)) {
                 Err(RecvTimeoutError::Timeout) => self.answers.give_up_late(rt),
                 _ => return false,
             }

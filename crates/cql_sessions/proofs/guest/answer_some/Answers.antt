@@ -2,8 +2,8 @@ use Rattle.std.proofs.lemmas.Grind.{common_steps}
 use Rattle.std.proofs.Common.{arith}
 use Rattle.cql_sessions.proofs.guest.answer_some.Goals as goal
 
-pub loop-preserved : goal.loop-preserved
-loop-preserved g c = grind (arith, common_steps)
+pub loop-line-preserved : goal.loop-line-preserved
+loop-line-preserved g c = grind (arith, common_steps)
 
 pub returns-then-ne-clause-bench : goal.returns-then-ne-clause-bench
 returns-then-ne-clause-bench g c = grind (arith, common_steps)

@@ -1,8 +1,8 @@
 use Rattle.std.proofs.Common.{◌≤◌, length}
 use Rattle.cql_sessions.proofs.guest.answer_some.Given as goal
 
-abbrev pub invariant-loop : goal.invariant-loop
-invariant-loop g l = record {
+abbrev pub invariant-loop-line : goal.invariant-loop-line
+invariant-loop-line g l = record {
   bench : g.E.Evaluator.is_ready l.bench;
   within : l.used ≤ length l.bytes;
 }

@@ -1,6 +1,6 @@
 use Rattle.std.proofs.lemmas.Grind.{common_steps}
 use Rattle.std.proofs.Common.{arith}
-use Rattle.cql_sessions.proofs.tables.are_equal_tenants.Goals as goal
+use Rattle.cql_server.proofs.tables.are_equal_tenants.Goals as goal
 
 pub returns : goal.returns
 returns c = grind (arith, common_steps)

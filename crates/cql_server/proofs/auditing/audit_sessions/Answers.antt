@@ -1,7 +1,7 @@
 use Rattle.std.proofs.Common.{◌∙◌, ap, sym, map, sum_by}
 use Rattle.cql_sessions.specs.Tallies.{placed}
 use Rattle.cql_sessions.proofs.Taking.{lists_of, agreed_once, placed_in_lists, placed_as_counted}
-use Rattle.cql_sessions.proofs.auditing.audit_sessions.Goals as goal
+use Rattle.cql_server.proofs.auditing.audit_sessions.Goals as goal
 
 pub returns-clause-agreed : goal.returns-clause-agreed
 returns-clause-agreed c =

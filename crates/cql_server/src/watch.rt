@@ -1,25 +1,31 @@
 // What a server did of late, and who came and left.
 
+use crate::log::LogLines;
 use cql_core::{HeldStream, TenantId, TenantTable};
 use cql_hall::{EndReason, Gate, Kind, Point};
 use std::alloc::{AllocError, Global};
 use std::fmt;
+use std::sync::Wait;
 use std::sync::atomic::{AtomicU64, Ordering};
 use std::time::{Clock, Instant};
 
 // More than the greatest number of a refusal.
 const NUMBERS: usize = 100;
 
-/// Counts what a server does, and tells it on standard error, lines of JSON: each login, each login
-/// that was refused and each session that has ended, as it comes; and every so many seconds how many
-/// sessions are open and fetches under way, what was called and refused since the line before, how
-/// many answers went on or began anew, and of these calls the longest time that one had the lock and
-/// that a fetch took, in microseconds. Of tenants it tells their names, and nothing of what they send
-/// or are told.
-pub struct Watch<'a, R> {
+// The most lines a second of callers who haven't logged in.
+const STRANGERS: u64 = 20;
+
+/// Counts what a server does, and tells it by its log, lines of JSON: each login, each login that was
+/// refused and each session that has ended, as it comes; and every so many seconds how many sessions
+/// are open and fetches under way, what was called and refused since the line before, how many answers
+/// went on or began anew, and of these calls the longest time that one had the lock and that a fetch
+/// took, in microseconds. Of tenants it tells their names, and nothing of what they send or are told.
+/// Of callers who haven't logged in it tells so many lines a second, and how many more there were.
+pub(crate) struct Watch<'a, R> {
     rt: &'a R,
     alloc: Global,
     table: &'a TenantTable,
+    log: &'a LogLines,
     begun: Instant,
     // Every so many seconds; at 0 nothing is counted or told.
     every: u64,
@@ -29,6 +35,8 @@ pub struct Watch<'a, R> {
     seconds: AtomicU64,
     // 1 where what is held is to be told
     wants: AtomicU64,
+    // Lines of this second of callers who haven't logged in, those that weren't told too.
+    strangers: AtomicU64,
     sessions: AtomicU64,
     fetches: AtomicU64,
     fetching: AtomicU64,
@@ -50,12 +58,14 @@ impl<'a, R> Drop for Watch<'a, R> {
             rt: _,
             alloc: _,
             table: _,
+            log: _,
             begun: _,
             every: _,
             port: _,
             opened: _,
             seconds: _,
             wants: _,
+            strangers: _,
             sessions: _,
             fetches: _,
             fetching: _,
@@ -77,6 +87,7 @@ fn why(reason: EndReason) -> &'static str {
         EndReason::Refused => ",\"why\":\"refused\"",
         EndReason::Login => ",\"why\":\"login\"",
         EndReason::Idle => ",\"why\":\"idle\"",
+        EndReason::Places => ",\"why\":\"places\"",
         EndReason::Fault => ",\"why\":\"fault\"",
     }
 }
@@ -110,13 +121,14 @@ fn count(count: &AtomicU64) {
     count.fetch_add(1, Ordering::SeqCst);
 }
 
-impl<'a, R: Clock + Eprint> Watch<'a, R> {
+impl<'a, R: Wait + Clock> Watch<'a, R> {
     /// One of a server on this port that tells every so many seconds, or never at 0; none where the
     /// clock can't be read or there is no memory.
-    pub fn new(
+    pub(crate) fn new(
         rt: &'a R,
         alloc: Global,
         table: &'a TenantTable,
+        log: &'a LogLines,
         every: u32,
         port: u16,
     ) -> Option<Watch<'a, R>> {
@@ -133,12 +145,14 @@ impl<'a, R: Clock + Eprint> Watch<'a, R> {
             rt,
             alloc,
             table,
+            log,
             begun,
             every: u64::from(every),
             port,
             opened: AtomicU64::new(0),
             seconds: AtomicU64::new(0),
             wants: AtomicU64::new(0),
+            strangers: AtomicU64::new(0),
             sessions: AtomicU64::new(0),
             fetches: AtomicU64::new(0),
             fetching: AtomicU64::new(0),
@@ -153,16 +167,36 @@ impl<'a, R: Clock + Eprint> Watch<'a, R> {
     }
 
     /// Whether the port was told, on standard output.
-    pub fn has_opened(&self) -> bool {
+    pub(crate) fn has_opened(&self) -> bool {
         self.opened.load(Ordering::SeqCst) == 1
     }
 
     // Tells what happened of a tenant, whose name is null where there is none.
     fn tell(&self, event: &str, tenant: Option<TenantId>, more: &str) {
-        let _ = match self.name_of(tenant) {
-            Some(name) => eprintln!(self.rt; "{{\"{event}\":\"{name}\"{more}}}"),
-            None => eprintln!(self.rt; "{{\"{event}\":null{more}}}"),
+        let members = match self.name_of(tenant) {
+            Some(name) => format!(in self.alloc; "\"{event}\":\"{name}\"{more}"),
+            None => format!(in self.alloc; "\"{event}\":null{more}"),
         };
+        self.log.tell(self.rt, members);
+    }
+
+    // Tells what happened of a caller who hasn't logged in, where not too much was told of such already.
+    fn tell_stranger(&self, event: &str, tenant: Option<TenantId>, more: &str) {
+        if self.strangers.fetch_add(1, Ordering::SeqCst) < STRANGERS {
+            self.tell(event, tenant, more);
+        }
+    }
+
+    // Tells how many lines weren't told of callers who hadn't logged in since that was asked last.
+    fn tell_strangers(&self) {
+        let untold = self
+            .strangers
+            .swap(0, Ordering::SeqCst)
+            .saturating_sub(STRANGERS);
+        if untold > 0 {
+            let members = format!(in self.alloc; "\"strangers\":{untold}");
+            self.log.tell(self.rt, members);
+        }
     }
 
     fn name_of(&self, tenant: Option<TenantId>) -> Option<&str> {
@@ -205,6 +239,7 @@ impl<'a, R: Clock + Eprint> Watch<'a, R> {
 
     // Tells the counts where it is time.
     fn second(&self) {
+        self.tell_strangers();
         let seconds = self.seconds.fetch_add(1, Ordering::SeqCst).wrapping_add(1);
         if seconds < self.every {
             return;
@@ -225,9 +260,10 @@ impl<'a, R: Clock + Eprint> Watch<'a, R> {
         let Ok(numbers) = numbers_of(self.alloc, &self.numbers(calls)) else {
             return;
         };
-        let _ = eprintln!(self.rt;
-            "{{{numbers},\"commands\":{{{commands}}},\"refused\":{{{refused}}}}}"
+        let members = format!(in self.alloc;
+            "{numbers},\"commands\":{{{commands}}},\"refused\":{{{refused}}}"
         );
+        self.log.tell(self.rt, members);
     }
 
     // The line's numbers by their words; but for those of what is under way they begin anew.
@@ -306,7 +342,7 @@ fn held_of(alloc: Global, streams: &[HeldStream]) -> Result<String, AllocError> 
     format!(in alloc; ",\"held\":{{{members}}}")
 }
 
-impl<'a, R: Clock + Print + Eprint + Sync> Gate for Watch<'a, R> {
+impl<'a, R: Wait + Clock + Print + Sync> Gate for Watch<'a, R> {
     // Tells the port, on standard output.
     fn opens(&self) -> bool {
         let is_told = println!(self.rt; "listening on 127.0.0.1:{}", self.port).is_ok();
@@ -325,11 +361,14 @@ impl<'a, R: Clock + Print + Eprint + Sync> Gate for Watch<'a, R> {
             Point::LoggedIn(tenant) => self.tell("login", Some(tenant), ""),
             Point::NotLoggedIn(tenant) => {
                 count_at(self.refusals.as_slice(), 13);
-                self.tell("refused_login", tenant, "");
+                self.tell_stranger("refused_login", tenant, "");
             }
             Point::Closed(tenant, reason) => {
                 self.sessions.fetch_sub(1, Ordering::SeqCst);
-                self.tell("ended", tenant, why(reason));
+                match tenant {
+                    Some(_) => self.tell("ended", tenant, why(reason)),
+                    None => self.tell_stranger("ended", None, why(reason)),
+                }
             }
             Point::Asked(kind) => self.asked(kind),
             Point::Entered => self.entered.store(self.now(), Ordering::SeqCst),
@@ -345,7 +384,7 @@ impl<'a, R: Clock + Print + Eprint + Sync> Gate for Watch<'a, R> {
     }
 
     fn nanos(&self) -> u64 {
-        if self.every == 0 { 0 } else { self.now() }
+        self.now()
     }
 
     fn wants_held(&self) -> bool {

@@ -1,5 +1,5 @@
 use Rattle.std.proofs.Common.{◌≡◌, length}
-use Rattle.cql_sessions.proofs.tables.are_equal_tenants.Given as goal
+use Rattle.cql_server.proofs.tables.are_equal_tenants.Given as goal
 
 -- the lists are equal where what is left of them is
 abbrev pub invariant-loop-x : goal.invariant-loop-x

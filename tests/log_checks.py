@@ -2,8 +2,10 @@
 wrong, or None.
 """
 import collections
+import contextlib
 import json
 
+from answer_checks import FETCH_LONG, MADE, TABLE
 from served import (
     DONE,
     Caller,
@@ -29,6 +31,7 @@ from spoken import (
     QUERY,
     STREAM,
     TENANTS,
+    UNKNOWN_QUERY,
     UNKNOWN_STREAM,
     WRONG_KEY,
     conversation,
@@ -77,12 +80,49 @@ def counts_are_told(program):
             yield "refusals", difference(dict(numbers), {"11": 1, "30": 1, "41": 1})
             yield "nothing else", difference([set(it) for it in counts], [set(nothing)] * len(counts))
             held = {"owner": "a", "held": {"s": 1}}
-            rest = [it for it in lines[1:] if "sessions" not in it]
+            rest = [it for it in lines[1:] if "sessions" not in it and "tenant" not in it]
             yield "rows held", difference(rest, [held] * len(rest))
         last = [it for it in counts_of(server, 2.5) if "sessions" in it][-1]
         yield "nobody there", difference(last, nothing)
     with Server(program, TENANTS) as server, Caller(server, "a") as caller:
         yield "where it isn't asked for", difference((caller.ask(LIST), counts_of(server, 1.5)), (EMPTY, []))
+
+
+def of_tenants(server, seconds):
+    """What a server tells of each tenant in so long, summed up."""
+    told = collections.defaultdict(collections.Counter)
+    for it in counts_of(server, seconds):
+        if "tenant" in it:
+            told[it["tenant"]].update(it["commands"])
+            told[it["tenant"]].update(it["refused"])
+            told[it["tenant"]]["given up"] += it["given_up"]
+    return {name: dict(+sums) for name, sums in told.items()}
+
+
+def tenants_are_told(program):
+    """Of each tenant what it called and was refused, and how many of its fetches were given up; nothing of who
+    calls nothing."""
+    with Server(program, tenants("abc", hold=3), log=1) as server, contextlib.ExitStack() as open_ones:
+        a, b = (open_ones.enter_context(Caller(server, name)) for name in "ab")
+        a.serve([STREAM, QUERY, line_of(do="grant", stream="s", to="b"), put(0, 1), beat(8)])
+        b.serve([line_of(do="query", name="p", text="Select * From a.s [Now]")])
+        yield "lines that are refused", conversation(b, (FETCH, UNKNOWN_QUERY), (b"{}\n", BAD_COMMAND))
+        wanted = {
+            "a": {"stream": 1, "query": 1, "grant": 1, "put": 1, "beat": 1},
+            "b": {"query": 1, "fetch": 1, "57": 1, "11": 1},
+        }
+        yield "what is told of two tenants", difference(of_tenants(server, 1.5), wanted)
+        a.serve([line_of(do="ack", name="q", to=4), *(put(20 + at, at) for at in range(5))])
+        yield "what is told of one", difference(of_tenants(server, 1.5), {"a": {"ack": 1, "put": 5}})
+        a.ask(FETCH)
+        yield "a query that is overrun", difference(of_tenants(server, 1.5), {"a": {"fetch": 1, "60": 1}})
+        yield "what is told of who calls nothing", difference(of_tenants(server, 1.5), {})
+    with Server(program, TABLE, log=1, answer=1) as server, Caller(server, "a") as caller:
+        caller.serve(MADE)
+        of_tenants(server, 1.5)
+        caller.send(FETCH_LONG)
+        found = of_tenants(server, 4).get("a")
+        yield "an answer that is given up", difference(found, {"fetch": 1, "70": 1, "given up": 1})
 
 
 def kept_answers_are_counted(program):
@@ -130,7 +170,7 @@ def kept_answers_are_counted(program):
 def events_of(server, seconds):
     """What a server tells in so long but for its counts."""
     lines = counts_of(server, seconds)
-    return [it for it in lines if "sessions" not in it and "held" not in it]
+    return [it for it in lines if not {"sessions", "held", "tenant"} & set(it)]
 
 
 def logins_are_told(program):
@@ -188,6 +228,7 @@ def logins_are_told(program):
 
 CHECKS = (
     counts_are_told,
+    tenants_are_told,
     kept_answers_are_counted,
     logins_are_told,
 )

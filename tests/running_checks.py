@@ -172,15 +172,17 @@ def keys_stay_here(_):
 SERVICE = EXAMPLES / "service"
 LOG = b"""\
 {"login":"a"}
-{"login":"a","time":1764380000}
+{"at":"2026-11-29T12:00:00.000Z","login":"a"}
 {"refused_login":null}
 {"ended":"a","why":"caller"}
 {"sessions":2,"calls":10,"fetches":3,"fetching":1,"warm":2,"cold":1,"lock_us":93,"answer_us":20,"commands":{"put":7},"refused":{"41":2}}
 {"owner":"a","held":{"s":12,"u":3}}
+{"tenant":"a","commands":{"put":7},"refused":{"41":2},"given_up":0}
+{"tenant":"b","commands":{"fetch":3},"refused":{"70":1},"given_up":1}
 no line of it
 {"sessions":1,"calls":5,"fetches":0,"fetching":0,"warm":0,"cold":0,"lock_us":3,"answer_us":0,"commands":{"put":4},"refused":{}}
 {"owner":"a","held":{"s":9}}
-{"tenant":"b","commands":{"put":4},"lag":7}
+{"tenant":"b","commands":{"put":4},"refused":{},"given_up":1}
 """
 EXPORTED = """\
 cqld_calls_total 15
@@ -191,8 +193,11 @@ cqld_logins_total{tenant="a"} 2
 cqld_refusals_total{number="41"} 2
 cqld_sessions 1
 cqld_sessions_ended_total{tenant="a",why="caller"} 1
-cqld_tenant_commands{tenant="b",of="put"} 4
-cqld_tenant_lag{tenant="b"} 7
+cqld_tenant_answers_given_up_total{tenant="b"} 2
+cqld_tenant_commands_total{tenant="a",command="put"} 7
+cqld_tenant_commands_total{tenant="b",command="fetch"} 3
+cqld_tenant_commands_total{tenant="b",command="put"} 4
+cqld_tenant_refusals_total{tenant="a",number="41"} 2
 """
 
 

@@ -10,17 +10,22 @@ TEST_TIME := half an hour to an hour and a half on four cores, by how fast they 
 # where `make install` puts what it installs; what packs it sets DESTDIR
 PREFIX := /usr/local
 DESTDIR :=
-# the server that `make serve` runs, built and not proved
+UNITS := /etc/systemd/system
+# the folder in which `make package` lays out and leaves a package
+PACKAGES := out
+# the server that `make serve` runs, built and not proved, and its port
 UNPROVED := out/cqld-unproved
+PORT := 7000
 
-.PHONY: help run build serve install test look drive bench check clauses lemmas goals steps edits answers
+.PHONY: help run build serve install package test look drive bench check clauses lemmas goals steps edits answers
 
 # tells what the targets do
 help:
 	@echo 'make run     the replies to $(FIRST), from a run that is checked and not proved ($(RUN_TIME))'
 	@echo 'make build   proves and builds $(RUNNER) and $(SERVER) ($(BUILD_TIME))'
-	@echo 'make serve   a server to try, on port 7000 with the tenants of $(FIRST): built and NOT proved, in some minutes the first time'
+	@echo 'make serve   a server to try, on port $(PORT) with the tenants of $(FIRST): built and NOT proved, in some minutes the first time'
 	@echo 'make install puts the built server, the terminal, a service file, pages of the manual and completion below PREFIX=$(PREFIX)'
+	@echo 'make package the same as a package of Debian, in $(PACKAGES)'
 	@echo 'make test    the gate, and then the built programs as users run them ($(TEST_TIME)); with CRATES="a b" the proofs, edits, tests and programs of these crates and of those below them'
 	@echo 'make look    the part of the gate that needs nothing built: pages, laws and worked replies (ten seconds)'
 	@echo 'make drive   the part of the gate that drives the built programs'
@@ -46,7 +51,7 @@ build:
 serve: $(UNPROVED)
 	@echo 'This server is built and NOT proved: for trying alone. Ctrl-C ends it, and what it has is gone.'
 	@echo 'The tenants are a and b, with the keys ka and kb; docs/TUTORIAL.md says how to go on.'
-	@head -n 1 $(FIRST) | $(UNPROVED) --port 7000
+	@head -n 1 $(FIRST) | $(UNPROVED) --port $(PORT)
 
 $(UNPROVED): $(wildcard crates/*/src/*.rt) tools/native
 	@mkdir -p $(@D)
@@ -62,13 +67,27 @@ install:
 	install -m 644 clients/python/romburik/static/* $(DESTDIR)$(PREFIX)/lib/romburik/romburik/static
 	install -m 755 examples/service/romburik $(DESTDIR)$(PREFIX)/bin/romburik
 	install -D -m 644 examples/service/cqld.sysusers $(DESTDIR)/usr/lib/sysusers.d/cqld.conf
-	mkdir -p $(DESTDIR)/etc/systemd/system $(DESTDIR)$(PREFIX)/share/man/man1
-	sed 's|/usr/local|$(PREFIX)|' examples/service/cqld.service > $(DESTDIR)/etc/systemd/system/cqld.service
+	mkdir -p $(DESTDIR)$(UNITS) $(DESTDIR)$(PREFIX)/share/man/man1
+	sed 's|/usr/local|$(PREFIX)|' examples/service/cqld.service > $(DESTDIR)$(UNITS)/cqld.service
 	$(SERVER) --help | examples/service/manual.py cqld 1 'serves continuous queries' > $(DESTDIR)$(PREFIX)/share/man/man1/cqld.1
 	PYTHONPATH=clients/python COLUMNS=80 python3 -B -m romburik --help | examples/service/manual.py romburik 1 'a terminal for cqld' > $(DESTDIR)$(PREFIX)/share/man/man1/romburik.1
 	install -D -m 644 examples/service/completion.bash $(DESTDIR)$(PREFIX)/share/bash-completion/completions/cqld
 	ln -sf cqld $(DESTDIR)$(PREFIX)/share/bash-completion/completions/romburik
 	@echo 'Installed. The next steps are in docs/OPERATING.md, "As a service".'
+
+# a package of Debian of what `make install` puts, by dpkg-deb alone
+package: LAID := $(PACKAGES)/romburik
+package:
+	@command -v dpkg-deb > /dev/null || { echo 'A package wants dpkg-deb, of the package dpkg.'; exit 1; }
+	rm -rf $(LAID)
+	@$(MAKE) --no-print-directory install DESTDIR=$(LAID) PREFIX=/usr UNITS=/usr/lib/systemd/system > /dev/null
+	gzip -9n $(LAID)/usr/share/man/man1/*.1
+	install -D -m 644 examples/service/debian/README.Debian $(LAID)/usr/share/doc/romburik/README.Debian
+	install -m 755 -d $(LAID)/DEBIAN
+	install -m 755 examples/service/debian/postinst examples/service/debian/prerm $(LAID)/DEBIAN
+	sed -e "s|@VERSION@|$$($(SERVER) --version | cut -d ' ' -f 2)|" -e "s|@ARCHITECTURE@|$$(dpkg --print-architecture)|" \
+		-e "s|@SIZE@|$$(du -sk $(LAID)/usr | cut -f 1)|" examples/service/debian/control > $(LAID)/DEBIAN/control
+	dpkg-deb --root-owner-group --build $(LAID) $(PACKAGES)
 
 # every proof from nothing, the edits that must be refused, the tests, the built programs, and the pages; or
 # the first three of some crates

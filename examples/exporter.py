@@ -6,8 +6,8 @@ usage: cqld --port 7000 --log 15 < tenants.json 2> >(examples/exporter.py --list
 
 It reads the log's lines from its standard input and serves the numbers at http://127.0.0.1:9700/metrics.
 Counts of a line are since the line before, so they are added up; what there is at a line, such as
-sessions, is shown as it is, and so is what a line tells of a tenant. A line that is no JSON object is
-counted, and passed over otherwise.
+sessions and the rows that are held, is shown as it is. A line that is no JSON object is counted, and
+passed over otherwise.
 
 With --once it reads to the end of its input and prints the numbers. The status is 2 for its words or its
 port.
@@ -28,7 +28,11 @@ _COUNTS = {
     "fetches": ("fetches_total", "Answers that were computed."),
     "warm": ("answers_gone_on_total", "Answers that went on from one before."),
     "cold": ("answers_anew_total", "Answers that began anew."),
-    "given_up": ("answers_given_up_total", "Answers that took too long."),
+}
+# What a line of a tenant tells since the line before, under a label.
+_OF_TENANT = {
+    "commands": ("tenant_commands_total", "Commands of a tenant.", "command"),
+    "refused": ("tenant_refusals_total", "Commands of a tenant that were refused.", "number"),
 }
 # What it tells of now.
 _NOW = {
@@ -65,8 +69,12 @@ class Numbers:
     def _take(self, told: Mapping[str, Any]) -> None:
         if "sessions" in told and "calls" in told:
             self._counts(told)
-        elif "owner" in told or "tenant" in told:
-            self._of_tenant(str(told.get("owner", told.get("tenant"))), told)
+        elif "owner" in told:
+            for stream, rows in told.get("held", {}).items():
+                labels = {"tenant": told["owner"], "stream": stream}
+                self._set("held_rows", "Rows that are held.", rows, **labels)
+        elif "tenant" in told:
+            self._of_tenant(str(told["tenant"]), told)
         elif "login" in told:
             self._add("logins_total", "Logins.", 1, tenant=told["login"])
         elif "refused_login" in told:
@@ -93,20 +101,12 @@ class Numbers:
         self._values.pop("held_rows", None)
 
     def _of_tenant(self, tenant: str, told: Mapping[str, Any]) -> None:
-        """What a line tells of one tenant: numbers, and numbers by names."""
-        for key, value in told.items():
-            text = f"Of a tenant: {key}, as the log tells it."
-            if key == "held":
-                for stream, rows in value.items():
-                    self._set(
-                        "held_rows", "Rows that are held.", rows, tenant=tenant, stream=stream
-                    )
-            elif isinstance(value, dict):
-                for of, number in value.items():
-                    if isinstance(number, (int, float)):
-                        self._set(f"tenant_{key}", text, number, tenant=tenant, of=of)
-            elif isinstance(value, (int, float)) and key != "time":
-                self._set(f"tenant_{key}", text, value, tenant=tenant)
+        """What a line tells of one tenant."""
+        for key, (name, text, label) in _OF_TENANT.items():
+            for of, count in told.get(key, {}).items():
+                self._add(name, text, count, **{"tenant": tenant, label: of})
+        name, text = "tenant_answers_given_up_total", "Answers of a tenant that were given up."
+        self._add(name, text, told.get("given_up", 0), tenant=tenant)
 
     def _add(self, name: str, text: str, count: float, **labels: str) -> None:
         values = self._of(name, "counter", text)

@@ -14,7 +14,7 @@ import sys
 import threading
 import time
 
-from served import DONE, SECONDS, Ended, Stalled, difference, line_of, tenants
+from served import DONE, SECONDS, Ended, Stalled, difference, line_of, refused, tenants
 
 TOP = pathlib.Path(__file__).resolve().parent.parent
 MODULE = TOP / "clients/python"
@@ -29,6 +29,10 @@ QUERY = line_of(do="query", name="q", text="Select Istream(*) From s [Range 2]")
 FETCH = line_of(do="fetch", name="q")
 LIST = line_of(do="list")
 EMPTY = line_of(queries=[], readable=[], streams=[])
+BASE = line_of(base=0)
+LATE = refused(41, "Late")
+OWN_QUERY = {"base": 0, "name": "q", "next": 0, "text": "ISTREAM(SELECT * FROM s [RANGE 2])"}
+LIST_OF_ONE = line_of(queries=[OWN_QUERY], readable=[], streams=[{"name": "s", "open": 9}])
 GREATEST = 2**63 - 1
 
 

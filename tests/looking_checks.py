@@ -6,6 +6,7 @@ import json
 import pathlib
 import signal
 import tempfile
+import time
 import urllib.parse
 import urllib.request
 
@@ -412,6 +413,7 @@ def copies_see_all(program):
             # the page goes over to a copy as soon as somebody acknowledges
             while events.next("look")["since"] is None:
                 it.beat("s", it.list().streams[0].open)
+                it.ack("q", it.fetch("q").next)
             first = it.list().streams[0].open
             eager_consumer(it, range(first, first + 20))
             seen = set()
@@ -486,6 +488,26 @@ def copies_without_one_to_spare(program):
         yield "a watch of its own without one", difference(ended, wanted)
 
 
+# What a look at much may take, in seconds, at its first sight by the module, at a terminal and on the page.
+MOST_OF_A_LOOK = 2
+
+
+def least_of(times, look):
+    """The least time of so many looks."""
+    found = []
+    for _ in range(times):
+        start = time.monotonic()
+        look()
+        found.append(time.monotonic() - start)
+    return min(found)
+
+
+def first_on_page(address):
+    """Waits until the page has told the first look at a query."""
+    with Events(address, "q") as events:
+        events.next("look")
+
+
 def looks_are_bounded(program):
     """Of 10,000 keys and 1,000 instants a look takes a few instants, and goes on at the next one;
     by a copy that is made now all that comes is seen."""
@@ -520,6 +542,14 @@ def looks_are_bounded(program):
         yield "a look by a copy", difference(found, wanted)
         own.close()
         yield "a copy that is closed", difference(names_of_queries(it), ["q"])
+        with page(server.port, "ka") as address:
+            for name, seen in (
+                ("by the module", lambda: romburik.Looker(it, "q").look()),
+                ("at a terminal", lambda: frame_of(server.port, "q")),
+                ("on the page", lambda: first_on_page(address)),
+            ):
+                taken = least_of(3, seen)
+                yield f"the time of a look at much {name}", None if taken <= MOST_OF_A_LOOK else f"{taken:.1f} s"
 
 
 def revoked_queries_stay_so(program):

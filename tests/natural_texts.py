@@ -68,7 +68,7 @@ TEXTS = [
     Text("Select room @place From reading", "AS is missing before an item's own name"),
     Text("Select *@, degrees From reading", "* stands alone"),
     Text("Select r.@* From reading r", "name the columns"),
-    Text("Select Top @5 * From reading", "LIMIT isn't served"),
+    Text("Select Top @5 * From reading", "TOP isn't served"),
     Text("Select * @Form reading", "FORM is no word of the language: was FROM meant?"),
     Text("Select * From reading Where degrees @+ 1 > 20", COMPUTED),
     Text("Select * From reading Where degrees > 20@.5", "there are no fractions"),

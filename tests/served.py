@@ -104,10 +104,10 @@ class Server:
             )
         try:
             line = self.first_line()
-            said, _, port = line.partition(b":")
-            if said != b"listening on 127.0.0.1":
+            listens = re.fullmatch(rb"listening on ([0-9.]+):(\d+)\n", line)
+            if listens is None:
                 raise OSError(f"it says {line!r}")
-            self.port = int(port)
+            self.address, self.port = listens[1].decode(), int(listens[2])
         except BaseException:
             self.__exit__()
             raise

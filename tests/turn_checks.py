@@ -34,6 +34,7 @@ from spoken import (
     standing,
     told_of_all,
 )
+from wanted import are_wanting
 
 # Callers who send so many lines each, some at once behind a reply and some later, up to so many seconds. Where no
 # reply comes for so long, none will.
@@ -111,6 +112,8 @@ class Speakers:
 
 def nobody_is_forgotten(program):
     """Each line is answered, also one that comes while a worker puts its caller away."""
+    if are_wanting("lines at once and a moment later", "gcc"):
+        return
     with under_failing(RECV_TAKES=GAP) as under, Server(program, TENANTS, under, workers=4) as server:
         with contextlib.ExitStack() as open_ones:
             callers = sessions_of(open_ones, server, SPEAKERS, "a")
@@ -157,6 +160,8 @@ def places_are_given_at_once(program):
 
 def places_of_none(program):
     """A connection for which the system has no room ends, and its place is another one's."""
+    if are_wanting("callers of whom a fifth has no room", "gcc"):
+        return
     with under_failing(ADD_FAILS_AT=5) as under:
         with Server(program, TENANTS, under, callers=3, workers=1) as server:
             told = collections.Counter(first_of(server) for _ in range(40))
@@ -268,6 +273,8 @@ def replies_that_nobody_takes(program):
 
 def replies_keep_their_order(program):
     """Behind what can't be written nothing else is, though it could."""
+    if are_wanting("replies of which some are held back", "gcc"):
+        return
     name = "a_query_of_a_long_name_{0:02}"
     with under_failing(SEND_FAILS_AT=2) as under:
         with Server(program, tenants("a", queries=64), under, workers=1) as server:

@@ -1,7 +1,7 @@
 """What can go wrong."""
 from typing import Any, ClassVar, Dict, Mapping, Optional, Type
 
-from .reasons import reason
+from .reasons import place, reason
 
 
 class Error(Exception):
@@ -150,7 +150,8 @@ class BadQuery(Refused):
         return None if self.text is None else reason(self.text, self.at)
 
     def __str__(self) -> str:
-        why = f"the text is no query from byte {self.at} on"
+        where = f"byte {self.at}" if self.text is None else place(self.text, self.at)
+        why = f"the text is no query from {where} on"
         return f"{self.number} {self.name}: {why}" + (f": {self.reason}" if self.reason else "")
 
 

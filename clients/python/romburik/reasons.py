@@ -73,7 +73,8 @@ _RULES = [
         (r"FROM [^@]*\b(?:ON|USING) @|FROM [^@]*@ (?:ON|USING)\b", "ON isn't read: what joins two streams stands behind WHERE"),
         (r"\bORDER @|@ ORDER\b", "ORDER BY isn't served: rows come ascending, so name the column to sort by first"),
         (r"\bHAVING @|@ HAVING\b", "HAVING isn't served: a second query reads what the first tells"),
-        (r"\b(?:LIMIT|TOP|OFFSET|FETCH|SAMPLE) @|@ (?:LIMIT|OFFSET|FETCH|SAMPLE)\b", "LIMIT isn't served: the greatest alone by MAX, else the reader takes them; [Rows N] holds the newest N"),
+        (r"\b(LIMIT|TOP|OFFSET|FETCH|SAMPLE) @", "{0} isn't served: the greatest alone by MAX, else the reader takes them; [Rows N] holds the newest N"),
+        (r"@ (LIMIT|OFFSET|FETCH|SAMPLE)\b", "{0} isn't served: the greatest alone by MAX, else the reader takes them; [Rows N] holds the newest N"),
         (r"\bINTERSECT @|@ INTERSECT\b", "INTERSECT isn't served: a join with DISTINCT, on all columns"),
         (r"\bMINUS @|@ MINUS\b", "MINUS isn't served: EXCEPT ALL"),
         (r"(UNION|EXCEPT) @", "{0} is served with ALL alone"),
@@ -192,6 +193,24 @@ def reason(text: str, at: int) -> Optional[str]:
         if found:
             return words.format(*found.groups())
     return said or _misspelled(before, rest) or _general(before, rest)
+
+
+def _names(said: str, token: str) -> bool:
+    """Whether a reason names a token."""
+    return bool(re.search(rf"(?<!\w){re.escape(token)}(?!\w)", said, re.IGNORECASE))
+
+
+def place(text: str, at: int) -> str:
+    """Where a text is no query: the byte, with what stands there, or at the end before it, where the
+    reason doesn't name it."""
+    first, second = _cut(text, at)
+    before, rest = _TOKEN.findall(first), _TOKEN.findall(second)
+    # of a text that isn't closed its first word
+    here = second.split()[0] if rest[:1] == ["'"] else (rest or before or [""])[0 if rest else -1]
+    said = reason(text, at) or ""
+    if not here or any(_names(said, token) for token in (*before[-1:], here)):
+        return f"byte {at}"
+    return f"byte {at}, {'' if rest else 'behind '}{here[:LONGEST_NAME]},"
 
 
 def marked(text: str, at: int) -> Tuple[str, str]:

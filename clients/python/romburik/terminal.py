@@ -10,7 +10,7 @@ from .columns import names_of
 from .errors import BadQuery, ConnectionLost, Error, Refused
 from .lines import Command, checked, is_blank, line_of
 from .mistakes import mistake
-from .reasons import marked
+from .reasons import marked, place
 from .session import Session
 from .tables import (
     Table,
@@ -191,7 +191,8 @@ def _why(refusal: Refused, sent: bytes, known: Known) -> Iterator[str]:
     refusal.text = str(keys.get("text", ""))
     yield from _mark(refusal.text, refusal.at)
     reason = refusal.reason or "docs/LANGUAGE.md has the grammar"
-    yield f"{refusal.number}: no query from byte {refusal.at} on: {printable(reason)}"
+    where = place(refusal.text, refusal.at)
+    yield f"{refusal.number}: no query from {printable(where)} on: {printable(reason)}"
 
 
 class Terminal:

@@ -23,7 +23,7 @@ use std::time::Clock;
 use std::{io, thread};
 
 /// The program `cqld`: reads its words, and the tenants line on standard input; and tells that this is
-/// right, or serves callers on 127.0.0.1 as the words say. What is wrong is told on standard error.
+/// right, or serves callers as the words say, at 127.0.0.1 or where they say. What is wrong is told on standard error.
 ///
 /// Gives the status: 0 where all is well or the words ask for help, 2 where the words are wrong, else
 /// that of the failure.
@@ -121,11 +121,24 @@ where
     }
 }
 
-// Tells the log the port that can't be listened at, and why.
-fn tell_unbound<R: Clock + Eprint>(rt: &R, config: &Config, error: &io::Error) {
+// It can't be listened as the words say; the log is told so too.
+fn unbound<R: Clock + Eprint>(rt: &R, config: &Config, error: &io::Error) -> Failure {
+    let (ip, port, why) = (config.listen, config.port, error.kind());
     if config.log > 0 {
-        let (stamp, port, why) = (Stamp::now(rt), config.port, error.kind());
-        let _ = eprintln!(rt; "{{{stamp},\"cannot_listen\":{port},\"why\":\"{why}\"}}");
+        let stamp = Stamp::now(rt);
+        let _ = eprintln!(rt;
+            "{{{stamp},\"cannot_listen\":{port},\"address\":\"{ip}\",\"why\":\"{why}\"}}"
+        );
+    }
+    Failure::Listening { ip, port, why }
+}
+
+// Warns where others than programs of this machine may come in: nothing is encrypted.
+fn warn_of_keys(rt: &impl Eprint, listen: Ipv4Addr) {
+    if listen != Ipv4Addr::LOCALHOST {
+        let _ = eprintln!(rt;
+            "cqld: it listens at {listen}: keys and rows go in the clear, unless a proxy that encrypts stands before it"
+        );
     }
 }
 
@@ -156,21 +169,22 @@ where
         answer: u64::from(config.room) << 20,
     };
     let benches = Benches { own, shared, rooms };
-    let listener = match TcpListener::bind(rt, (Ipv4Addr::LOCALHOST, config.port)) {
+    warn_of_keys(rt, config.listen);
+    let listener = match TcpListener::bind(rt, (config.listen, config.port)) {
         Ok(listener) => listener,
-        Err(error) => {
-            tell_unbound(rt, &config, &error);
-            return Err(Failure::Listening);
-        }
+        Err(error) => return Err(unbound(rt, &config, &error)),
     };
-    let Ok(hub) = Hub::new(rt, alloc, &listener) else {
-        return Err(Failure::Listening);
+    let hub = match Hub::new(rt, alloc, &listener) {
+        Ok(hub) => hub,
+        Err(error) => return Err(unbound(rt, &config, &error)),
     };
-    let Ok(addr) = listener.local_addr() else {
-        return Err(Failure::Listening);
+    let addr = match listener.local_addr() {
+        Ok(addr) => addr,
+        Err(error) => return Err(unbound(rt, &config, &error)),
     };
     let log = LogLines::new(alloc);
-    let Some(watch) = Watch::new(rt, alloc, table, &log, config.log, addr.port()) else {
+    let (listen, port) = (config.listen, addr.port());
+    let Some(watch) = Watch::new(rt, alloc, table, &log, config.log, listen, port) else {
         return Err(Failure::NoMemory);
     };
     let callers = callers_with_files(rt, config.callers.max(1));

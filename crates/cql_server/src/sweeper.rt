@@ -3,7 +3,7 @@ ghost use Rattle.std.specs.Prelude.{◌≡◌, IfErr};
 ghost use Rattle.cql_server.specs.declared.failure.Failure.TheVariants as failure;
 
 use crate::failure::Failure;
-use crate::held::tell_held;
+use crate::standing::tell_standing;
 use cql_core::Operator;
 use cql_hall::{Gate, Point};
 use cql_sessions::{Callable, Service, SharedPool};
@@ -47,7 +47,7 @@ fn settle_some<R: Wait + Clock, C: Callable<R, G>, G: Gate>(
     }
 }
 
-// Tells the gate each second, with which rows are held where it wants that, gives up answers that
+// Tells the gate each second, with how tenants stand where it wants that, gives up answers that
 // take too long, and lets go of what nobody used or will use, of benches and of the hall, until the
 // sender is let go.
 fn sweep_on<R: Wait + Clock, C: Callable<R, G>, G: Gate, O: Operator>(
@@ -60,8 +60,8 @@ fn sweep_on<R: Wait + Clock, C: Callable<R, G>, G: Gate, O: Operator>(
             return;
         }
         service.gate.at(Point::Second);
-        if service.gate.wants_held() {
-            tell_held(service);
+        if service.gate.wants_standing() {
+            tell_standing(service);
         }
         pool.sweep(service.rt);
         settle_some(service, stopped);

@@ -5,6 +5,7 @@ use cql_core::{HeldStream, TenantId, TenantTable};
 use cql_hall::{EndReason, Gate, Kind, Point};
 use std::alloc::{AllocError, Global};
 use std::fmt;
+use std::net::Ipv4Addr;
 use std::sync::Wait;
 use std::sync::atomic::{AtomicU64, Ordering};
 use std::time::{Clock, Instant};
@@ -19,7 +20,9 @@ const STRANGERS: u64 = 20;
 /// refused and each session that has ended, as it comes; and every so many seconds how many sessions
 /// are open and fetches under way, what was called and refused since the line before, how many answers
 /// went on or began anew, and of these calls the longest time that one had the lock and that a fetch
-/// took, in microseconds. Of tenants it tells their names, and nothing of what they send or are told.
+/// took, in microseconds. Behind that it tells of each tenant of which of his streams rows are held;
+/// and, where he called or was refused something since then, what that was, and how many of his
+/// fetches were given up. Of tenants it tells these names, and nothing of what they send or are told.
 /// Of callers who haven't logged in it tells so many lines a second, and how many more there were.
 pub(crate) struct Watch<'a, R> {
     rt: &'a R,
@@ -29,11 +32,12 @@ pub(crate) struct Watch<'a, R> {
     begun: Instant,
     // Every so many seconds; at 0 nothing is counted or told.
     every: u64,
-    // The port that is listened on, and 1 once that is told.
+    // The bits of the address and the port that are listened at, and 1 once that is told.
+    ip: u32,
     port: u16,
     opened: AtomicU64,
     seconds: AtomicU64,
-    // 1 where what is held is to be told
+    // 1 where it is to be told how tenants stand
     wants: AtomicU64,
     // Lines of this second of callers who haven't logged in, those that weren't told too.
     strangers: AtomicU64,
@@ -47,9 +51,11 @@ pub(crate) struct Watch<'a, R> {
     entered: AtomicU64,
     longest_lock: AtomicU64,
     longest_fetch: AtomicU64,
-    // By the indices of kinds, and by numbers.
+    // By the indices of kinds, by numbers, and how many fetches were given up: of each tenant, and behind
+    // these of all.
     kinds: Vec<AtomicU64>,
     refusals: Vec<AtomicU64>,
+    given_up: Vec<AtomicU64>,
 }
 
 impl<'a, R> Drop for Watch<'a, R> {
@@ -61,6 +67,7 @@ impl<'a, R> Drop for Watch<'a, R> {
             log: _,
             begun: _,
             every: _,
+            ip: _,
             port: _,
             opened: _,
             seconds: _,
@@ -76,6 +83,7 @@ impl<'a, R> Drop for Watch<'a, R> {
             longest_fetch: _,
             kinds: _,
             refusals: _,
+            given_up: _,
         } = self;
     }
 }
@@ -92,8 +100,13 @@ fn why(reason: EndReason) -> &'static str {
     }
 }
 
-// So many counts of nothing.
-fn no_counts(alloc: Global, many: usize) -> Result<Vec<AtomicU64>, AllocError> {
+// So many counts of nothing for each tenant and for all.
+fn no_counts(
+    alloc: Global,
+    table: &TenantTable,
+    each: usize,
+) -> Result<Vec<AtomicU64>, AllocError> {
+    let many = table.tenants().len().saturating_add(1).saturating_mul(each);
     let mut counts = Vec::with_capacity(alloc, many)?;
     for _ in 0..many {
         counts.push(AtomicU64::new(0))?;
@@ -122,23 +135,27 @@ fn count(count: &AtomicU64) {
 }
 
 impl<'a, R: Wait + Clock> Watch<'a, R> {
-    /// One of a server on this port that tells every so many seconds, or never at 0; none where the
-    /// clock can't be read or there is no memory.
+    /// One of a server at this address and port that tells every so many seconds, or never at 0; none
+    /// where the clock can't be read or there is no memory.
     pub(crate) fn new(
         rt: &'a R,
         alloc: Global,
         table: &'a TenantTable,
         log: &'a LogLines,
         every: u32,
+        ip: Ipv4Addr,
         port: u16,
     ) -> Option<Watch<'a, R>> {
         let Ok(begun) = Instant::now(rt) else {
             return None;
         };
-        let Ok(kinds) = no_counts(alloc, Kind::ALL.len()) else {
+        let Ok(kinds) = no_counts(alloc, table, Kind::ALL.len()) else {
             return None;
         };
-        let Ok(refusals) = no_counts(alloc, NUMBERS) else {
+        let Ok(refusals) = no_counts(alloc, table, NUMBERS) else {
+            return None;
+        };
+        let Ok(given_up) = no_counts(alloc, table, 1) else {
             return None;
         };
         Some(Watch {
@@ -148,6 +165,7 @@ impl<'a, R: Wait + Clock> Watch<'a, R> {
             log,
             begun,
             every: u64::from(every),
+            ip: ip.to_bits(),
             port,
             opened: AtomicU64::new(0),
             seconds: AtomicU64::new(0),
@@ -163,6 +181,7 @@ impl<'a, R: Wait + Clock> Watch<'a, R> {
             longest_fetch: AtomicU64::new(0),
             kinds,
             refusals,
+            given_up,
         })
     }
 
@@ -222,12 +241,43 @@ impl<'a, R: Wait + Clock> Watch<'a, R> {
         }
     }
 
-    // A call of the kind begins.
-    fn asked(&self, kind: Kind) {
-        count_at(self.kinds.as_slice(), kind.index());
+    // The place behind the tenants', where counts are of all.
+    fn all(&self) -> usize {
+        self.table.tenants().len()
+    }
+
+    // A call of a tenant begins.
+    fn asked(&self, tenant: TenantId, kind: Kind) {
+        self.count_call(self.all(), kind);
+        self.count_call(tenant.index(), kind);
         if kind == Kind::Fetch {
             count(&self.fetching);
         }
+    }
+
+    // A line of a tenant is told a number.
+    fn refused(&self, tenant: TenantId, number: u64) {
+        self.count_refusal(self.all(), number as usize);
+        self.count_refusal(tenant.index(), number as usize);
+    }
+
+    // One more call of who has this place.
+    fn count_call(&self, place: usize, kind: Kind) {
+        let first = place.saturating_mul(Kind::ALL.len());
+        count_at(self.kinds.as_slice(), first.saturating_add(kind.index()));
+    }
+
+    // One more refusal by a number of who has this place.
+    fn count_refusal(&self, place: usize, number: usize) {
+        if number < NUMBERS {
+            let first = place.saturating_mul(NUMBERS);
+            count_at(self.refusals.as_slice(), first.saturating_add(number));
+        }
+    }
+
+    // A fetch of a tenant was given up.
+    fn gave_up(&self, tenant: TenantId) {
+        count_at(self.given_up.as_slice(), tenant.index());
     }
 
     // The reply of a fetch is made that began then.
@@ -251,10 +301,10 @@ impl<'a, R: Wait + Clock> Watch<'a, R> {
 
     // Tells the counts, which begin anew.
     fn tell_counts(&self) {
-        let Ok((calls, commands)) = commands_of(self.alloc, self.kinds.as_slice()) else {
+        let Ok((calls, commands)) = self.commands(self.all()) else {
             return;
         };
-        let Ok(refused) = refusals_of(self.alloc, self.refusals.as_slice()) else {
+        let Ok(refused) = self.refusals(self.all()) else {
             return;
         };
         let Ok(numbers) = numbers_of(self.alloc, &self.numbers(calls)) else {
@@ -264,6 +314,64 @@ impl<'a, R: Wait + Clock> Watch<'a, R> {
             "{numbers},\"commands\":{{{commands}}},\"refused\":{{{refused}}}"
         );
         self.log.tell(self.rt, members);
+    }
+
+    // Tells what a tenant called since that was told last, where there is something to tell.
+    fn tell_tenant(&self, tenant: TenantId) {
+        let Ok((calls, commands)) = self.commands(tenant.index()) else {
+            return;
+        };
+        let Ok(refused) = self.refusals(tenant.index()) else {
+            return;
+        };
+        let given_up = taken_at(self.given_up.as_slice(), tenant.index());
+        if calls == 0 && refused.is_empty() {
+            return;
+        }
+        if let Ok(more) = format!(in self.alloc;
+            ",\"commands\":{{{commands}}},\"refused\":{{{refused}}},\"given_up\":{given_up}"
+        ) {
+            self.tell("tenant", Some(tenant), more.as_str());
+        }
+    }
+
+    // Tells of which streams of a tenant rows are held, where of some.
+    fn tell_held(&self, owner: TenantId, streams: &[HeldStream]) {
+        if !streams.is_empty()
+            && let Ok(rows) = held_of(self.alloc, streams)
+        {
+            self.tell("owner", Some(owner), rows.as_str());
+        }
+    }
+
+    // How many calls there are of who has this place, and their counts by their kinds, without those of
+    // which there are none. The counts begin anew.
+    fn commands(&self, place: usize) -> Result<(u64, String), AllocError> {
+        let first = place.saturating_mul(Kind::ALL.len());
+        let mut calls: u64 = 0;
+        let mut members = String::new(self.alloc);
+        for kind in Kind::ALL.iter() {
+            let count = taken_at(self.kinds.as_slice(), first.saturating_add(kind.index()));
+            if count > 0 {
+                calls = calls.saturating_add(count);
+                push_member(&mut members, kind.word(), count)?;
+            }
+        }
+        Ok((calls, members))
+    }
+
+    // The counts of refusals by their numbers of who has this place, without those of which there are
+    // none, which begin anew.
+    fn refusals(&self, place: usize) -> Result<String, AllocError> {
+        let first = place.saturating_mul(NUMBERS);
+        let mut members = String::new(self.alloc);
+        for number in 0..NUMBERS {
+            let count = taken_at(self.refusals.as_slice(), first.saturating_add(number));
+            if count > 0 {
+                push_member(&mut members, number, count)?;
+            }
+        }
+        Ok(members)
     }
 
     // The line's numbers by their words; but for those of what is under way they begin anew.
@@ -306,33 +414,6 @@ fn push_member<K: fmt::Display + Drop>(
     write!(members, "{comma}\"{key}\":{count}")
 }
 
-// How many calls there are, and their counts by their kinds, without those of which there are none.
-// The counts begin anew.
-fn commands_of(alloc: Global, counts: &[AtomicU64]) -> Result<(u64, String), AllocError> {
-    let mut calls: u64 = 0;
-    let mut members = String::new(alloc);
-    for kind in Kind::ALL.iter() {
-        let count = taken_at(counts, kind.index());
-        if count > 0 {
-            calls = calls.saturating_add(count);
-            push_member(&mut members, kind.word(), count)?;
-        }
-    }
-    Ok((calls, members))
-}
-
-// The counts of refusals by their numbers, without those of which there are none, which begin anew.
-fn refusals_of(alloc: Global, counts: &[AtomicU64]) -> Result<String, AllocError> {
-    let mut members = String::new(alloc);
-    for (number, count) in counts.iter().enumerate() {
-        let count = count.swap(0, Ordering::SeqCst);
-        if count > 0 {
-            push_member(&mut members, number, count)?;
-        }
-    }
-    Ok(members)
-}
-
 // The rows held of streams by their names.
 fn held_of(alloc: Global, streams: &[HeldStream]) -> Result<String, AllocError> {
     let mut members = String::new(alloc);
@@ -343,9 +424,10 @@ fn held_of(alloc: Global, streams: &[HeldStream]) -> Result<String, AllocError> 
 }
 
 impl<'a, R: Wait + Clock + Print + Sync> Gate for Watch<'a, R> {
-    // Tells the port, on standard output.
+    // Tells where it is listened, on standard output.
     fn opens(&self) -> bool {
-        let is_told = println!(self.rt; "listening on 127.0.0.1:{}", self.port).is_ok();
+        let ip = Ipv4Addr::from_bits(self.ip);
+        let is_told = println!(self.rt; "listening on {ip}:{}", self.port).is_ok();
         if is_told {
             self.opened.store(1, Ordering::SeqCst);
         }
@@ -360,7 +442,7 @@ impl<'a, R: Wait + Clock + Print + Sync> Gate for Watch<'a, R> {
             Point::Opened => count(&self.sessions),
             Point::LoggedIn(tenant) => self.tell("login", Some(tenant), ""),
             Point::NotLoggedIn(tenant) => {
-                count_at(self.refusals.as_slice(), 13);
+                self.count_refusal(self.all(), 13);
                 self.tell_stranger("refused_login", tenant, "");
             }
             Point::Closed(tenant, reason) => {
@@ -370,7 +452,7 @@ impl<'a, R: Wait + Clock + Print + Sync> Gate for Watch<'a, R> {
                     None => self.tell_stranger("ended", None, why(reason)),
                 }
             }
-            Point::Asked(kind) => self.asked(kind),
+            Point::Asked(tenant, kind) => self.asked(tenant, kind),
             Point::Entered => self.entered.store(self.now(), Ordering::SeqCst),
             Point::Stepped => self.stepped(),
             Point::Pinned => count(&self.fetches),
@@ -378,7 +460,8 @@ impl<'a, R: Wait + Clock + Print + Sync> Gate for Watch<'a, R> {
             Point::Fetched(begun) => self.fetched(begun),
             Point::Computed(true) => count(&self.warm),
             Point::Computed(false) => count(&self.cold),
-            Point::Refused(number) => count_at(self.refusals.as_slice(), number as usize),
+            Point::Refused(tenant, number) => self.refused(tenant, number),
+            Point::GivenUp(tenant) => self.gave_up(tenant),
             Point::Second => self.second(),
         }
     }
@@ -387,13 +470,12 @@ impl<'a, R: Wait + Clock + Print + Sync> Gate for Watch<'a, R> {
         self.now()
     }
 
-    fn wants_held(&self) -> bool {
+    fn wants_standing(&self) -> bool {
         self.wants.swap(0, Ordering::SeqCst) == 1
     }
 
-    fn held(&self, owner: TenantId, streams: &[HeldStream]) {
-        if let Ok(rows) = held_of(self.alloc, streams) {
-            self.tell("owner", Some(owner), rows.as_str());
-        }
+    fn standing(&self, tenant: TenantId, streams: &[HeldStream]) {
+        self.tell_held(tenant, streams);
+        self.tell_tenant(tenant);
     }
 }

@@ -145,20 +145,21 @@ impl Caller {
         ensures told { self.old.taking.held ≡ None → TellsLine self.old.is_kept (of_caller self.old) (of_caller self.new) (Ok (arc_value request.prepared))
             (W.contents (inner_of writer.old)) (W.contents (inner_of writer.new)) buffer.old (buffer.new ++ caller_to_come self.new) result }
     {
+        let tenant = self.seat.tenant();
         if self.is_kept && self.receipts.reserve(1).is_err() {
             service
                 .gate
-                .at(Point::Refused(LineFault::NoMemory.number()));
+                .at(Point::Refused(tenant, LineFault::NoMemory.number()));
             return buffer.put_fault(writer, &LineFault::NoMemory);
         }
         let Request { prepared, kind } = request;
         let gate = service.gate;
-        let begun = begin(gate, kind);
+        let begun = begin(gate, tenant, kind);
         let pending = service
             .hall
             .call(service.rt, gate, &mut self.seat, prepared);
         let receipt = pending.finish(service.alloc, bench, gate);
-        tell(gate, kind, begun, &receipt.reply);
+        tell(gate, tenant, kind, begun, &receipt.reply);
         if !self.is_kept {
             let Receipt {
                 tenant: _,
@@ -198,7 +199,9 @@ impl Caller {
         let request = match prepared_of(service.alloc, line, scratch) {
             Ok(request) => request,
             Err(fault) => {
-                service.gate.at(Point::Refused(fault.number()));
+                service
+                    .gate
+                    .at(Point::Refused(self.seat.tenant(), fault.number()));
                 buffer.put_fault(writer, &fault)?;
                 return Ok(LineOutcome::Short);
             }
@@ -216,21 +219,24 @@ impl Caller {
     }
 }
 
-// A call begins; when by the gate's clock, of a fetch.
-fn begin<G: Gate>(gate: &G, kind: Kind) -> u64 {
-    gate.at(Point::Asked(kind));
+// A call of a tenant begins; when by the gate's clock, of a fetch.
+fn begin<G: Gate>(gate: &G, tenant: TenantId, kind: Kind) -> u64 {
+    gate.at(Point::Asked(tenant, kind));
     if kind == Kind::Fetch { gate.nanos() } else { 0 }
 }
 
-// The reply of a call is made.
-fn tell<G: Gate>(gate: &G, kind: Kind, begun: u64, reply: &Reply) {
+// The reply of a call of a tenant is made.
+fn tell<G: Gate>(gate: &G, tenant: TenantId, kind: Kind, begun: u64, reply: &Reply) {
     if kind == Kind::Fetch {
         gate.at(Point::Fetched(begun));
+        if reply.is_no_memory() {
+            gate.at(Point::GivenUp(tenant));
+        }
     }
     match reply {
         // Where no instant is asked for no bench began.
         Reply::Blocks(answer) if answer.turns() > 0 => gate.at(Point::Computed(answer.went_on())),
-        Reply::Refused(refusal) => gate.at(Point::Refused(refusal.number())),
+        Reply::Refused(refusal) => gate.at(Point::Refused(tenant, refusal.number())),
         _ => {}
     }
 }

@@ -1,5 +1,6 @@
 //! What the words of `cqld`'s command line say.
 ghost use Rattle.std.specs.Prelude.{◌≤◌, IfOk};
+ghost use Rattle.std.specs.Net.Grammar.{Parses, IsIpv4Text};
 
 use clap::builder::ValueParser;
 use clap::error::ErrorKind;
@@ -7,11 +8,15 @@ use clap::{Arg, ArgAction, ArgMatches, Command, Error, value_parser};
 use std::alloc::Global;
 use std::env::{self, Env};
 use std::io;
+use std::net::{AddrParseError, Ipv4Addr};
 
 /// The version, which is that of the top entry of CHANGELOG.md that has a number.
 pub const VERSION: &str = "0.1.0";
 
 const JOIN_FORMS: &[&str] = &["plain", "keyed"];
+
+const NO_ADDRESS: &str =
+    "invalid value for '--listen <ADDRESS>': an address is four numbers up to 255, as 127.0.0.1";
 
 /// The operators by which joins and groups are computed.
 #[derive(Clone, Copy)]
@@ -25,7 +30,9 @@ pub enum JoinForm {
 /// What is served, and how.
 #[derive(Clone, Copy)]
 pub struct Config {
-    /// The port of 127.0.0.1; at 0 the system chooses one.
+    /// The address that is listened at, of this machine; 0.0.0.0 for all that it has.
+    pub listen: Ipv4Addr,
+    /// The port there; at 0 the system chooses one.
     pub port: u16,
     /// How many threads serve callers, 1 to 64.
     pub workers: u8,
@@ -121,7 +128,11 @@ fn read_words(alloc: Global, words: &[String]) -> Result<Config, Error>
     ensures log { IfOk result (λ c. c.log ≤ 86400) }
 {
     let matches = command(alloc)?.try_get_matches_from(words)?;
+    let Ok(listen) = address_of(matches.get_str("listen").unwrap_or("")) else {
+        return Err(command(alloc)?.error(ErrorKind::ValueValidation, NO_ADDRESS)?);
+    };
     Ok(Config {
+        listen,
         port: number(&matches, "port", 0, 65_535) as u16,
         workers: number(&matches, "workers", 1, 64) as u8,
         callers: number(&matches, "callers", 1, 65_536),
@@ -137,6 +148,13 @@ fn read_words(alloc: Global, words: &[String]) -> Result<Config, Error>
         audit: matches.get_flag("audit"),
         check: matches.get_flag("check"),
     })
+}
+
+// The IPv4 address that a text writes: four numbers below 256 without leading zeros, with dots between them.
+fn address_of(text: &str) -> Result<Ipv4Addr, AddrParseError>
+    ensures { Parses IsIpv4Text text.now result }
+{
+    text.parse()
 }
 
 // The number of a word, which lies between these by its parser.
@@ -170,6 +188,8 @@ enum Takes {
     Mebibytes(&'static str, i64, i64),
     // A form of joins.
     Form,
+    // An IPv4 address: what it is where none is given.
+    Address(&'static str),
     Nothing,
 }
 
@@ -178,9 +198,14 @@ struct Word(&'static str, Takes, &'static str);
 
 const WORDS: &[Word] = &[
     Word(
+        "listen",
+        Takes::Address("127.0.0.1"),
+        "The address of this machine at which callers are let in, or 0.0.0.0 for all",
+    ),
+    Word(
         "port",
         Takes::Count("0", 0, 65_535),
-        "The port of 127.0.0.1, or 0 for one that the system chooses",
+        "The port there, or 0 for one that the system chooses",
     ),
     Word(
         "workers",
@@ -289,6 +314,7 @@ fn argument<'a>(alloc: Global, word: &'static Word) -> Arg<'a> {
             )
         }
         Takes::Form => valued(argument, "FORM", "keyed", JOIN_FORMS.into()),
+        Takes::Address(default) => valued(argument, "ADDRESS", default, ValueParser::string()),
         Takes::Nothing => argument.action(ArgAction::SetTrue),
     }
 }

@@ -9,14 +9,14 @@ use Rattle.std.proofs.Crossing.{crosses, Box-send, Vec-send, Deque-send}
 use Rattle.slab.proofs.Slab.TheSendSync as slab
 use Rattle.std.below.std_heap.proofs.GlobalAllocator.TheSendSync as frees
 use Rattle.cql_sessions.proofs.BenchesCrosses.{answers_row_sync}
-use Rattle.cql_connections.specs.contracts.floor.Floor as floor
-use Rattle.cql_connections.specs.contracts.floor.Slot as slot
-use Rattle.cql_connections.specs.contracts.floor.Turn as turn
-use Rattle.cql_connections.specs.contracts.house.House as house
-use Rattle.cql_connections.specs.contracts.lookout.Lookout as lookout
+use Rattle.cql_connections.specs.contracts.connection_table.ConnectionTable as connections
+use Rattle.cql_connections.specs.contracts.connection_table.Slot as slot
+use Rattle.cql_connections.specs.contracts.connection_table.Turn as turn
+use Rattle.cql_connections.specs.contracts.scheduler.Scheduler as scheduler
+use Rattle.cql_connections.specs.contracts.poller.Poller as poller
 use Rattle.cql_connections.specs.contracts.places.Places as places
-use Rattle.cql_connections.specs.contracts.turns.OwnerQueues as queues
-use Rattle.cql_connections.specs.contracts.turns.Turns as turns
+use Rattle.cql_connections.specs.contracts.run_queue.OwnerQueues as queues
+use Rattle.cql_connections.specs.contracts.run_queue.RunQueue as run_queue
 
 pub places_send : IsSend (places.the_field).row
 places_send = search (crosses, sendable) depth 30
@@ -55,8 +55,8 @@ module _ (T : RattleType) where
   pub queues_send : IsSend T → IsSend (queues.the_field T).row
   queues_send s = struct_send (shape (queues.the_type T)) (Vec-send _ (Deque-send T s), (search (crosses, sendable) depth 30, (search sendable, tt)))
 
-  pub turns_send : IsSend T → IsSend (turns.the_field T).row
-  turns_send s = struct_send (shape (turns.the_type T)) (
+  pub run_queue_send : IsSend T → IsSend (run_queue.the_field T).row
+  run_queue_send s = struct_send (shape (run_queue.the_type T)) (
     queues_send s,
     (
       queues_send s,
@@ -65,8 +65,8 @@ module _ (T : RattleType) where
   )
 
 module _ (T D : RattleType) where
-  pub floor_send : IsSend T → IsSend D → IsSend (floor.the_field T D).row
-  floor_send s e = struct_send (shape (floor.the_type T D)) (
+  pub connections_send : IsSend T → IsSend D → IsSend (connections.the_field T D).row
+  connections_send s e = struct_send (shape (connections.the_type T D)) (
     search sendable depth 20,
     (
       let p : Unit {0} → IsSend (slot.the_row T) = λ u. slot_row_send T s in search (sendable, slab.the_send, heap.the_send, frees.the_frees, p) depth 20,
@@ -75,7 +75,7 @@ module _ (T D : RattleType) where
         (
           search sendable,
           (
-            turns_send (turn.the_row T) (turn_row_send T s),
+            run_queue_send (turn.the_row T) (turn_row_send T s),
             (
               search sendable,
               (
@@ -89,25 +89,25 @@ module _ (T D : RattleType) where
     ),
   )
 
-  pub floor_row_send : IsSend T → IsSend D → IsSend (floor.the_row T D)
-  floor_row_send s e = let f = floor_send s e in search (sendable, f) depth 20
+  pub connections_row_send : IsSend T → IsSend D → IsSend (connections.the_row T D)
+  connections_row_send s e = let f = connections_send s e in search (sendable, f) depth 20
 
 module _ (a : NamedLft) (T D : RattleType) where
-  pub house_sync : IsSend T → IsSend D → IsSync (house.the_field a T D).row
-  house_sync s e = struct_sync (shape (house.the_type a T D)) (
+  pub scheduler_sync : IsSend T → IsSend D → IsSync (scheduler.the_field a T D).row
+  scheduler_sync s e = struct_sync (shape (scheduler.the_type a T D)) (
     search (crosses, sendable) depth 20,
     (
       search (sendable, answers_row_sync) depth 20,
       (
         search sendable,
         (
-          let f : Unit {0} → IsSend (floor.the_row T D) = λ u. floor_row_send T D s e in search (sendable, mutex.the_sync, f) depth 20,
+          let f : Unit {0} → IsSend (connections.the_row T D) = λ u. connections_row_send T D s e in search (sendable, mutex.the_sync, f) depth 20,
           (
             search (crosses, sendable) depth 30,
             (
               search (crosses, sendable) depth 30,
               (
-                let l : Unit {0} → IsSend lookout.the_row = λ u. search (crosses, sendable) depth 40 in search (sendable, mutex.the_sync, l) depth 20,
+                let l : Unit {0} → IsSend poller.the_row = λ u. search (crosses, sendable) depth 40 in search (sendable, mutex.the_sync, l) depth 20,
                 (search (crosses, sendable) depth 30, (search (crosses, sendable) depth 30, (search (crosses, sendable) depth 30, tt))),
               ),
             ),
@@ -117,5 +117,5 @@ module _ (a : NamedLft) (T D : RattleType) where
     ),
   )
 
-  pub house_row_sync : IsSend T → IsSend D → IsSync (house.the_row a T D)
-  house_row_sync s e = let h = house_sync s e in search (sendable, h) depth 20
+  pub scheduler_row_sync : IsSend T → IsSend D → IsSync (scheduler.the_row a T D)
+  scheduler_row_sync s e = let h = scheduler_sync s e in search (sendable, h) depth 20

@@ -2,16 +2,16 @@
 //! has gone, who waits for a worker and whose turn it is, and whose time has passed.
 #![tactic(auto)]
 
-mod floor;
-mod house;
+mod connection_table;
+mod driver;
 mod limits;
-mod lookout;
 mod places;
-mod turns;
-mod wires;
+mod poller;
+mod run_queue;
+mod scheduler;
 
-pub use floor::{Floor, Turn};
-pub use house::House;
+pub use connection_table::{ConnectionTable, Turn};
+pub use driver::Driver;
 pub use limits::Limits;
-pub use turns::{Task, Turns};
-pub use wires::Wires;
+pub use run_queue::{RunQueue, Task};
+pub use scheduler::Scheduler;

@@ -5,13 +5,13 @@ ghost use Rattle.cql_server.specs.declared.failure.Failure.TheVariants as failur
 
 use crate::auditing::{Audited, audit_sessions};
 use crate::failure::Failure;
-use crate::hub::Hub;
+use crate::listener::Listener;
 use crate::sweeper::start_sweeper;
 use crate::workers::start_all;
-use cql_connections::{Floor, House, Limits};
+use cql_connections::{ConnectionTable, Limits, Scheduler};
 use cql_core::{BenchOf, Operator, TenantTable};
 use cql_hall::{Bare, Gate, Hall, Kept};
-use cql_sessions::{Answers, Callable, Ending, Guest, Rooms, Service, SharedPool};
+use cql_sessions::{Answers, Callable, Connection, Ending, Rooms, Service, SharedPool};
 use crossbeam_channel::Receiver;
 use std::alloc::Global;
 use std::io::Write;
@@ -59,7 +59,7 @@ pub struct Benches<O: Operator> {
 pub fn serve<R, W, G, O>(
     rt: &R,
     alloc: Global,
-    hub: Hub<'_>,
+    bound: Listener<'_>,
     limits: Limits,
     out: &mut W,
     table: &TenantTable,
@@ -86,17 +86,17 @@ where
     let pool = SharedPool::new(rt, alloc, shared, answers, rooms)?;
     if audit {
         serve_kept(
-            rt, alloc, hub, limits, out, table, own, &pool, sessions, gate,
+            rt, alloc, bound, limits, out, table, own, &pool, sessions, gate,
         )
     } else {
-        serve_bare(rt, alloc, hub, limits, table, own, &pool, sessions, gate)
+        serve_bare(rt, alloc, bound, limits, table, own, &pool, sessions, gate)
     }
 }
 
 fn serve_bare<R, G, O>(
     rt: &R,
     alloc: Global,
-    hub: Hub<'_>,
+    bound: Listener<'_>,
     limits: Limits,
     table: &TenantTable,
     own: Vec<BenchOf<O>>,
@@ -120,14 +120,14 @@ where
         table,
         gate,
     };
-    serve_hall(&service, hub, limits, own, pool, sessions, false)?;
+    serve_hall(&service, bound, limits, own, pool, sessions, false)?;
     Ok(())
 }
 
 fn serve_kept<R, W, G, O>(
     rt: &R,
     alloc: Global,
-    hub: Hub<'_>,
+    bound: Listener<'_>,
     limits: Limits,
     out: &mut W,
     table: &TenantTable,
@@ -152,7 +152,7 @@ where
         table,
         gate,
     };
-    let ends = serve_hall(&service, hub, limits, own, pool, sessions, true)?;
+    let ends = serve_hall(&service, bound, limits, own, pool, sessions, true)?;
     tell_audited(out, audit_sessions(alloc, table, hall, ends)?)
 }
 
@@ -170,7 +170,7 @@ fn tell_audited<W: Write>(out: &mut W, audited: Audited) -> Result<(), Failure> 
 // all have left, for which there is room where calls are kept.
 fn serve_hall<R, C, G, O>(
     service: &Service<'_, R, C, G>,
-    hub: Hub<'_>,
+    bound: Listener<'_>,
     limits: Limits,
     own: Vec<BenchOf<O>>,
     pool: &SharedPool<O>,
@@ -188,11 +188,17 @@ where
     let alloc = service.alloc;
     let owners = service.table.tenants().len().saturating_add(1);
     let room = if is_kept { usize::from(sessions) } else { 0 };
-    let floor: Floor<Guest, Ending> = Floor::new(alloc, limits, owners, own.len(), room)?;
+    let connections: ConnectionTable<Connection, Ending> = ConnectionTable::new(
+        alloc,
+        limits,
+        owners,
+        own.len(),
+        room,
+    )?;
     let (stop, stopped) = crossbeam_channel::bounded(alloc, 1)?;
-    let (door, wires) = hub.into_parts();
-    let house = House::new(alloc, pool.answers(), is_kept, floor, wires);
-    let shared = &house;
+    let (acceptor, driver) = bound.into_parts();
+    let scheduler = Scheduler::new(alloc, pool.answers(), is_kept, connections, driver);
+    let shared = &scheduler;
     let rt = service.rt;
     thread::scope(
         thread::scope_env(),
@@ -207,7 +213,7 @@ where
                 return Err(failure);
             }
             if service.gate.opens() {
-                door.attend(rt, shared, service.gate, sessions);
+                acceptor.attend(rt, shared, service.gate, sessions);
             } else {
                 shared.close(rt);
             }
@@ -215,5 +221,5 @@ where
             Ok(())
         },
     )?;
-    Ok(house.into_ends()?)
+    Ok(scheduler.into_ends()?)
 }

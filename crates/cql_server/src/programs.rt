@@ -6,7 +6,7 @@ use crate::callers::{Benches, serve};
 use crate::failure::Failure;
 use crate::files::callers_with_files;
 use crate::forms::{keyed_lists, plain_lists};
-use crate::hub::Hub;
+use crate::listener::Listener;
 use crate::log::{LogLines, Stamp};
 use crate::watch::Watch;
 use cql_connections::Limits;
@@ -174,8 +174,8 @@ where
         Ok(listener) => listener,
         Err(error) => return Err(unbound(rt, &config, &error)),
     };
-    let hub = match Hub::new(rt, alloc, &listener) {
-        Ok(hub) => hub,
+    let bound = match Listener::new(rt, alloc, &listener) {
+        Ok(bound) => bound,
         Err(error) => return Err(unbound(rt, &config, &error)),
     };
     let addr = match listener.local_addr() {
@@ -189,7 +189,7 @@ where
     };
     let callers = callers_with_files(rt, config.callers.max(1));
     let config = Config { callers, ..config };
-    attend(rt, alloc, hub, config, table, benches, &log, &watch)?;
+    attend(rt, alloc, bound, config, table, benches, &log, &watch)?;
     if watch.has_opened() {
         Ok(())
     } else {
@@ -202,7 +202,7 @@ where
 fn attend<R, G, O>(
     rt: &R,
     alloc: Global,
-    hub: Hub<'_>,
+    bound: Listener<'_>,
     config: Config,
     table: &TenantTable,
     benches: Benches<O>,
@@ -230,7 +230,7 @@ where
             let served = serve(
                 rt,
                 alloc,
-                hub,
+                bound,
                 limits,
                 &mut io::writer(rt),
                 table,

@@ -13,11 +13,11 @@ use Rattle.cql_hall.proofs.Crosses.{receipt_row_send}
 use Rattle.cql_wire.specs.contracts.held_reply.HeldReply as held
 use Rattle.cql_sessions.specs.contracts.caller.Caller as caller
 use Rattle.cql_sessions.specs.contracts.ending.Ending as ending
-use Rattle.cql_sessions.specs.contracts.guest.Guest as guest
+use Rattle.cql_sessions.specs.contracts.connection.Connection as connection
 use Rattle.cql_sessions.specs.contracts.in_hand.Taking as taking
-use Rattle.cql_sessions.specs.contracts.connection.Connection as link
+use Rattle.cql_sessions.specs.contracts.socket.Socket as socket
 use Rattle.cql_sessions.specs.contracts.parting.Parting as parting
-use Rattle.cql_sessions.specs.contracts.visit.Visit as visit
+use Rattle.cql_sessions.specs.contracts.session_state.SessionState as state
 
 pub ending_send : IsSend (ending.the_field).row
 ending_send = search (sendable, seat.the_send, vec.the_send, heap.the_send, frees.the_frees, receipt_row_send) depth 20
@@ -49,14 +49,14 @@ caller_send = struct_send (shape caller.the_type) (
 pub caller_row_send : IsSend caller.the_row
 caller_row_send = search (sendable, caller_send) depth 20
 
-pub visit_send : IsSend (visit.the_field).row
-visit_send = search (sendable, caller_row_send, intake.the_send) depth 20
+pub state_send : IsSend (state.the_field).row
+state_send = search (sendable, caller_row_send, intake.the_send) depth 20
 
-pub visit_row_send : IsSend visit.the_row
-visit_row_send = search (sendable, visit_send) depth 20
+pub state_row_send : IsSend state.the_row
+state_row_send = search (sendable, state_send) depth 20
 
-pub link_send : IsSend (link.the_field).row
-link_send = struct_send (shape link.the_type) (
+pub socket_send : IsSend (socket.the_field).row
+socket_send = struct_send (shape socket.the_type) (
   search (crosses, sendable) depth 30,
   (
     search (crosses, sendable) depth 30,
@@ -67,11 +67,11 @@ link_send = struct_send (shape link.the_type) (
 pub parting_send : IsSend (parting.the_field).row
 parting_send = search sendable depth 20
 
-pub guest_send : IsSend (guest.the_field).row
-guest_send = struct_send (shape guest.the_type) (
-  search (sendable, link_send) depth 20,
-  (search (sendable, visit_send) depth 20, (search (sendable, parting_send) depth 20, (search sendable, tt))),
+pub connection_send : IsSend (connection.the_field).row
+connection_send = struct_send (shape connection.the_type) (
+  search (sendable, socket_send) depth 20,
+  (search (sendable, state_send) depth 20, (search (sendable, parting_send) depth 20, (search sendable, tt))),
 )
 
-pub guest_row_send : IsSend guest.the_row
-guest_row_send = search (sendable, guest_send) depth 20
+pub connection_row_send : IsSend connection.the_row
+connection_row_send = search (sendable, connection_send) depth 20

@@ -21,10 +21,10 @@ use Rattle.cql_lines.proofs.Coming.{nothing_came, more_came, next_comes, front_o
 use Rattle.cql_lines.proofs.Finding.{line_found-counted, none_from}
 use Rattle.cql_wire.specs.declared.scripts.ScriptError.{ScriptError}
 use Rattle.cql_sessions.specs.declared.caller.Caller.{Caller}
-use Rattle.cql_sessions.specs.declared.visit.Visit.{Visit}
+use Rattle.cql_sessions.specs.declared.session_state.SessionState.{SessionState}
 use Rattle.cql_sessions.specs.Answering.{Account}
 use Rattle.cql_sessions.specs.Request.{request_of}
-use Rattle.cql_sessions.specs.Seating.{login_among, behind_login, Asks, Serves, Answers, AreFirst, Served, ServedOf, Seated, of_caller, account_of, Visits, Faces, HasGoneOn, IsNew, Reads}
+use Rattle.cql_sessions.specs.Seating.{login_among, behind_login, Asks, Serves, Answers, AreFirst, Served, ServedOf, Seated, of_caller, account_of, HasReached, Faces, HasGoneOn, IsNew, Reads}
 
 -- ---- booleans and results
 
@@ -222,32 +222,32 @@ blank_seated table bytes account line ended over blank seated =
       done = λ e waits. or_left ended over e;
     }
 
--- ---- a visit
+-- ---- a session
 
-visits_by : (table : List Tenant) (bytes : List ℕ) (visit : Visit) (account : Option Account) (line : List ℕ) (waits ended over : Bool) → account_of visit.caller ≡ account → visit.intake ≡ line → visit.is_held ≡ waits
-    → visit.is_ended ≡ ended → visit.is_over ≡ over → Seated table bytes account line waits ended over → Visits table bytes visit
-visits_by table bytes visit account line waits ended over who is held end done seated =
-    subst (λ t. Seated table bytes t visit.intake visit.is_held visit.is_ended visit.is_over) (sym who)
-    (subst (λ l. Seated table bytes account l visit.is_held visit.is_ended visit.is_over) (sym is)
-    (subst (λ w. Seated table bytes account line w visit.is_ended visit.is_over) (sym held)
-    (subst (λ e. Seated table bytes account line waits e visit.is_over) (sym end) (subst (Seated table bytes account line waits ended) (sym done) seated))))
+reached_by : (table : List Tenant) (bytes : List ℕ) (state : SessionState) (account : Option Account) (line : List ℕ) (waits ended over : Bool) → account_of state.caller ≡ account → state.intake ≡ line → state.is_held ≡ waits
+    → state.is_ended ≡ ended → state.is_over ≡ over → Seated table bytes account line waits ended over → HasReached table bytes state
+reached_by table bytes state account line waits ended over who is held end done seated =
+    subst (λ t. Seated table bytes t state.intake state.is_held state.is_ended state.is_over) (sym who)
+    (subst (λ l. Seated table bytes account l state.is_held state.is_ended state.is_over) (sym is)
+    (subst (λ w. Seated table bytes account line w state.is_ended state.is_over) (sym held)
+    (subst (λ e. Seated table bytes account line waits e state.is_over) (sym end) (subst (Seated table bytes account line waits ended) (sym done) seated))))
 
 -- a blank line was passed over
-pub blank_visits : (table : List Tenant) (came : List ℕ) (old new : Visit) → is_some (line_found old.intake) ≡ false → HasGoneOn old new → Faces table came old → Visits table came new
-blank_visits table came old new blank gone faces =
-    visits_by table came new (account_of old.caller) [] false old.is_ended (old.is_ended || old.is_over) (ap account_of gone.caller) gone.line gone.held gone.ended gone.over
+pub blank_reached : (table : List Tenant) (came : List ℕ) (old new : SessionState) → is_some (line_found old.intake) ≡ false → HasGoneOn old new → Faces table came old → HasReached table came new
+blank_reached table came old new blank gone faces =
+    reached_by table came new (account_of old.caller) [] false old.is_ended (old.is_ended || old.is_over) (ap account_of gone.caller) gone.line gone.held gone.ended gone.over
     (blank_seated table came (account_of old.caller) old.intake old.is_ended old.is_over blank faces)
 
 no_account : (caller : Option Caller) → account_of caller ≡ None → is_none caller ≡ true
 no_account None e = refl
 no_account (Some caller) e = none_is_some _ e
 
-module _ (table : List Tenant) (came : List ℕ) (old mid : Visit) (counts : is_some (line_found old.intake) ≡ true) (same : (mid.intake ≡ old.intake) × (mid.is_held ≡ old.is_held) × (mid.is_ended ≡ old.is_ended))
+module _ (table : List Tenant) (came : List ℕ) (old mid : SessionState) (counts : is_some (line_found old.intake) ≡ true) (same : (mid.intake ≡ old.intake) × (mid.is_held ≡ old.is_held) × (mid.is_ended ≡ old.is_ended))
     (going : old.is_over ≡ false) (faces : Faces table came old) where
   -- a line was answered, and the next one may come
-  pub answered_visits : (new : Visit) → Answers table (shown_line old.intake) (account_of old.caller) (account_of mid.caller) → mid.is_over ≡ (is_none mid.caller || old.is_over) → HasGoneOn mid new → Visits table came new
-  answered_visits new answers over gone =
-      visits_by table came new (account_of mid.caller) [] false old.is_ended (old.is_ended || mid.is_over) (ap account_of gone.caller) gone.line gone.held (gone.ended ∙ same.2)
+  pub answered_reached : (new : SessionState) → Answers table (shown_line old.intake) (account_of old.caller) (account_of mid.caller) → mid.is_over ≡ (is_none mid.caller || old.is_over) → HasGoneOn mid new → HasReached table came new
+  answered_reached new answers over gone =
+      reached_by table came new (account_of mid.caller) [] false old.is_ended (old.is_ended || mid.is_over) (ap account_of gone.caller) gone.line gone.held (gone.ended ∙ same.2)
       (gone.over ∙ ap (λ e. e || mid.is_over) same.2)
       (answered_seated table came (account_of old.caller) (account_of mid.caller) old.intake old.is_ended old.is_over going counts answers faces (old.is_ended || mid.is_over)
       (λ goes. (or_none old.is_ended mid.is_over goes).0)
@@ -255,8 +255,8 @@ module _ (table : List Tenant) (came : List ℕ) (old mid : Visit) (counts : is_
       (λ e. or_left old.is_ended mid.is_over e))
 
   -- a line is held
-  pub held_visits : account_of mid.caller ≡ account_of old.caller → mid.is_over ≡ (is_none mid.caller || old.is_over) → Faces table came mid
-  held_visits who over =
+  pub held_reached : account_of mid.caller ≡ account_of old.caller → mid.is_over ≡ (is_none mid.caller || old.is_over) → Faces table came mid
+  held_reached who over =
       let kept : Seated table came (account_of old.caller) old.intake true old.is_ended mid.is_over = record {
         lines = faces.lines;
         come = λ goes. faces.come going;
@@ -281,42 +281,42 @@ module _ (table : List Tenant) (came : List ℕ) (old mid : Visit) (counts : is_
       (answered_served table came (account_of old.caller) (account_of mid.caller) old.intake old.is_ended old.is_over going counts answers faces)
 
 -- more of a line came
-took : (table : List Tenant) (came bytes : List ℕ) (old : Visit) (line : List ℕ) (taken : Taken) → old.is_held ≡ false → Takes bytes old.intake line taken → old.is_over ≡ false → Visits table came old
+took : (table : List Tenant) (came bytes : List ℕ) (old : SessionState) (line : List ℕ) (taken : Taken) → old.is_held ≡ false → Takes bytes old.intake line taken → old.is_over ≡ false → HasReached table came old
     → Seated table (came ++ take taken.count bytes) (account_of old.caller) line taken.is_whole old.is_ended old.is_over
-took table came bytes old line taken idle takes going visits =
+took table came bytes old line taken idle takes going reached =
     more_seated table came bytes (account_of old.caller) old.intake line taken old.is_ended old.is_over takes going
-    (subst (λ w. Seated table came (account_of old.caller) old.intake w old.is_ended old.is_over) idle visits)
+    (subst (λ w. Seated table came (account_of old.caller) old.intake w old.is_ended old.is_over) idle reached)
 
 -- not a whole one
-pub part_visits : (table : List Tenant) (came bytes : List ℕ) (old : Visit) (line : List ℕ) (taken : Taken) → old.is_held ≡ false → Takes bytes old.intake line taken → taken.is_whole ≡ false → old.is_over ≡ false
-    → Visits table came old → Seated table (came ++ take taken.count bytes) (account_of old.caller) line old.is_held old.is_ended old.is_over
-part_visits table came bytes old line taken idle takes part going visits =
-    subst (λ w. Seated table (came ++ take taken.count bytes) (account_of old.caller) line w old.is_ended old.is_over) (part ∙ sym idle) (took table came bytes old line taken idle takes going visits)
+pub part_reached : (table : List Tenant) (came bytes : List ℕ) (old : SessionState) (line : List ℕ) (taken : Taken) → old.is_held ≡ false → Takes bytes old.intake line taken → taken.is_whole ≡ false → old.is_over ≡ false
+    → HasReached table came old → Seated table (came ++ take taken.count bytes) (account_of old.caller) line old.is_held old.is_ended old.is_over
+part_reached table came bytes old line taken idle takes part going reached =
+    subst (λ w. Seated table (came ++ take taken.count bytes) (account_of old.caller) line w old.is_ended old.is_over) (part ∙ sym idle) (took table came bytes old line taken idle takes going reached)
 
-pub whole_faces : (table : List Tenant) (came bytes : List ℕ) (old : Visit) (line : List ℕ) (taken : Taken) → old.is_held ≡ false → Takes bytes old.intake line taken → taken.is_whole ≡ true → old.is_over ≡ false
-    → Visits table came old → Seated table (came ++ take taken.count bytes) (account_of old.caller) line true old.is_ended old.is_over
-whole_faces table came bytes old line taken idle takes whole going visits =
-    subst (λ w. Seated table (came ++ take taken.count bytes) (account_of old.caller) line w old.is_ended old.is_over) whole (took table came bytes old line taken idle takes going visits)
+pub whole_faces : (table : List Tenant) (came bytes : List ℕ) (old : SessionState) (line : List ℕ) (taken : Taken) → old.is_held ≡ false → Takes bytes old.intake line taken → taken.is_whole ≡ true → old.is_over ≡ false
+    → HasReached table came old → Seated table (came ++ take taken.count bytes) (account_of old.caller) line true old.is_ended old.is_over
+whole_faces table came bytes old line taken idle takes whole going reached =
+    subst (λ w. Seated table (came ++ take taken.count bytes) (account_of old.caller) line w old.is_ended old.is_over) whole (took table came bytes old line taken idle takes going reached)
 
 -- nothing more comes
-pub end_faces : (table : List Tenant) (came : List ℕ) (old : Visit) → old.is_held ≡ false → old.is_over ≡ false → Visits table came old
+pub end_faces : (table : List Tenant) (came : List ℕ) (old : SessionState) → old.is_held ≡ false → old.is_over ≡ false → HasReached table came old
     → Seated table came (account_of old.caller) old.intake true true old.is_over
-end_faces table came old idle going visits =
-    end_seated table came (account_of old.caller) old.intake old.is_ended old.is_over going (subst (λ w. Seated table came (account_of old.caller) old.intake w old.is_ended old.is_over) idle visits)
+end_faces table came old idle going reached =
+    end_seated table came (account_of old.caller) old.intake old.is_ended old.is_over going (subst (λ w. Seated table came (account_of old.caller) old.intake w old.is_ended old.is_over) idle reached)
 
 -- ---- one read
 
-pub visit_unended : (table : List Tenant) (bytes : List ℕ) (visit : Visit) → visit.is_held ≡ false → visit.is_over ≡ false → Visits table bytes visit → visit.is_ended ≡ false
-visit_unended table bytes visit idle going visits = not_true visit.is_ended (λ e. clash visit.is_over (visits.done e idle) going)
+pub state_unended : (table : List Tenant) (bytes : List ℕ) (state : SessionState) → state.is_held ≡ false → state.is_over ≡ false → HasReached table bytes state → state.is_ended ≡ false
+state_unended table bytes state idle going reached = not_true state.is_ended (λ e. clash state.is_over (reached.done e idle) going)
 
-unended_served : (table : List Tenant) (bytes : List ℕ) (visit : Visit) → visit.is_ended ≡ false → Visits table bytes visit → Served table false bytes (account_of visit.caller)
-unended_served table bytes visit unended visits = record { lines = visits.lines; first = subst (λ e. AreFirst e bytes visits.lines) unended visits.first; serves = visits.serves }
+unended_served : (table : List Tenant) (bytes : List ℕ) (state : SessionState) → state.is_ended ≡ false → HasReached table bytes state → Served table false bytes (account_of state.caller)
+unended_served table bytes state unended reached = record { lines = reached.lines; first = subst (λ e. AreFirst e bytes reached.lines) unended reached.first; serves = reached.serves }
 
 -- more bytes came, and nothing was done with them
-pub same_served_behind : (table : List Tenant) (came more : List ℕ) (old : Visit) (ended : Bool) → old.is_held ≡ false → old.is_over ≡ false → Visits table came old → Served table ended (came ++ more) (account_of old.caller)
-same_served_behind table came more old ended idle going visits =
+pub same_served_behind : (table : List Tenant) (came more : List ℕ) (old : SessionState) (ended : Bool) → old.is_held ≡ false → old.is_over ≡ false → HasReached table came old → Served table ended (came ++ more) (account_of old.caller)
+same_served_behind table came more old ended idle going reached =
     served_at_end table ended (came ++ more) (account_of old.caller)
-    (served_behind table came more (account_of old.caller) (unended_served table came old (visit_unended table came old idle going visits) visits))
+    (served_behind table came more (account_of old.caller) (unended_served table came old (state_unended table came old idle going reached) reached))
 
 -- a fault came while a line of the bytes was answered
 pub whole_stops : (table : List Tenant) (came bytes : List ℕ) (n : ℕ) (ended : Bool) (account : Option Account) → ended ≡ false → Served table ended (came ++ take n bytes) account → Served table false (came ++ bytes) account
@@ -325,40 +325,40 @@ whole_stops table came bytes n ended account unended served =
     subst (λ l. Served table false l account) (append_assoc came (take n bytes) (drop n bytes) ∙ ap (λ l. came ++ l) (take-append-drop n bytes)) front
 
 -- nothing came
-pub nowhere : (table : List Tenant) (visit : Visit) (came : List ℕ) → Visits table came visit → Visits table (came ++ []) visit
-nowhere table visit came visits = subst (λ l. Visits table l visit) (sym (append-nil came)) visits
+pub nowhere : (table : List Tenant) (state : SessionState) (came : List ℕ) → HasReached table came state → HasReached table (came ++ []) state
+nowhere table state came reached = subst (λ l. HasReached table l state) (sym (append-nil came)) reached
 
 -- nothing was done before a fault
-pub still_reads : (table : List Tenant) (visit : Visit) (input to_come : Option (List ℕ)) (well : Bool) → visit.is_held ≡ false → Keeps input to_come → visit.is_over ≡ false → Reads table visit visit input to_come well
-still_reads table visit input to_come well idle keeps going = record {
+pub still_reads : (table : List Tenant) (state : SessionState) (input to_come : Option (List ℕ)) (well : Bool) → state.is_held ≡ false → Keeps input to_come → state.is_over ≡ false → Reads table state state input to_come well
+still_reads table state input to_come well idle keeps going = record {
   bytes = [];
   consumed = Consumes-kept input input to_come [] (Consumes-nil input) keeps;
-  at_end = λ unended ended. clash visit.is_ended ended unended;
-  served = λ came visits. same_served_behind table came [] visit visit.is_ended idle going visits;
-  going = λ well going came visits. nowhere table visit came visits;
+  at_end = λ unended ended. clash state.is_ended ended unended;
+  served = λ came reached. same_served_behind table came [] state state.is_ended idle going reached;
+  going = λ well going came reached. nowhere table state came reached;
 }
 
 -- the end of the input was answered
-pub end_reads : (table : List Tenant) (old new : Visit) (input to_come : Option (List ℕ)) (well : Bool) → Consumes input to_come [] → IsAtEnd to_come
-    → ((came : List ℕ) → Visits table came old → Visits table came new) → Reads table old new input to_come well
+pub end_reads : (table : List Tenant) (old new : SessionState) (input to_come : Option (List ℕ)) (well : Bool) → Consumes input to_come [] → IsAtEnd to_come
+    → ((came : List ℕ) → HasReached table came old → HasReached table came new) → Reads table old new input to_come well
 end_reads table old new input to_come well consumed at_end seats = record {
   bytes = [];
   consumed = consumed;
   at_end = λ unended ended. at_end;
-  served = λ came visits.
-      let v = seats came visits in
+  served = λ came reached.
+      let v = seats came reached in
       subst (λ l. Served table new.is_ended l (account_of new.caller)) (sym (append-nil came)) (record { lines = v.lines; first = v.first; serves = v.serves });
-  going = λ well going came visits. subst (λ l. Visits table l new) (sym (append-nil came)) (seats came visits);
+  going = λ well going came reached. subst (λ l. HasReached table l new) (sym (append-nil came)) (seats came reached);
 }
 
 -- the end of the input was read, and its line met a fault
-pub end_stops : (table : List Tenant) (old new : Visit) (input to_come : Option (List ℕ)) (well : Bool) → well ≡ false → Consumes input to_come [] → IsAtEnd to_come
-    → ((came : List ℕ) → Visits table came old → Served table new.is_ended came (account_of new.caller)) → Reads table old new input to_come well
+pub end_stops : (table : List Tenant) (old new : SessionState) (input to_come : Option (List ℕ)) (well : Bool) → well ≡ false → Consumes input to_come [] → IsAtEnd to_come
+    → ((came : List ℕ) → HasReached table came old → Served table new.is_ended came (account_of new.caller)) → Reads table old new input to_come well
 end_stops table old new input to_come well failed consumed at_end stops = record {
   bytes = [];
   consumed = consumed;
   at_end = λ unended ended. at_end;
-  served = λ came visits. subst (λ l. Served table new.is_ended l (account_of new.caller)) (sym (append-nil came)) (stops came visits);
+  served = λ came reached. subst (λ l. Served table new.is_ended l (account_of new.caller)) (sym (append-nil came)) (stops came reached);
   going = λ well. clash _ well failed;
 }
 
@@ -368,106 +368,106 @@ chunk_read len n read items after is size =
     ap (take n) (sym (is ∙ take-append-le len read (drop (length read) items) (omega (arith, size)) ∙ take_all len read (omega (arith, size))))
 
 -- the lines of the bytes that were read were answered
-pub lines_read : (table : List Tenant) (old new : Visit) (input to_come : Option (List ℕ)) (bytes read : List ℕ) (r : Result (Unit {0}) ScriptError) → old.is_held ≡ false → new.is_ended ≡ old.is_ended
-    → (old.is_ended ≡ false → (came : List ℕ) → Visits table came old → Served table false (came ++ bytes) (account_of new.caller))
-    → OnOk r (new.is_over ≡ false → (came : List ℕ) → Visits table came old → Visits table (came ++ bytes) new)
+pub lines_read : (table : List Tenant) (old new : SessionState) (input to_come : Option (List ℕ)) (bytes read : List ℕ) (r : Result (Unit {0}) ScriptError) → old.is_held ≡ false → new.is_ended ≡ old.is_ended
+    → (old.is_ended ≡ false → (came : List ℕ) → HasReached table came old → Served table false (came ++ bytes) (account_of new.caller))
+    → OnOk r (new.is_over ≡ false → (came : List ℕ) → HasReached table came old → HasReached table (came ++ bytes) new)
     → old.is_over ≡ false → Consumes input to_come read → read ≡ bytes → Reads table old new input to_come (is_ok r)
 lines_read table old new input to_come bytes read r idle same served seats going consumed is = record {
   bytes = bytes;
   consumed = subst (Consumes input to_come) is consumed;
   at_end = λ unended ended. clash new.is_ended ended (same ∙ unended);
-  served = λ came visits. served_at_end table new.is_ended (came ++ bytes) (account_of new.caller) (served (visit_unended table came old idle going visits) came visits);
+  served = λ came reached. served_at_end table new.is_ended (came ++ bytes) (account_of new.caller) (served (state_unended table came old idle going reached) came reached);
   going = on_ok_true r _ seats;
 }
 
 -- ---- lines one after another
 
-pub further : (table : List Tenant) (old mid new : Visit) (used next : List ℕ) → ((came : List ℕ) → Visits table came old → Visits table (came ++ used) mid)
-    → ((came : List ℕ) → Visits table came mid → Visits table (came ++ next) new) → (came : List ℕ) → Visits table came old → Visits table (came ++ (used ++ next)) new
-further table old mid new used next one two came visits = subst (λ l. Visits table l new) (append_assoc came used next) (two (came ++ used) (one came visits))
+pub further : (table : List Tenant) (old mid new : SessionState) (used next : List ℕ) → ((came : List ℕ) → HasReached table came old → HasReached table (came ++ used) mid)
+    → ((came : List ℕ) → HasReached table came mid → HasReached table (came ++ next) new) → (came : List ℕ) → HasReached table came old → HasReached table (came ++ (used ++ next)) new
+further table old mid new used next one two came reached = subst (λ l. HasReached table l new) (append_assoc came used next) (two (came ++ used) (one came reached))
 
 pub none_left : (xs : List ℕ) → (length xs == 0) ≡ true → xs ≡ []
 none_left [] e = refl
 none_left (x ∷ xs) e = absurd (let long : length (x ∷ xs) ≡ 0 = eqb-true (length (x ∷ xs)) 0 e in omega arith)
 
 -- some of the bytes are used, whatever the rest
-pub used_served : (table : List Tenant) (old mid : Visit) (all used rest : List ℕ) → all ≡ used ++ rest → mid.is_ended ≡ old.is_ended
-    → ((came : List ℕ) → Visits table came old → Visits table (came ++ used) mid) → old.is_ended ≡ false → (came : List ℕ) → Visits table came old
+pub used_served : (table : List Tenant) (old mid : SessionState) (all used rest : List ℕ) → all ≡ used ++ rest → mid.is_ended ≡ old.is_ended
+    → ((came : List ℕ) → HasReached table came old → HasReached table (came ++ used) mid) → old.is_ended ≡ false → (came : List ℕ) → HasReached table came old
     → Served table false (came ++ all) (account_of mid.caller)
-used_served table old mid all used rest is same one unended came visits =
+used_served table old mid all used rest is same one unended came reached =
     let text : (came ++ used) ++ rest ≡ came ++ all = append_assoc came used rest ∙ ap (λ l. came ++ l) (sym is) in
     subst (λ l. Served table false l (account_of mid.caller)) text
-    (served_behind table (came ++ used) rest (account_of mid.caller) (unended_served table (came ++ used) mid (same ∙ unended) (one came visits)))
+    (served_behind table (came ++ used) rest (account_of mid.caller) (unended_served table (came ++ used) mid (same ∙ unended) (one came reached)))
 
 -- a fault came in the rest of them
-pub used_stops : (table : List Tenant) (old mid new : Visit) (all used rest : List ℕ) → all ≡ used ++ rest → ((came : List ℕ) → Visits table came old → Visits table (came ++ used) mid)
-    → ((came : List ℕ) → Visits table came mid → Served table false (came ++ rest) (account_of new.caller)) → old.is_ended ≡ false → (came : List ℕ) → Visits table came old
+pub used_stops : (table : List Tenant) (old mid new : SessionState) (all used rest : List ℕ) → all ≡ used ++ rest → ((came : List ℕ) → HasReached table came old → HasReached table (came ++ used) mid)
+    → ((came : List ℕ) → HasReached table came mid → Served table false (came ++ rest) (account_of new.caller)) → old.is_ended ≡ false → (came : List ℕ) → HasReached table came old
     → Served table false (came ++ all) (account_of new.caller)
-used_stops table old mid new all used rest is one stops unended came visits =
-    subst (λ l. Served table false l (account_of new.caller)) (append_assoc came used rest ∙ ap (λ l. came ++ l) (sym is)) (stops (came ++ used) (one came visits))
+used_stops table old mid new all used rest is one stops unended came reached =
+    subst (λ l. Served table false l (account_of new.caller)) (append_assoc came used rest ∙ ap (λ l. came ++ l) (sym is)) (stops (came ++ used) (one came reached))
 
 -- all bytes are used
-pub all_used : (table : List Tenant) (old new : Visit) (all used rest : List ℕ) → all ≡ used ++ rest → rest ≡ []
-    → ((came : List ℕ) → Visits table came old → Visits table (came ++ used) new) → (came : List ℕ) → Visits table came old → Visits table (came ++ all) new
-all_used table old new all used rest is none one came visits =
-    subst (λ l. Visits table (came ++ l) new) (sym (is ∙ ap (λ l. used ++ l) none ∙ append-nil used)) (one came visits)
+pub all_used : (table : List Tenant) (old new : SessionState) (all used rest : List ℕ) → all ≡ used ++ rest → rest ≡ []
+    → ((came : List ℕ) → HasReached table came old → HasReached table (came ++ used) new) → (came : List ℕ) → HasReached table came old → HasReached table (came ++ all) new
+all_used table old new all used rest is none one came reached =
+    subst (λ l. HasReached table (came ++ l) new) (sym (is ∙ ap (λ l. used ++ l) none ∙ append-nil used)) (one came reached)
 
 -- ---- from the beginning
 
 -- what has come since the beginning of a session that goes on
-pub record SoFar (table : List Tenant) (visit : Visit) (input to_come : Option (List ℕ)) : Type 0 where
+pub record SoFar (table : List Tenant) (state : SessionState) (input to_come : Option (List ℕ)) : Type 0 where
   pub bytes : List ℕ
   pub consumed : Consumes input to_come bytes
-  pub visits : Visits table bytes visit
-  pub held : visit.is_held ≡ false
-  pub over : visit.is_over ≡ false
+  pub reached : HasReached table bytes state
+  pub held : state.is_held ≡ false
+  pub over : state.is_over ≡ false
 
-pub begins : (table : List Tenant) (visit : Visit) (input : Option (List ℕ)) → IsNew visit → SoFar table visit input input
-begins table visit input new =
-    let nobody : account_of visit.caller ≡ None = ap account_of new.caller in
+pub begins : (table : List Tenant) (state : SessionState) (input : Option (List ℕ)) → IsNew state → SoFar table state input input
+begins table state input new =
+    let nobody : account_of state.caller ≡ None = ap account_of new.caller in
     let come = subst (λ l. HasCome [] [] l false) (sym new.line) nothing_came in
     record {
       bytes = [];
       consumed = Consumes-nil input;
-      visits = record {
+      reached = record {
         lines = [];
-        come = λ going. subst (λ h. HasCome [] [] visit.intake (h && not visit.is_ended)) (sym new.held) come;
+        come = λ going. subst (λ h. HasCome [] [] state.intake (h && not state.is_ended)) (sym new.held) come;
         first = subst (λ e. AreFirst e [] []) (sym new.ended) (λ more. front_of_all [] [] [] nothing_came more);
         serves = nobody;
         nobody = λ none going. refl;
-        done = λ e idle. clash visit.is_ended e new.ended;
+        done = λ e idle. clash state.is_ended e new.ended;
       };
       held = new.held;
       over = new.over;
     }
 
-pub nobody_yet : (table : List Tenant) (visit : Visit) (input : Option (List ℕ)) → IsNew visit → ServedOf table input (account_of visit.caller)
-nobody_yet table visit input new = served_of_known table false input input [] (account_of visit.caller) (Consumes-nil input) (λ ended. clash true refl (sym ended))
+pub nobody_yet : (table : List Tenant) (state : SessionState) (input : Option (List ℕ)) → IsNew state → ServedOf table input (account_of state.caller)
+nobody_yet table state input new = served_of_known table false input input [] (account_of state.caller) (Consumes-nil input) (λ ended. clash true refl (sym ended))
     (record { lines = []; first = λ more. front_of_all [] [] [] nothing_came more; serves = ap account_of new.caller })
 
-pub reads_on : (table : List Tenant) (old new : Visit) (input middle to_come : Option (List ℕ)) → new.is_held ≡ false → new.is_over ≡ false → (old.is_over ≡ false → Reads table old new middle to_come true)
+pub reads_on : (table : List Tenant) (old new : SessionState) (input middle to_come : Option (List ℕ)) → new.is_held ≡ false → new.is_over ≡ false → (old.is_over ≡ false → Reads table old new middle to_come true)
     → SoFar table old input middle → SoFar table new input to_come
 reads_on table old new input middle to_come held over reads so =
     let r = reads so.over in
     record {
       bytes = so.bytes ++ r.bytes;
       consumed = Consumes-trans input middle to_come so.bytes r.bytes so.consumed r.consumed;
-      visits = r.going refl over so.bytes so.visits;
+      reached = r.going refl over so.bytes so.reached;
       held = held;
       over = over;
     }
 
-pub reads_served : (table : List Tenant) (old new : Visit) (input middle to_come : Option (List ℕ)) (well : Bool) → (old.is_over ≡ false → Reads table old new middle to_come well)
+pub reads_served : (table : List Tenant) (old new : SessionState) (input middle to_come : Option (List ℕ)) (well : Bool) → (old.is_over ≡ false → Reads table old new middle to_come well)
     → SoFar table old input middle → ServedOf table input (account_of new.caller)
 reads_served table old new input middle to_come well reads so =
     let r = reads so.over in
     served_of_known table new.is_ended input to_come (so.bytes ++ r.bytes) (account_of new.caller) (Consumes-trans input middle to_come so.bytes r.bytes so.consumed r.consumed)
-    (λ ended. r.at_end (visit_unended table so.bytes old so.held so.over so.visits) ended) (r.served so.bytes so.visits)
+    (λ ended. r.at_end (state_unended table so.bytes old so.held so.over so.reached) ended) (r.served so.bytes so.reached)
 
-pub going_served : (table : List Tenant) (visit : Visit) (input to_come : Option (List ℕ)) → SoFar table visit input to_come → ServedOf table input (account_of visit.caller)
-going_served table visit input to_come so =
-    served_of_known table false input to_come so.bytes (account_of visit.caller) so.consumed (λ ended. clash true refl (sym ended))
-    (unended_served table so.bytes visit (visit_unended table so.bytes visit so.held so.over so.visits) so.visits)
+pub going_served : (table : List Tenant) (state : SessionState) (input to_come : Option (List ℕ)) → SoFar table state input to_come → ServedOf table input (account_of state.caller)
+going_served table state input to_come so =
+    served_of_known table false input to_come so.bytes (account_of state.caller) so.consumed (λ ended. clash true refl (sym ended))
+    (unended_served table so.bytes state (state_unended table so.bytes state so.held so.over so.reached) so.reached)
 
 -- ---- at the end
 

@@ -7,7 +7,7 @@ use Rattle.cql_hall.specs.declared.hall.Receipt.{Receipt}
 use Rattle.cql_lines.specs.Coming.{HasCome}
 use Rattle.cql_lines.specs.Text.{LineText, lines_of}
 use Rattle.cql_sessions.specs.declared.caller.Caller.{Caller}
-use Rattle.cql_sessions.specs.declared.visit.Visit.{Visit}
+use Rattle.cql_sessions.specs.declared.session_state.SessionState.{SessionState}
 use Rattle.cql_sessions.specs.Answering.{Account, Calls}
 use Rattle.cql_sessions.specs.Request.{logged_in, request_of}
 
@@ -74,24 +74,24 @@ abbrev pub account_of : Option Caller → Option Account
 account_of None = None
 account_of (Some caller) = Some (of_caller caller)
 
--- a visit to which these bytes have come
-abbrev pub Visits : List Tenant → List ℕ → Visit → Type 0
-Visits table bytes visit = Seated table bytes (account_of visit.caller) visit.intake visit.is_held visit.is_ended visit.is_over
+-- a session to which these bytes have come
+abbrev pub HasReached : List Tenant → List ℕ → SessionState → Type 0
+HasReached table bytes state = Seated table bytes (account_of state.caller) state.intake state.is_held state.is_ended state.is_over
 
 -- the same, where a line waits to be answered
-abbrev pub Faces : List Tenant → List ℕ → Visit → Type 0
-Faces table bytes visit = Seated table bytes (account_of visit.caller) visit.intake true visit.is_ended visit.is_over
+abbrev pub Faces : List Tenant → List ℕ → SessionState → Type 0
+Faces table bytes state = Seated table bytes (account_of state.caller) state.intake true state.is_ended state.is_over
 
 -- nothing has come yet
-pub record IsNew (visit : Visit) : Type 0 where
-  pub caller : visit.caller ≡ None
-  pub line : visit.intake ≡ []
-  pub held : visit.is_held ≡ false
-  pub ended : visit.is_ended ≡ false
-  pub over : visit.is_over ≡ false
+pub record IsNew (state : SessionState) : Type 0 where
+  pub caller : state.caller ≡ None
+  pub line : state.intake ≡ []
+  pub held : state.is_held ≡ false
+  pub ended : state.is_ended ≡ false
+  pub over : state.is_over ≡ false
 
 -- the line is done with, and the next one may come
-pub record HasGoneOn (old new : Visit) : Type 0 where
+pub record HasGoneOn (old new : SessionState) : Type 0 where
   pub caller : new.caller ≡ old.caller
   pub line : new.intake ≡ []
   pub held : new.is_held ≡ false
@@ -99,9 +99,9 @@ pub record HasGoneOn (old new : Visit) : Type 0 where
   pub over : new.is_over ≡ (old.is_ended || old.is_over)
 
 -- One read was made of a session that goes on, or none before a fault. The first lines were answered, and where all went well and it isn't over it goes on.
-pub record Reads (table : List Tenant) (old new : Visit) (input to_come : Option (List ℕ)) (well : Bool) : Type 0 where
+pub record Reads (table : List Tenant) (old new : SessionState) (input to_come : Option (List ℕ)) (well : Bool) : Type 0 where
   pub bytes : List ℕ
   pub consumed : Consumes input to_come bytes
   pub at_end : old.is_ended ≡ false → new.is_ended ≡ true → IsAtEnd to_come
-  pub served : (came : List ℕ) → Visits table came old → Served table new.is_ended (came ++ bytes) (account_of new.caller)
-  pub going : well ≡ true → new.is_over ≡ false → (came : List ℕ) → Visits table came old → Visits table (came ++ bytes) new
+  pub served : (came : List ℕ) → HasReached table came old → Served table new.is_ended (came ++ bytes) (account_of new.caller)
+  pub going : well ≡ true → new.is_over ≡ false → (came : List ℕ) → HasReached table came old → HasReached table (came ++ bytes) new

@@ -1,7 +1,7 @@
 -- What a connection has read and hasn't used yet.
 use Rattle.std.specs.Prelude.{ℕ, List}
-use Rattle.cql_sessions.specs.declared.connection.Came.{Came}
-use Rattle.cql_sessions.specs.declared.connection.Came.TheVariants.{Nothing, Unasked, Unused, Rest}
+use Rattle.cql_sessions.specs.declared.socket.Came.{Came}
+use Rattle.cql_sessions.specs.declared.socket.Came.TheVariants.{Nothing, Unasked, Unused, Rest}
 
 -- the bytes that are unread behind a turn: those of what came, or those of before
 abbrev pub unread_after : Came → List ℕ → List ℕ

@@ -2,8 +2,8 @@
 
 ghost use Rattle.std.specs.Prelude.{◌≡◌, ◌<◌, ◌≤◌};
 
-use crate::connection::is_later;
-use crate::guest::WaitsFor;
+use crate::connection::WaitsFor;
+use crate::socket::is_later;
 use std::io::Read;
 use std::net::{Shutdown, TcpStream};
 

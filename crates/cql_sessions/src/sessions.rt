@@ -2,13 +2,13 @@
 ghost use Rattle.std.specs.Prelude.{◌≡◌, ◌++◌, ◌<◌, List, ℕ, [], true, false, Some, None, IfSome, OnOk, All, is_ok, vec_len};
 ghost use Rattle.cql_lines.specs.Text.{lines_of};
 ghost use Rattle.cql_lines.specs.Watched.{inner_of};
-ghost use Rattle.cql_sessions.specs.Seating.{login_among, behind_login, Asks, Served, ServedOf, IsNew, Visits, Reads, account_of};
+ghost use Rattle.cql_sessions.specs.Seating.{login_among, behind_login, Asks, Served, ServedOf, IsNew, HasReached, Reads, account_of};
 ghost use Rattle.cql_sessions.specs.Tallies.{placed};
 
 use crate::callable::Callable;
 use crate::caller::Service;
 use crate::session_buffers::SessionBuffers;
-use crate::visit::Visit;
+use crate::session_state::SessionState;
 use cql_core::{Evaluator, TenantTable};
 use cql_hall::{Gate, Hall, Journal, Receipt, Seat};
 use cql_lines::Intake;
@@ -75,33 +75,33 @@ where
         table,
         gate,
     };
-    let mut visit = Visit::new(alloc, J::is_kept(), false);
-    let served = attend(&service, bench, &mut visit, &mut reader, &mut writer);
-    if served == Err(ScriptError::NoMemory) && visit.tenant().is_none() {
+    let mut state = SessionState::new(alloc, J::is_kept(), false);
+    let served = attend(&service, bench, &mut state, &mut reader, &mut writer);
+    if served == Err(ScriptError::NoMemory) && state.tenant().is_none() {
         let _ = write_fault(&mut writer, &LineFault::NoMemory);
     }
-    visit.into_end(alloc, served.err())
+    state.into_end(alloc, served.err())
 }
 
 // Serves a caller of whom nothing has come.
 fn attend<H: Wait, C: Callable<H, G>, E: Evaluator, G: Gate, R: Read, W: Write>(
     service: &Service<'_, H, C, G>,
     bench: &mut E,
-    visit: &mut Visit,
+    state: &mut SessionState,
     reader: &mut Watched<R>,
     writer: &mut Watched<W>,
 ) -> Result<(), ScriptError>
     requires bench { E.is_ready bench.old }
-    requires going { visit.old.is_held ≡ false }
+    requires going { state.old.is_held ≡ false }
     ensures bench { E.is_ready bench.new }
-    ensures kept { visit.new.is_kept ≡ visit.old.is_kept }
-    ensures served { IsNew visit.old → ServedOf service.now.table.now (R.remaining (inner_of reader.old)) (account_of visit.new.caller) }
+    ensures kept { state.new.is_kept ≡ state.old.is_kept }
+    ensures served { IsNew state.old → ServedOf service.now.table.now (R.remaining (inner_of reader.old)) (account_of state.new.caller) }
 {
-    visit.intake = Intake::with_room(service.alloc)?;
+    state.intake = Intake::with_room(service.alloc)?;
     let mut buffers = SessionBuffers::new(service.alloc)?;
     for _ in 0..MAX_READS {
-        read_once(service, bench, visit, &mut buffers, reader, writer)?;
-        if visit.is_over {
+        read_once(service, bench, state, &mut buffers, reader, writer)?;
+        if state.is_over {
             buffers.buffer.flush(writer)?;
             return Ok(());
         }
@@ -114,19 +114,19 @@ fn attend<H: Wait, C: Callable<H, G>, E: Evaluator, G: Gate, R: Read, W: Write>(
 fn read_once<H: Wait, C: Callable<H, G>, E: Evaluator, G: Gate, R: Read, W: Write>(
     service: &Service<'_, H, C, G>,
     bench: &mut E,
-    visit: &mut Visit,
+    state: &mut SessionState,
     buffers: &mut SessionBuffers,
     reader: &mut Watched<R>,
     writer: &mut Watched<W>,
 ) -> Result<(), ScriptError>
     requires bench { E.is_ready bench.old }
-    requires going { visit.old.is_held ≡ false }
+    requires going { state.old.is_held ≡ false }
     requires room { 0 < vec_len buffers.old.chunk }
     ensures bench { E.is_ready bench.new }
-    ensures kept { visit.new.is_kept ≡ visit.old.is_kept }
-    ensures going { OnOk result (visit.new.is_held ≡ false) }
+    ensures kept { state.new.is_kept ≡ state.old.is_kept }
+    ensures going { OnOk result (state.new.is_held ≡ false) }
     ensures room { vec_len buffers.new.chunk ≡ vec_len buffers.old.chunk }
-    ensures reads { visit.old.is_over ≡ false → Reads service.now.table.now visit.old visit.new
+    ensures reads { state.old.is_over ≡ false → Reads service.now.table.now state.old state.new
         (R.remaining (inner_of reader.old)) (R.remaining (inner_of reader.new)) (is_ok result) }
 {
     let SessionBuffers {
@@ -137,14 +137,14 @@ fn read_once<H: Wait, C: Callable<H, G>, E: Evaluator, G: Gate, R: Read, W: Writ
     buffer.flush(writer)?;
     let count = reader.read(chunk)?;
     if count == 0 {
-        visit.is_ended = true;
-        visit.answer_whole(service, bench, true, buffer, scratch, writer)?;
+        state.is_ended = true;
+        state.answer_whole(service, bench, true, buffer, scratch, writer)?;
         return Ok(());
     }
     take_lines(
         service,
         bench,
-        visit,
+        state,
         &chunk[..count],
         buffer,
         scratch,
@@ -156,25 +156,25 @@ fn read_once<H: Wait, C: Callable<H, G>, E: Evaluator, G: Gate, R: Read, W: Writ
 fn take_lines<H: Wait, C: Callable<H, G>, E: Evaluator, G: Gate, W: Write>(
     service: &Service<'_, H, C, G>,
     bench: &mut E,
-    visit: &mut Visit,
+    state: &mut SessionState,
     bytes: &[u8],
     buffer: &mut ReplyBuffer,
     scratch: &mut Scratch,
     writer: &mut Watched<W>,
 ) -> Result<(), ScriptError>
     requires bench { E.is_ready bench.old }
-    requires going { visit.old.is_held ≡ false }
+    requires going { state.old.is_held ≡ false }
     ensures bench { E.is_ready bench.new }
-    ensures same { (visit.new.is_kept ≡ visit.old.is_kept) × (visit.new.is_ended ≡ visit.old.is_ended) }
-    ensures going { OnOk result (visit.new.is_held ≡ false) }
-    ensures served { visit.old.is_ended ≡ false → (came : List ℕ) → Visits service.now.table.now came visit.old
-        → Served service.now.table.now false (came ++ bytes.now) (account_of visit.new.caller) }
-    ensures seats { OnOk result (visit.new.is_over ≡ false → (came : List ℕ)
-        → Visits service.now.table.now came visit.old → Visits service.now.table.now (came ++ bytes.now) visit.new) }
+    ensures same { (state.new.is_kept ≡ state.old.is_kept) × (state.new.is_ended ≡ state.old.is_ended) }
+    ensures going { OnOk result (state.new.is_held ≡ false) }
+    ensures served { state.old.is_ended ≡ false → (came : List ℕ) → HasReached service.now.table.now came state.old
+        → Served service.now.table.now false (came ++ bytes.now) (account_of state.new.caller) }
+    ensures seats { OnOk result (state.new.is_over ≡ false → (came : List ℕ)
+        → HasReached service.now.table.now came state.old → HasReached service.now.table.now (came ++ bytes.now) state.new) }
 {
     let mut rest = bytes;
-    while !rest.is_empty() && !visit.is_over {
-        let step = visit.take_line(service, bench, rest, true, buffer, scratch, writer)?;
+    while !rest.is_empty() && !state.is_over {
+        let step = state.take_line(service, bench, rest, true, buffer, scratch, writer)?;
         rest = &rest[step.count..];
     }
     Ok(())

@@ -9,20 +9,20 @@ loop-init g c = record {
   kept = refl;
   going = c.requires.going;
   room = omega (arith, c.in_ok-buffers.ensures.room);
-  so_far = λ new. begins c.args.service.now.table.now _ _ (record { caller = new.caller; line = c.in_ok-visit.ensures; held = new.held; ended = new.ended; over = new.over });
+  so_far = λ new. begins c.args.service.now.table.now _ _ (record { caller = new.caller; line = c.in_ok-state.ensures; held = new.held; ended = new.ended; over = new.over });
 }
 
 pub returns-in_err-read_once-clause-served : goal.returns-in_err-read_once-clause-served
 returns-in_err-read_once-clause-served g c = λ new.
-    reads_served c.args.service.now.table.now c.loop.visit c.read_once.new.visit _ _ _ _ c.in_err-read_once.ensures.reads (c.loop.invariant.so_far new)
+    reads_served c.args.service.now.table.now c.loop.state c.read_once.new.state _ _ _ _ c.in_err-read_once.ensures.reads (c.loop.invariant.so_far new)
 
 pub returns-in_err-flush-clause-served : goal.returns-in_err-flush-clause-served
 returns-in_err-flush-clause-served g c = λ new.
-    reads_served c.args.service.now.table.now c.loop.visit c.read_once.new.visit _ _ _ _ c.in_ok-read_once.ensures.reads (c.loop.invariant.so_far new)
+    reads_served c.args.service.now.table.now c.loop.state c.read_once.new.state _ _ _ _ c.in_ok-read_once.ensures.reads (c.loop.invariant.so_far new)
 
-pub returns-then-visit-clause-served : goal.returns-then-visit-clause-served
-returns-then-visit-clause-served g c = λ new.
-    reads_served c.args.service.now.table.now c.loop.visit c.read_once.new.visit _ _ _ _ c.in_ok-read_once.ensures.reads (c.loop.invariant.so_far new)
+pub returns-then-state-clause-served : goal.returns-then-state-clause-served
+returns-then-state-clause-served g c = λ new.
+    reads_served c.args.service.now.table.now c.loop.state c.read_once.new.state _ _ _ _ c.in_ok-read_once.ensures.reads (c.loop.invariant.so_far new)
 
 pub loop-preserved : goal.loop-preserved
 loop-preserved g c = record {
@@ -31,27 +31,27 @@ loop-preserved g c = record {
   going = c.in_ok-read_once.ensures.going;
   room = omega (arith, c.in_ok-read_once.ensures.room, c.loop.invariant.room);
   so_far = λ new.
-      reads_on c.args.service.now.table.now c.loop.visit c.read_once.new.visit _ _ _ c.in_ok-read_once.ensures.going c.if-visit.false c.in_ok-read_once.ensures.reads
+      reads_on c.args.service.now.table.now c.loop.state c.read_once.new.state _ _ _ c.in_ok-read_once.ensures.going c.if-state.false c.in_ok-read_once.ensures.reads
       (c.loop.invariant.so_far new);
 }
 
-pub returns-in_err-visit-clause-served : goal.returns-in_err-visit-clause-served
-returns-in_err-visit-clause-served g c = λ new. nobody_yet c.args.service.now.table.now c.args.visit.now _ new
+pub returns-in_err-state-clause-served : goal.returns-in_err-state-clause-served
+returns-in_err-state-clause-served g c = λ new. nobody_yet c.args.service.now.table.now c.args.state.now _ new
 
 pub returns-in_err-buffers-clause-served : goal.returns-in_err-buffers-clause-served
-returns-in_err-buffers-clause-served g c = λ new. nobody_yet c.args.service.now.table.now c.args.visit.now _ new
+returns-in_err-buffers-clause-served g c = λ new. nobody_yet c.args.service.now.table.now c.args.state.now _ new
 
 pub returns-clause-served : goal.returns-clause-served
-returns-clause-served g c = λ new. going_served c.args.service.now.table.now c.loop.visit _ _ (c.loop.invariant.so_far new)
+returns-clause-served g c = λ new. going_served c.args.service.now.table.now c.loop.state _ _ (c.loop.invariant.so_far new)
 
 pub returns-in_err-flush-clause-kept : goal.returns-in_err-flush-clause-kept
 returns-in_err-flush-clause-kept g c = grind (arith, common_steps)
 
-pub returns-then-visit-clause-kept : goal.returns-then-visit-clause-kept
-returns-then-visit-clause-kept g c = grind (arith, common_steps)
+pub returns-then-state-clause-kept : goal.returns-then-state-clause-kept
+returns-then-state-clause-kept g c = grind (arith, common_steps)
 
-pub returns-then-visit-clause-bench : goal.returns-then-visit-clause-bench
-returns-then-visit-clause-bench g c = grind (arith, common_steps)
+pub returns-then-state-clause-bench : goal.returns-then-state-clause-bench
+returns-then-state-clause-bench g c = grind (arith, common_steps)
 
 pub returns-in_err-read_once-clause-kept : goal.returns-in_err-read_once-clause-kept
 returns-in_err-read_once-clause-kept g c = grind (arith, common_steps)

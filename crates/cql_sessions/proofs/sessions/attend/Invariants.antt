@@ -7,8 +7,8 @@ use Rattle.cql_sessions.proofs.sessions.attend.Given as goal
 abbrev pub invariant-loop : goal.invariant-loop
 invariant-loop g l = record {
   bench : g.E.Evaluator.is_ready l.bench;
-  kept : l.visit.is_kept ≡ l.initial.visit.is_kept;
-  going : l.visit.is_held ≡ false;
+  kept : l.state.is_kept ≡ l.initial.state.is_kept;
+  going : l.state.is_held ≡ false;
   room : 0 < vec_len l.buffers.chunk;
-  so_far : IsNew l.fn.visit → SoFar l.fn.service.table.now l.visit (g.R.Read.remaining (inner_of l.fn.reader)) (g.R.Read.remaining (inner_of l.reader));
+  so_far : IsNew l.fn.state → SoFar l.fn.service.table.now l.state (g.R.Read.remaining (inner_of l.fn.reader)) (g.R.Read.remaining (inner_of l.reader));
 }

@@ -8,7 +8,7 @@ use Rattle.cql_sessions.proofs.sessions.read_once.Goals as goal
 
 pub returns-in_err-flush-clause-reads : goal.returns-in_err-flush-clause-reads
 returns-in_err-flush-clause-reads g c =
-    λ going. still_reads c.args.service.now.table.now c.args.visit.now _ _ _ c.requires.going (Keeps-refl (g.R.Read.remaining (inner_of c.args.reader.now))) going
+    λ going. still_reads c.args.service.now.table.now c.args.state.now _ _ _ c.requires.going (Keeps-refl (g.R.Read.remaining (inner_of c.args.reader.now))) going
 
 pub returns-then-count-eq0-clause-reads : goal.returns-then-count-eq0-clause-reads
 returns-then-count-eq0-clause-reads g c =
@@ -18,12 +18,12 @@ returns-then-count-eq0-clause-reads g c =
     let full : 0 < length c.read.new.buf = search rules in
     let at_end : IsAtEnd after = c.in_ok-count.ensures.bytes.1 c.if-count-eq0.true full in
     λ going.
-    end_reads c.args.service.now.table.now c.args.visit.now c.answer_whole.new.self before after true consumed at_end
-    (λ came visits. c.in_ok-answer_whole.ensures.seats going came (end_faces c.args.service.now.table.now came c.args.visit.now c.requires.going going visits))
+    end_reads c.args.service.now.table.now c.args.state.now c.answer_whole.new.self before after true consumed at_end
+    (λ came reached. c.in_ok-answer_whole.ensures.seats going came (end_faces c.args.service.now.table.now came c.args.state.now c.requires.going going reached))
 
 pub returns-clause-reads : goal.returns-clause-reads
 returns-clause-reads g c = λ going.
-    lines_read c.args.service.now.table.now c.args.visit.now c.take_lines.new.visit _ _ _ _ c.take_lines.result c.requires.going c.take_lines.ensures.same.1 c.take_lines.ensures.served c.take_lines.ensures.seats
+    lines_read c.args.service.now.table.now c.args.state.now c.take_lines.new.state _ _ _ _ c.take_lines.result c.requires.going c.take_lines.ensures.same.1 c.take_lines.ensures.served c.take_lines.ensures.seats
     going c.in_ok-count.ensures.bytes.0 (chunk_read _ c.in_ok-count.count _ _ _ c.deref.ensures.value (first_of (search rules, grind arith)))
 
 pub returns-in_err-count-clause-reads : goal.returns-in_err-count-clause-reads
@@ -37,5 +37,5 @@ returns-in_err-answer_whole-clause-reads g c =
     let full : 0 < length c.read.new.buf = search rules in
     let at_end : IsAtEnd after = c.in_ok-count.ensures.bytes.1 c.if-count-eq0.true full in
     λ going.
-    end_stops c.args.service.now.table.now c.args.visit.now c.answer_whole.new.self before after _ (first_of (search rules, grind (arith, common_steps))) consumed at_end
-    (λ came visits. c.in_err-answer_whole.ensures.stops going came (end_faces c.args.service.now.table.now came c.args.visit.now c.requires.going going visits))
+    end_stops c.args.service.now.table.now c.args.state.now c.answer_whole.new.self before after _ (first_of (search rules, grind (arith, common_steps))) consumed at_end
+    (λ came reached. c.in_err-answer_whole.ensures.stops going came (end_faces c.args.service.now.table.now came c.args.state.now c.requires.going going reached))

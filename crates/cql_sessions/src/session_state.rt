@@ -17,7 +17,7 @@ use std::sync::Wait;
 
 /// A session as far as its input has come: who has logged in, and the line that isn't answered
 /// yet.
-pub(crate) struct Visit {
+pub(crate) struct SessionState {
     pub caller: Option<Caller>,
     pub intake: Intake,
     /// Whether its calls are kept.
@@ -33,9 +33,9 @@ pub(crate) struct Visit {
     ghost same: { ForSome caller (λ c. c.is_kept ≡ is_kept) },
 }
 
-impl Drop for Visit {
+impl Drop for SessionState {
     fn drop(self) {
-        let Visit {
+        let SessionState {
             caller: _,
             intake: _,
             is_kept: _,
@@ -66,18 +66,18 @@ pub(crate) struct Progress {
     pub outcome: LineOutcome,
 }
 
-impl Visit {
+impl SessionState {
     ghost use Rattle.cql_lines.specs.Text.{shown_line};
     ghost use Rattle.cql_sessions.specs.InHand.{visit_to_come};
-    ghost use Rattle.cql_sessions.specs.Seating.{IsNew, HasGoneOn, Visits, Faces, Served, Answers, account_of};
+    ghost use Rattle.cql_sessions.specs.Seating.{IsNew, HasGoneOn, HasReached, Faces, Served, Answers, account_of};
 
     /// Nothing has come yet. Takes no memory. What is told of fetches is told bit by bit, or at once.
-    pub(crate) fn new(alloc: Global, is_kept: bool, is_bitwise: bool) -> Visit
+    pub(crate) fn new(alloc: Global, is_kept: bool, is_bitwise: bool) -> SessionState
         ensures kept { result.is_kept ≡ is_kept }
         ensures going { result.is_held ≡ false }
         ensures begins { IsNew result }
     {
-        Visit {
+        SessionState {
             caller: None,
             intake: Intake::new(alloc),
             is_kept,
@@ -152,9 +152,9 @@ impl Visit {
         ensures same { (self.new.is_kept ≡ self.old.is_kept) × (self.new.is_ended ≡ self.old.is_ended) }
         ensures going { may_fetch ≡ true → OnOk result (self.new.is_held ≡ false) }
         ensures seats { IfOk result (λ step. self.old.is_over ≡ false → (came : List ℕ)
-            → Visits service.now.table.now came self.old → Visits service.now.table.now (came ++ take step.count bytes.now) self.new) }
+            → HasReached service.now.table.now came self.old → HasReached service.now.table.now (came ++ take step.count bytes.now) self.new) }
         ensures stops { OnErr result (self.old.is_over ≡ false → (came : List ℕ)
-            → Visits service.now.table.now came self.old → Served service.now.table.now false (came ++ bytes.now) (account_of self.new.caller)) }
+            → HasReached service.now.table.now came self.old → Served service.now.table.now false (came ++ bytes.now) (account_of self.new.caller)) }
         ensures within { IfOk result (λ step. (min 1 (length bytes.now) ≤ step.count) × (step.count ≤ length bytes.now)) }
     {
         let taken = self.intake.take(bytes)?;
@@ -187,7 +187,7 @@ impl Visit {
         ensures same { (self.new.is_kept ≡ self.old.is_kept) × (self.new.is_ended ≡ self.old.is_ended) }
         ensures going { may_fetch ≡ true → OnOk result (self.new.is_held ≡ false) }
         ensures seats { OnOk result (self.old.is_over ≡ false → (came : List ℕ)
-            → Faces service.now.table.now came self.old → Visits service.now.table.now came self.new) }
+            → Faces service.now.table.now came self.old → HasReached service.now.table.now came self.new) }
         ensures stops { OnErr result (self.old.is_over ≡ false → (came : List ℕ)
             → Faces service.now.table.now came self.old → Served service.now.table.now self.new.is_ended came (account_of self.new.caller)) }
     {
@@ -264,7 +264,7 @@ impl Visit {
         ensures seat { result.seat ≡ option_map (λ caller. caller.seat) self.caller }
         ensures receipts { IfSome self.caller (λ caller. result.receipts ≡ caller.receipts) }
     {
-        let Visit {
+        let SessionState {
             caller,
             intake: _,
             is_kept: _,

@@ -1,12 +1,12 @@
 // What the accepting thread and the workers share.
 ghost use Rattle.std.specs.Prelude.{◌≡◌, ◌⊎◌, true, false, IfSome};
 
-use crate::floor::{Floor, Gone, Next, Turn};
-use crate::lookout::Lookout;
-use crate::turns::Task;
-use crate::wires::Wires;
+use crate::connection_table::{ConnectionTable, Gone, Next, Turn};
+use crate::driver::Driver;
+use crate::poller::Poller;
+use crate::run_queue::Task;
 use cql_hall::{EndReason, Gate, Point};
-use cql_sessions::{Answers, Connected, May, WaitsFor};
+use cql_sessions::{Answers, Connected, Permit, WaitsFor};
 use cql_wire::ScriptError;
 use mio::unix::SourceFd;
 use mio::{Interest, Registry, Token, Waker};
@@ -18,102 +18,102 @@ use std::sync::{Condvar, Mutex, MutexGuard, Wait};
 use std::time::{Clock, Instant};
 
 /// The callers who are connected, and what tells of those who send.
-pub struct House<'a, T, D> {
+pub struct Scheduler<'a, T, D> {
     alloc: Global,
     // what the threads compute
     answers: &'a Answers,
     // whether calls are kept
     is_kept: bool,
-    floor: Mutex<Floor<T, D>>,
+    connections: Mutex<ConnectionTable<T, D>>,
     // tells workers that something waits for them
     called: Condvar,
     // how much waits for workers
     waiting: AtomicUsize,
     // tells who has sent
-    lookout: Mutex<Lookout>,
+    poller: Mutex<Poller>,
     registry: Registry,
     // wakes the thread that looks who has sent
-    bell: Waker,
+    poll_waker: Waker,
     // wakes the accepting thread
     waker: Waker,
 }
 
-impl<T: Drop, D: Drop> Drop for House<'_, T, D> {
+impl<T: Drop, D: Drop> Drop for Scheduler<'_, T, D> {
     fn drop(self) {
-        let House {
+        let Scheduler {
             alloc: _,
             answers: _,
             is_kept: _,
-            floor: _,
+            connections: _,
             called: _,
             waiting: _,
-            lookout: _,
+            poller: _,
             registry: _,
-            bell: _,
+            poll_waker: _,
             waker: _,
         } = self;
     }
 }
 
-impl<'a, T: Connected<End = D>, D: Drop> House<'a, T, D> {
+impl<'a, T: Connected<End = D>, D: Drop> Scheduler<'a, T, D> {
     /// Nobody is connected. Calls are kept or aren't. The threads compute these answers.
     pub fn new(
         alloc: Global,
         answers: &'a Answers,
         is_kept: bool,
-        floor: Floor<T, D>,
-        wires: Wires,
-    ) -> House<'a, T, D> {
-        let Wires {
-            lookout,
+        connections: ConnectionTable<T, D>,
+        driver: Driver,
+    ) -> Scheduler<'a, T, D> {
+        let Driver {
+            poller,
             registry,
-            bell,
+            poll_waker,
             waker,
-        } = wires;
-        House {
+        } = driver;
+        Scheduler {
             alloc,
             answers,
             is_kept,
-            floor: Mutex::new(floor),
+            connections: Mutex::new(connections),
             called: Condvar::new(),
             waiting: AtomicUsize::new(0),
-            lookout: Mutex::new(lookout),
+            poller: Mutex::new(poller),
             registry,
-            bell,
+            poll_waker,
             waker,
         }
     }
 
     /// The ends of all sessions; or there was no room for one.
     pub fn into_ends(self) -> Result<Vec<D>, AllocError> {
-        let House {
+        let Scheduler {
             alloc: _,
             answers: _,
             is_kept: _,
-            floor,
+            connections,
             called: _,
             waiting: _,
-            lookout: _,
+            poller: _,
             registry: _,
-            bell: _,
+            poll_waker: _,
             waker: _,
         } = self;
-        floor.into_inner().into_ends()
+        connections.into_inner().into_ends()
     }
 
     /// Whether nobody is connected.
     pub fn is_empty<R: Wait>(&self, rt: &R) -> bool {
-        self.floor.lock(rt).is_empty()
+        self.connections.lock(rt).is_empty()
     }
 
     /// Whether no further caller has room.
     pub fn is_full<R: Wait>(&self, rt: &R) -> bool {
-        self.floor.lock(rt).is_full()
+        self.connections.lock(rt).is_full()
     }
 
     /// Whether callers who haven't logged in keep others out.
     pub fn is_crowded<R: Wait>(&self, rt: &R) -> bool {
-        self.floor.lock(rt).is_crowded()
+        self.connections.lock(rt).is_crowded()
     }
 
     // Whether something waits for a worker.
@@ -123,9 +123,9 @@ impl<'a, T: Connected<End = D>, D: Drop> House<'a, T, D> {
 
     /// Ends the workers, each once it has ended its turn.
     pub fn close<R: Wait>(&self, rt: &R) {
-        self.floor.lock(rt).is_closed = true;
+        self.connections.lock(rt).is_closed = true;
         self.called.notify_all();
-        let _ = self.bell.wake();
+        let _ = self.poll_waker.wake();
     }
 
     /// Lets a caller in, and waits for its first bytes.
@@ -136,21 +136,21 @@ impl<'a, T: Connected<End = D>, D: Drop> House<'a, T, D> {
         stream: TcpStream,
     ) -> io::Result<()> {
         let since = Instant::now(rt)?;
-        let guest = Box::new(self.alloc, T::new(self.alloc, stream, self.is_kept)?)?;
-        let fd = guest.link().raw_fd();
-        let token = self.floor.lock(rt).enter(guest, since)?;
+        let connection = Box::new(self.alloc, T::new(self.alloc, stream, self.is_kept)?)?;
+        let fd = connection.socket().raw_fd();
+        let token = self.connections.lock(rt).enter(connection, since)?;
         let told = self
             .registry
             .register(&mut SourceFd(&fd), token, Interest::READABLE);
         if told.is_ok() {
             gate.at(Point::Opened);
         } else {
-            self.floor.lock(rt).turn_away(token);
+            self.connections.lock(rt).turn_away(token);
         }
         told
     }
 
-    /// The next guest whose turn it is, once there is one, at a thread of this index that computes
+    /// The next connection whose turn it is, once there is one, at a thread of this index that computes
     /// answers or at one that doesn't; or none where the workers are to end. The thread may look who has
     /// sent.
     pub fn next<R: Wait + Clock, G: Gate>(
@@ -160,32 +160,32 @@ impl<'a, T: Connected<End = D>, D: Drop> House<'a, T, D> {
         thread: usize,
         computes: bool,
     ) -> Option<Task<Turn<T>>> {
-        let mut floor = self.floor.lock(rt);
+        let mut connections = self.connections.lock(rt);
         for _ in rt.forever() {
-            if floor.is_closed {
+            if connections.is_closed {
                 return None;
             }
-            let next = floor.next(computes);
-            self.waiting.store(floor.waiting(), Ordering::SeqCst);
+            let next = connections.next(computes);
+            self.waiting.store(connections.waiting(), Ordering::SeqCst);
             match next {
                 Next::Turn(task) => {
                     if task.is_answer {
                         self.answers.attend(rt, thread, task.item.key);
                     }
-                    if floor.has_more() {
+                    if connections.has_more() {
                         self.called.notify_one();
                     }
                     return Some(task);
                 }
                 Next::Look => {
-                    drop(floor);
-                    floor = self.look(rt, gate, false);
+                    drop(connections);
+                    connections = self.look(rt, gate, false);
                 }
                 Next::WatchOut => {
-                    drop(floor);
-                    floor = self.look(rt, gate, true);
+                    drop(connections);
+                    connections = self.look(rt, gate, true);
                 }
-                Next::Wait => floor = self.called.wait(rt, floor),
+                Next::Wait => connections = self.called.wait(rt, connections),
             }
         }
         None
@@ -198,34 +198,34 @@ impl<'a, T: Connected<End = D>, D: Drop> House<'a, T, D> {
         rt: &R,
         gate: &G,
         may_wait: bool,
-    ) -> MutexGuard<'_, Floor<T, D>> {
-        let mut lookout = self.lookout.lock(rt);
-        lookout.look(rt, may_wait);
+    ) -> MutexGuard<'_, ConnectionTable<T, D>> {
+        let mut poller = self.poller.lock(rt);
+        poller.look(rt, may_wait);
         let mut left = Vec::new(self.alloc);
-        let mut floor = self.floor.lock(rt);
-        for event in &lookout.events {
+        let mut connections = self.connections.lock(rt);
+        for event in &poller.events {
             let token = event.token();
             let ended = if event.is_error() || event.is_write_closed() {
-                self.let_go(rt, &mut floor, token)
+                self.let_go(rt, &mut connections, token)
             } else {
-                floor.call(token)
+                connections.call(token)
             };
             if let Err(turn) = ended {
-                drop(floor);
+                drop(connections);
                 self.end_gone(rt, gate, turn);
-                floor = self.floor.lock(rt);
+                connections = self.connections.lock(rt);
             }
         }
-        floor.take_gone(&mut left);
-        floor.is_looked = false;
+        connections.take_gone(&mut left);
+        connections.is_looked = false;
         if left.is_empty() {
-            return floor;
+            return connections;
         }
-        drop(floor);
+        drop(connections);
         for turn in left {
             self.end_gone(rt, gate, turn);
         }
-        self.floor.lock(rt)
+        self.connections.lock(rt)
     }
 
     // Ends the session of a caller who has gone, or for whom there is no memory.
@@ -235,15 +235,15 @@ impl<'a, T: Connected<End = D>, D: Drop> House<'a, T, D> {
         self.end(rt, gate, turn, fault, reason);
     }
 
-    // The caller of a token has gone. A guest who waits for him comes back; an answer that is computed
-    // for him is given up.
+    // The caller of a token has gone. A connection that waits for him comes back; an answer that is
+    // computed for him is given up.
     fn let_go<R: Wait>(
         &self,
         rt: &R,
-        floor: &mut Floor<T, D>,
+        connections: &mut ConnectionTable<T, D>,
         token: Token,
     ) -> Result<(), Turn<T>> {
-        match floor.go(token) {
+        match connections.go(token) {
             Gone::Nobody => Ok(()),
             Gone::Waited(turn) => Err(turn),
             Gone::Served(key) => {
@@ -253,44 +253,44 @@ impl<'a, T: Connected<End = D>, D: Drop> House<'a, T, D> {
         }
     }
 
-    /// What a worker of this index may do next for a guest who has had a turn, if it goes on with the
-    /// guest: answer the fetch that waits, where it computes answers; or lines, of one who needs a worker
-    /// or bytes. An answer that it computed has ended. Who has logged in has a place of its tenant's, or
-    /// is to be told that it may have none.
+    /// What a worker of this index may do next for a connection that has had a turn, if it goes on
+    /// with the connection: answer the fetch that waits, where it computes answers; or lines, of one
+    /// who needs a worker or bytes. An answer that it computed has ended. Who has logged in has a
+    /// place of its tenant's, or is to be told that it may have none.
     pub fn goes_on<R: Wait>(
         &self,
         rt: &R,
         turn: &mut Turn<T>,
         needs: WaitsFor,
-        last: May,
+        last: Permit,
         thread: usize,
         computes: bool,
-    ) -> Option<May>
-        ensures guest { (turn.new.key ≡ turn.old.key) × (turn.new.guest ≡ turn.old.guest) }
-        ensures fetch { IfSome result (λ may. may.fetch ≡ true → (computes ≡ true) × (needs ≡ WaitsFor.Answer)) }
-        ensures short { IfSome result (λ may. may.fetch ≡ false → (needs ≡ WaitsFor.Worker) ⊎ (needs ≡ WaitsFor.Bytes)) }
+    ) -> Option<Permit>
+        ensures connection { (turn.new.key ≡ turn.old.key) × (turn.new.connection ≡ turn.old.connection) }
+        ensures fetch { IfSome result (λ permit. permit.fetch ≡ true → (computes ≡ true) × (needs ≡ WaitsFor.Answer)) }
+        ensures short { IfSome result (λ permit. permit.fetch ≡ false → (needs ≡ WaitsFor.Worker) ⊎ (needs ≡ WaitsFor.Bytes)) }
     {
         if last.fetch {
             self.end_answer(rt, turn.owner(), thread);
         }
         if turn.wants_place() && !matches!(needs, WaitsFor::End(_)) {
-            self.floor.lock(rt).seat(turn);
+            self.connections.lock(rt).seat(turn);
             if turn.is_above {
                 return None;
             }
         }
         match needs {
-            WaitsFor::Answer if computes && self.begin_answer(rt, turn, thread) => Some(May {
+            WaitsFor::Answer if computes && self.begin_answer(rt, turn, thread) => Some(Permit {
                 fetch: true,
                 wait: false,
             }),
-            WaitsFor::Worker if !self.is_waited_for() => Some(May {
+            WaitsFor::Worker if !self.is_waited_for() => Some(Permit {
                 fetch: false,
                 wait: last.wait,
             }),
             WaitsFor::Bytes if self.may_wait_for(turn) => {
                 self.unlist(turn);
-                Some(May {
+                Some(Permit {
                     fetch: false,
                     wait: true,
                 })
@@ -299,15 +299,17 @@ impl<'a, T: Connected<End = D>, D: Drop> House<'a, T, D> {
         }
     }
 
-    // Whether a worker may wait a moment for the guest's caller, who mostly sends again at once.
+    // Whether a worker may wait a moment for the connection's caller, who mostly sends again at once.
     fn may_wait_for(&self, turn: &Turn<T>) -> bool {
-        turn.guest.link().is_quick() && !turn.guest.is_refused() && !self.is_waited_for()
+        turn.connection.socket().is_quick()
+            && !turn.connection.is_refused()
+            && !self.is_waited_for()
     }
 
-    // Begins an answer for the guest at the thread of this index, if it needn't wait.
+    // Begins an answer for the connection at the thread of this index, if it needn't wait.
     fn begin_answer<R: Wait>(&self, rt: &R, turn: &Turn<T>, thread: usize) -> bool {
-        let mut floor = self.floor.lock(rt);
-        let has_begun = floor.begin_answer(turn);
+        let mut connections = self.connections.lock(rt);
+        let has_begun = connections.begin_answer(turn);
         if has_begun {
             self.answers.attend(rt, thread, turn.key);
         }
@@ -317,22 +319,22 @@ impl<'a, T: Connected<End = D>, D: Drop> House<'a, T, D> {
     // An answer for the owner by the thread of this index has ended.
     fn end_answer<R: Wait>(&self, rt: &R, owner: usize, thread: usize) {
         self.answers.leave(rt, thread);
-        let mut floor = self.floor.lock(rt);
-        floor.end_answer(owner);
-        self.waiting.store(floor.waiting(), Ordering::SeqCst);
+        let mut connections = self.connections.lock(rt);
+        connections.end_answer(owner);
+        self.waiting.store(connections.waiting(), Ordering::SeqCst);
     }
 
-    // From now on it isn't told what comes for the guest, but still where its caller has gone.
+    // From now on it isn't told what comes for the connection, but still where its caller has gone.
     fn unlist(&self, turn: &mut Turn<T>)
-        ensures guest { (turn.new.key ≡ turn.old.key) × (turn.new.guest ≡ turn.old.guest) }
+        ensures connection { (turn.new.key ≡ turn.old.key) × (turn.new.connection ≡ turn.old.connection) }
     {
         if turn.is_listed {
             turn.is_listed = self.listen(turn, Interest::PRIORITY).is_err();
         }
     }
 
-    // From now on it is told that there is what the guest needs, now or later: of room once, of bytes
-    // each time that they come behind a read that found none.
+    // From now on it is told that there is what the connection needs, now or later: of room once, of
+    // bytes each time that they come behind a read that found none.
     fn list(&self, turn: &mut Turn<T>, needs: WaitsFor) -> io::Result<()> {
         let wants_room = needs == WaitsFor::Room;
         if turn.is_listed && !wants_room {
@@ -348,14 +350,14 @@ impl<'a, T: Connected<End = D>, D: Drop> House<'a, T, D> {
         Ok(())
     }
 
-    // From now on it is told this of the guest's caller, and where he has gone.
+    // From now on it is told this of the connection's caller, and where he has gone.
     fn listen(&self, turn: &Turn<T>, interest: Interest) -> io::Result<()> {
-        let fd = turn.guest.link().raw_fd();
+        let fd = turn.connection.socket().raw_fd();
         self.registry
             .reregister(&mut SourceFd(&fd), turn.token, interest)
     }
 
-    /// Takes back a guest who has had a turn, and ends its session where it needs nothing more.
+    /// Takes back a connection that has had a turn, and ends its session where it needs nothing more.
     pub fn take_back<R: Wait + Clock, G: Gate>(
         &self,
         rt: &R,
@@ -372,7 +374,7 @@ impl<'a, T: Connected<End = D>, D: Drop> House<'a, T, D> {
                 return self.end(rt, gate, turn, fault, reason);
             }
             WaitsFor::Worker => {
-                turn.guest.settle(self.alloc, is_above);
+                turn.connection.settle(self.alloc, is_above);
                 self.push(rt, turn)
             }
             WaitsFor::Answer => self.push_answer(rt, turn),
@@ -383,44 +385,44 @@ impl<'a, T: Connected<End = D>, D: Drop> House<'a, T, D> {
         }
     }
 
-    // Has a guest wait for a worker.
+    // Has a connection wait for a worker.
     fn push<R: Wait>(&self, rt: &R, turn: Turn<T>) -> Result<(), Turn<T>> {
-        let mut floor = self.floor.lock(rt);
-        let pushed = floor.push(turn);
-        self.call_freed(&mut floor);
+        let mut connections = self.connections.lock(rt);
+        let pushed = connections.push(turn);
+        self.call_freed(&mut connections);
         pushed
     }
 
     // Where an answer may be begun now since less is held, whoever could compute it is woken.
-    fn call_freed(&self, floor: &mut Floor<T, D>) {
-        if floor.take_freed() {
+    fn call_freed(&self, connections: &mut ConnectionTable<T, D>) {
+        if connections.take_freed() {
             self.called.notify_all();
-            let _ = self.bell.wake();
+            let _ = self.poll_waker.wake();
         }
     }
 
-    // Has a guest wait for a worker who may compute an answer.
+    // Has a connection wait for a worker who may compute an answer.
     fn push_answer<R: Wait>(&self, rt: &R, turn: Turn<T>) -> Result<(), Turn<T>> {
         let mut turn = turn;
-        let mut floor = self.floor.lock(rt);
-        if floor.has_answers() {
-            drop(floor);
-            turn.guest.settle(self.alloc, false);
-            floor = self.floor.lock(rt);
+        let mut connections = self.connections.lock(rt);
+        if connections.has_answers() {
+            drop(connections);
+            turn.connection.settle(self.alloc, false);
+            connections = self.connections.lock(rt);
         }
-        let pushed = floor.push_answer(turn);
-        let is_looked = floor.is_looked;
-        drop(floor);
+        let pushed = connections.push_answer(turn);
+        let is_looked = connections.is_looked;
+        drop(connections);
         self.called.notify_one();
         if is_looked {
             // who looks may be the only one who is free to compute it
-            let _ = self.bell.wake();
+            let _ = self.poll_waker.wake();
         }
         pushed
     }
 
-    // Keeps a guest until what it needs has come. Where too much is held already for callers of its
-    // tenant, the session ends of who has taken nothing for the longest.
+    // Keeps a connection until what it needs has come. Where too much is held already for callers of
+    // its tenant, the session ends of who has taken nothing for the longest.
     fn keep<R: Wait + Clock, G: Gate>(
         &self,
         rt: &R,
@@ -429,7 +431,7 @@ impl<'a, T: Connected<End = D>, D: Drop> House<'a, T, D> {
         needs: WaitsFor,
     ) -> Result<(), Turn<T>> {
         let mut turn = turn;
-        turn.guest.rest();
+        turn.connection.rest();
         if self.list(&mut turn, needs).is_err() {
             return Err(turn);
         }
@@ -437,23 +439,23 @@ impl<'a, T: Connected<End = D>, D: Drop> House<'a, T, D> {
         if needs == WaitsFor::Room {
             self.end_deaf(rt, gate, &turn);
         }
-        let mut floor = self.floor.lock(rt);
-        let kept = floor.keep(turn, now);
-        self.call_freed(&mut floor);
+        let mut connections = self.connections.lock(rt);
+        let kept = connections.keep(turn, now);
+        self.call_freed(&mut connections);
         kept
     }
 
     // Ends sessions of the tenant's callers who don't take what is held, as long as that is too much beside
-    // what is held for the guest of this turn.
+    // what is held for the connection of this turn.
     fn end_deaf<R: Wait, G: Gate>(&self, rt: &R, gate: &G, turn: &Turn<T>) {
         let mut deaf = Vec::new(self.alloc);
-        self.floor.lock(rt).take_deaf(turn, &mut deaf);
+        self.connections.lock(rt).take_deaf(turn, &mut deaf);
         self.end_all(rt, gate, deaf);
     }
 
     // Ends these sessions, as at a write that fails.
-    fn end_all<R: Wait, G: Gate>(&self, rt: &R, gate: &G, turns: Vec<Turn<T>>) {
-        for turn in turns {
+    fn end_all<R: Wait, G: Gate>(&self, rt: &R, gate: &G, run_queue: Vec<Turn<T>>) {
+        for turn in run_queue {
             self.end(rt, gate, turn, Some(ScriptError::Write), EndReason::Fault);
         }
     }
@@ -470,18 +472,18 @@ impl<'a, T: Connected<End = D>, D: Drop> House<'a, T, D> {
     ) {
         let Turn {
             key,
-            guest,
+            connection,
             token: _,
             is_listed: _,
             place: _,
             is_above: _,
         } = turn;
-        let tenant = guest.tenant();
-        let end = Box::into_inner(guest).leave(self.alloc, fault);
-        let mut floor = self.floor.lock(rt);
-        floor.leave(key, end);
-        self.call_freed(&mut floor);
-        drop(floor);
+        let tenant = connection.tenant();
+        let end = Box::into_inner(connection).leave(self.alloc, fault);
+        let mut connections = self.connections.lock(rt);
+        connections.leave(key, end);
+        self.call_freed(&mut connections);
+        drop(connections);
         gate.at(Point::Closed(tenant, reason));
         let _ = self.waker.wake();
     }
@@ -495,10 +497,10 @@ impl<'a, T: Connected<End = D>, D: Drop> House<'a, T, D> {
         };
         let mut late = Vec::new(self.alloc);
         let mut deaf = Vec::new(self.alloc);
-        let mut floor = self.floor.lock(rt);
-        floor.take_late(now, is_crowded, &mut late);
-        floor.take_hindering(now, &mut deaf);
-        drop(floor);
+        let mut connections = self.connections.lock(rt);
+        connections.take_late(now, is_crowded, &mut late);
+        connections.take_hindering(now, &mut deaf);
+        drop(connections);
         self.end_all(rt, gate, deaf);
         for turn in late {
             let (fault, reason) = (turn.fault_of_silence(), turn.reason_of_late());

@@ -137,7 +137,7 @@ pub struct Task<T> {
 /// for one owner half of them, rounded up, while an answer of another one waits. Of an owner who is held
 /// up no answer is begun.
 #[derive(Drop)]
-pub struct Turns<T> {
+pub struct RunQueue<T> {
     short: OwnerQueues<T>,
     answers: OwnerQueues<T>,
     // how many answers may be computed at once, and how many are, in all and for each owner
@@ -150,14 +150,14 @@ pub struct Turns<T> {
     in_a_row: u32,
 }
 
-impl<T: Drop> Turns<T> {
+impl<T: Drop> RunQueue<T> {
     /// Nothing waits. Owners are numbers below the given one.
-    pub fn new(alloc: Global, owners: usize, workers: usize) -> Result<Turns<T>, AllocError> {
+    pub fn new(alloc: Global, owners: usize, workers: usize) -> Result<RunQueue<T>, AllocError> {
         let short = OwnerQueues::new(alloc, owners)?;
         let answers = OwnerQueues::new(alloc, owners)?;
         let busy_of = vec![in alloc; 0; owners]?;
         let held_up = vec![in alloc; false; owners]?;
-        Ok(Turns {
+        Ok(RunQueue {
             short,
             answers,
             most: workers,

@@ -1,5 +1,5 @@
 use Rattle.std.proofs.Common.{◌≤◌, length}
-use Rattle.cql_sessions.proofs.guest.answer_some.Given as goal
+use Rattle.cql_sessions.proofs.connection.answer_some.Given as goal
 
 abbrev pub invariant-loop-line : goal.invariant-loop-line
 invariant-loop-line g l = record {

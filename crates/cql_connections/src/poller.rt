@@ -18,22 +18,22 @@ const PAUSE: u64 = 10;
 const WAKER: Token = Token(usize::MAX);
 
 /// What tells who has sent. A thread has it while it looks, and no other does meanwhile.
-pub(crate) struct Lookout {
+pub(crate) struct Poller {
     poll: Poll,
     /// What the last look has told, by tokens of callers; and maybe of one that is none.
     pub(crate) events: Events,
 }
 
-impl Drop for Lookout {
+impl Drop for Poller {
     fn drop(self) {
-        let Lookout { poll: _, events: _ } = self;
+        let Poller { poll: _, events: _ } = self;
     }
 }
 
-impl Lookout {
+impl Poller {
     /// One for no connection yet. An error where the system has no more of what it takes.
-    pub(crate) fn new<N: Net>(net: &N, alloc: Global) -> io::Result<Lookout> {
-        Ok(Lookout {
+    pub(crate) fn new<N: Net>(net: &N, alloc: Global) -> io::Result<Poller> {
+        Ok(Poller {
             poll: Poll::new(net)?,
             events: Events::with_capacity(alloc, EVENTS)?,
         })

@@ -4,7 +4,7 @@ ghost use Rattle.slab.specs.Slab.{get};
 
 use crate::limits::Limits;
 use crate::places::Places;
-use crate::turns::{Task, Turns};
+use crate::run_queue::{RunQueue, Task};
 use cql_hall::EndReason;
 use cql_sessions::Connected;
 use cql_wire::ScriptError;
@@ -42,11 +42,11 @@ fn key_of(token: Token) -> usize
     token.0 % KEYS
 }
 
-/// A guest whose turn it is, under its key.
+/// A connection whose turn it is, under its key.
 #[derive(Drop)]
 pub struct Turn<T> {
     pub key: usize,
-    pub guest: Box<T>,
+    pub connection: Box<T>,
     // what it is told by, which nobody else was who had the key
     pub(crate) token: Token,
     // whether it is told of bytes, each time that they come
@@ -61,7 +61,7 @@ impl<T: Connected> Turn<T> {
     /// Whose turn it is: 0 until its caller has logged in, and then one more than the index of the
     /// tenant.
     pub fn owner(&self) -> usize {
-        match self.guest.tenant() {
+        match self.connection.tenant() {
             Some(tenant) => tenant.index().saturating_add(1),
             None => 0,
         }
@@ -69,23 +69,23 @@ impl<T: Connected> Turn<T> {
 
     /// Whether its caller has logged in and still has the place of one who hasn't.
     pub(crate) fn wants_place(&self) -> bool {
-        self.place == 0 && self.guest.tenant().is_some() && !self.guest.is_refused()
+        self.place == 0 && self.connection.tenant().is_some() && !self.connection.is_refused()
     }
 
     /// Why its session has ended, by this fault if by one.
     pub(crate) fn reason(&self, fault: Option<ScriptError>) -> EndReason {
-        match (fault, self.guest.tenant()) {
+        match (fault, self.connection.tenant()) {
             (Some(_), _) => EndReason::Fault,
-            (None, Some(_)) if self.guest.is_refused() => EndReason::Places,
-            (None, None) if self.guest.is_refused() => EndReason::Refused,
+            (None, Some(_)) if self.connection.is_refused() => EndReason::Places,
+            (None, None) if self.connection.is_refused() => EndReason::Refused,
             (None, _) => EndReason::Caller,
         }
     }
 
     /// Why its session ends where its time has passed.
     pub(crate) fn reason_of_late(&self) -> EndReason {
-        match self.guest.tenant() {
-            _ if self.guest.is_refused() => self.reason(None),
+        match self.connection.tenant() {
+            _ if self.connection.is_refused() => self.reason(None),
             Some(_) => EndReason::Idle,
             None => EndReason::Login,
         }
@@ -94,7 +94,7 @@ impl<T: Connected> Turn<T> {
     /// By which fault it ends where its caller has gone or its time has passed: as at a read that
     /// fails, but for one whose login was refused.
     pub(crate) fn fault_of_silence(&self) -> Option<ScriptError> {
-        if self.guest.is_refused() {
+        if self.connection.is_refused() {
             None
         } else {
             Some(ScriptError::Read)
@@ -102,12 +102,12 @@ impl<T: Connected> Turn<T> {
     }
 }
 
-// A caller who is connected: the guest unless it is at a worker or waits for one, since when it is
-// waited for, what is held for it, by what it is told and whether of bytes, whose place it has, whether
-// it was told of something since the guest's last turn began, whether the caller has gone meanwhile, and
-// whether the guest waits for the end of a caller whose login was refused.
+// A caller who is connected: the connection unless it is at a worker or waits for one, since when it
+// is waited for, what is held for it, by what it is told and whether of bytes, whose place it has,
+// whether it was told of something since the connection's last turn began, whether the caller has
+// gone meanwhile, and whether the connection waits for the end of a caller whose login was refused.
 struct Slot<T> {
-    guest: Option<Box<T>>,
+    connection: Option<Box<T>>,
     since: Instant,
     held: usize,
     token: Token,
@@ -121,7 +121,7 @@ struct Slot<T> {
 impl<T: Drop> Drop for Slot<T> {
     fn drop(self) {
         let Slot {
-            guest: _,
+            connection: _,
             since: _,
             held: _,
             token: _,
@@ -134,7 +134,7 @@ impl<T: Drop> Drop for Slot<T> {
     }
 }
 
-/// Where a guest was whose caller has gone.
+/// Where a connection was whose caller has gone.
 #[derive(Drop)]
 pub(crate) enum Gone<T> {
     /// Nobody is connected who is told of by that token.
@@ -148,7 +148,7 @@ pub(crate) enum Gone<T> {
 /// What a thread is to do next.
 #[derive(Drop)]
 pub(crate) enum Next<T> {
-    /// Give a guest a turn.
+    /// Give a connection a turn.
     Turn(Task<Turn<T>>),
     /// Look who has sent.
     Look,
@@ -159,13 +159,13 @@ pub(crate) enum Next<T> {
 }
 
 /// The callers who are connected, and what is left of those who were.
-pub struct Floor<T, D> {
+pub struct ConnectionTable<T, D> {
     limits: Limits,
     slots: Slab<Slot<T>>,
     places: Places,
     // how many callers have come
     came: usize,
-    turns: Turns<Turn<T>>,
+    run_queue: RunQueue<Turn<T>>,
     // how many turns were taken since it was looked who has sent
     taken: u32,
     // how many bytes are held for each owner
@@ -182,14 +182,14 @@ pub struct Floor<T, D> {
     pub is_closed: bool,
 }
 
-impl<T: Drop, D: Drop> Drop for Floor<T, D> {
+impl<T: Drop, D: Drop> Drop for ConnectionTable<T, D> {
     fn drop(self) {
-        let Floor {
+        let ConnectionTable {
             limits: _,
             slots: _,
             places: _,
             came: _,
-            turns: _,
+            run_queue: _,
             taken: _,
             held: _,
             looked: _,
@@ -202,7 +202,7 @@ impl<T: Drop, D: Drop> Drop for Floor<T, D> {
     }
 }
 
-impl<T: Connected<End = D>, D: Drop> Floor<T, D> {
+impl<T: Connected<End = D>, D: Drop> ConnectionTable<T, D> {
     /// Nobody is connected. Owners are numbers below the given one. There is room for so many ends.
     pub fn new(
         alloc: Global,
@@ -210,18 +210,18 @@ impl<T: Connected<End = D>, D: Drop> Floor<T, D> {
         owners: usize,
         workers: usize,
         room: usize,
-    ) -> Result<Floor<T, D>, AllocError> {
-        let turns = Turns::new(alloc, owners, workers)?;
+    ) -> Result<ConnectionTable<T, D>, AllocError> {
+        let run_queue = RunQueue::new(alloc, owners, workers)?;
         let held = vec![in alloc; 0; owners]?;
         let ends = Vec::with_capacity(alloc, room)?;
         let tenants = owners.saturating_sub(1);
         let places = Places::new(alloc, limits.callers as usize, tenants)?;
-        Ok(Floor {
+        Ok(ConnectionTable {
             limits,
             slots: Slab::new(alloc),
             places,
             came: 0,
-            turns,
+            run_queue,
             taken: 0,
             held,
             looked: 0,
@@ -251,12 +251,12 @@ impl<T: Connected<End = D>, D: Drop> Floor<T, D> {
     /// How much waits that a worker could do now. To look who has sent is such.
     pub(crate) fn waiting(&self) -> usize {
         let look = usize::from(!self.is_looked);
-        self.turns.waiting().saturating_add(look)
+        self.run_queue.waiting().saturating_add(look)
     }
 
     /// Whether something waits that any thread could do now.
     pub(crate) fn has_more(&self) -> bool {
-        !self.is_looked || self.turns.has_short()
+        !self.is_looked || self.run_queue.has_short()
     }
 
     /// What is to be done next, by a thread that computes answers or by one that doesn't.
@@ -265,7 +265,7 @@ impl<T: Connected<End = D>, D: Drop> Floor<T, D> {
             self.begin_look();
             return Next::Look;
         }
-        let Some(task) = self.turns.take(computes) else {
+        let Some(task) = self.run_queue.take(computes) else {
             if self.is_looked {
                 return Next::Wait;
             }
@@ -287,12 +287,12 @@ impl<T: Connected<End = D>, D: Drop> Floor<T, D> {
 
     /// The ends of all sessions; or there was no room for one.
     pub(crate) fn into_ends(self) -> Result<Vec<D>, AllocError> {
-        let Floor {
+        let ConnectionTable {
             limits: _,
             slots: _,
             places: _,
             came: _,
-            turns: _,
+            run_queue: _,
             taken: _,
             held: _,
             looked: _,
@@ -305,15 +305,19 @@ impl<T: Connected<End = D>, D: Drop> Floor<T, D> {
         if is_whole { Ok(ends) } else { Err(AllocError) }
     }
 
-    /// A guest has come of whose bytes it is told, and waits for its caller. The token by which it is
-    /// told; or there was no memory.
-    pub(crate) fn enter(&mut self, guest: Box<T>, since: Instant) -> Result<Token, AllocError> {
+    /// A connection has come of whose bytes it is told, and waits for its caller. The token by which
+    /// it is told; or there was no memory.
+    pub(crate) fn enter(
+        &mut self,
+        connection: Box<T>,
+        since: Instant,
+    ) -> Result<Token, AllocError> {
         let key = self.slots.vacant_key();
         let serial = self.came.wrapping_mul(KEYS);
         let token = Token(serial.wrapping_add(key));
         self.came = self.came.wrapping_add(1);
         let slot = Slot {
-            guest: Some(guest),
+            connection: Some(connection),
             since,
             held: 0,
             token,
@@ -355,7 +359,7 @@ impl<T: Connected<End = D>, D: Drop> Floor<T, D> {
             *all = all.saturating_sub(before).saturating_add(held);
         }
         let is_held_up = !self.holds_little(owner);
-        if self.turns.hold_up(owner, is_held_up) {
+        if self.run_queue.hold_up(owner, is_held_up) {
             self.is_freed = true;
         }
     }
@@ -370,12 +374,12 @@ impl<T: Connected<End = D>, D: Drop> Floor<T, D> {
         self.forget(key_of(token));
     }
 
-    /// A guest whose caller has logged in has a place of its tenant's from now on, if that may have one
-    /// more.
+    /// A connection whose caller has logged in has a place of its tenant's from now on, if that may
+    /// have one more.
     pub(crate) fn seat(&mut self, turn: &mut Turn<T>)
-        ensures guest { (turn.new.key ≡ turn.old.key) × (turn.new.guest ≡ turn.old.guest) }
+        ensures connection { (turn.new.key ≡ turn.old.key) × (turn.new.connection ≡ turn.old.connection) }
     {
-        let Some(tenant) = turn.guest.tenant() else {
+        let Some(tenant) = turn.connection.tenant() else {
             return;
         };
         self.count(turn.key, 0);
@@ -400,16 +404,16 @@ impl<T: Connected<End = D>, D: Drop> Floor<T, D> {
         }
     }
 
-    // Takes a guest that waits for its caller.
+    // Takes a connection that waits for its caller.
     fn leave_slot(&mut self, key: usize) -> Option<Turn<T>> {
         let slot = self.slots.get_mut(key)?;
-        let Some(guest) = slot.guest.take() else {
+        let Some(connection) = slot.connection.take() else {
             slot.is_called = true;
             return None;
         };
         Some(Turn {
             key,
-            guest,
+            connection,
             token: slot.token,
             is_listed: slot.is_listed,
             place: slot.place,
@@ -424,7 +428,7 @@ impl<T: Connected<End = D>, D: Drop> Floor<T, D> {
         if slot.token == token { Some(key) } else { None }
     }
 
-    /// Something has come for the guest of a token: it waits for a worker. Without memory for that
+    /// Something has come for the connection of a token: it waits for a worker. Without memory for that
     /// it comes back.
     pub(crate) fn call(&mut self, token: Token) -> Result<(), Turn<T>> {
         let Some(key) = self.key_now(token) else {
@@ -436,8 +440,8 @@ impl<T: Connected<End = D>, D: Drop> Floor<T, D> {
         }
     }
 
-    /// The caller of a token has gone. The guest comes back if it waits for him; else the key, of a
-    /// guest at a worker or who waits for one.
+    /// The caller of a token has gone. The connection comes back if it waits for him; else the key,
+    /// of a connection at a worker or who waits for one.
     pub(crate) fn go(&mut self, token: Token) -> Gone<T> {
         let Some(key) = self.key_now(token) else {
             return Gone::Nobody;
@@ -451,12 +455,12 @@ impl<T: Connected<End = D>, D: Drop> Floor<T, D> {
         Gone::Served(key)
     }
 
-    /// Takes out the guests who wait for a worker and whose callers have gone, as far as there is memory
-    /// for them.
+    /// Takes out the connections that wait for a worker and whose callers have gone, as far as there
+    /// is memory for them.
     pub(crate) fn take_gone(&mut self, gone: &mut Vec<Turn<T>>) {
         let slots = &self.slots;
         let is_gone = |turn: &Turn<T>| slots.get(turn.key).is_some_and(|slot| slot.is_gone);
-        self.turns.take_out(is_gone, gone);
+        self.run_queue.take_out(is_gone, gone);
     }
 
     // Whether the caller of a key has gone.
@@ -467,7 +471,7 @@ impl<T: Connected<End = D>, D: Drop> Floor<T, D> {
         self.slots.get(key).is_some_and(|slot| slot.is_gone)
     }
 
-    /// A guest waits for a worker. Without memory for that it comes back, and where its caller has
+    /// A connection waits for a worker. Without memory for that it comes back, and where its caller has
     /// gone.
     pub(crate) fn push(&mut self, turn: Turn<T>) -> Result<(), Turn<T>>
         ensures gone { IfSome (get self.old.slots turn.key) (λ slot. slot.is_gone ≡ true → result ≡ Err turn) }
@@ -475,41 +479,41 @@ impl<T: Connected<End = D>, D: Drop> Floor<T, D> {
         if self.is_gone(turn.key) {
             return Err(turn);
         }
-        self.count(turn.key, turn.guest.held());
-        self.turns.push_short(turn.owner(), turn)
+        self.count(turn.key, turn.connection.held());
+        self.run_queue.push_short(turn.owner(), turn)
     }
 
-    /// A guest waits for a worker who may compute an answer. Without memory it comes back, and where
-    /// its caller has gone.
+    /// A connection waits for a worker who may compute an answer. Without memory it comes back, and
+    /// where its caller has gone.
     pub(crate) fn push_answer(&mut self, turn: Turn<T>) -> Result<(), Turn<T>>
         ensures gone { IfSome (get self.old.slots turn.key) (λ slot. slot.is_gone ≡ true → result ≡ Err turn) }
     {
         if self.is_gone(turn.key) {
             return Err(turn);
         }
-        self.count(turn.key, turn.guest.held());
-        self.turns.push_answer(turn.owner(), turn)
+        self.count(turn.key, turn.connection.held());
+        self.run_queue.push_answer(turn.owner(), turn)
     }
 
     /// Whether an answer has to wait for others.
     pub(crate) fn has_answers(&self) -> bool {
-        self.turns.has_answers()
+        self.run_queue.has_answers()
     }
 
-    /// Begins an answer for a guest, if it needn't wait and its caller hasn't gone. It has to wait while too
-    /// much is held for its tenant's callers.
+    /// Begins an answer for a connection, if it needn't wait and its caller hasn't gone. It has to
+    /// wait while too much is held for its tenant's callers.
     pub(crate) fn begin_answer(&mut self, turn: &Turn<T>) -> bool
         ensures gone { IfSome (get self.old.slots turn.now.key) (λ slot. slot.is_gone ≡ true → result ≡ false) }
     {
-        !self.is_gone(turn.key) && self.turns.begin_answer(turn.owner())
+        !self.is_gone(turn.key) && self.run_queue.begin_answer(turn.owner())
     }
 
     /// An answer for the owner has ended.
     pub(crate) fn end_answer(&mut self, owner: usize) {
-        self.turns.end_answer(owner);
+        self.run_queue.end_answer(owner);
     }
 
-    /// A guest who waits for its caller from now on; who waits for a worker where something has
+    /// A connection that waits for its caller from now on; who waits for a worker where something has
     /// come meanwhile. It comes back without memory, and where its caller has gone.
     pub(crate) fn keep(&mut self, turn: Turn<T>, now: Option<Instant>) -> Result<(), Turn<T>>
         ensures gone { IfSome (get self.old.slots turn.key) (λ slot. slot.is_gone ≡ true → result ≡ Err turn) }
@@ -520,7 +524,7 @@ impl<T: Connected<End = D>, D: Drop> Floor<T, D> {
         if slot.is_gone {
             return Err(turn);
         }
-        self.count(turn.key, turn.guest.held());
+        self.count(turn.key, turn.connection.held());
         let Some(slot) = self.slots.get_mut(turn.key) else {
             return Err(turn);
         };
@@ -528,23 +532,23 @@ impl<T: Connected<End = D>, D: Drop> Floor<T, D> {
             slot.is_called = false;
             return self.push(turn);
         }
-        let is_parting = turn.guest.is_refused();
+        let is_parting = turn.connection.is_refused();
         let begins = if is_parting {
             !slot.is_parting
         } else {
-            turn.guest.tenant().is_some()
+            turn.connection.tenant().is_some()
         };
         if begins && let Some(now) = now {
             slot.since = now;
         }
         slot.is_parting = is_parting;
         slot.is_listed = turn.is_listed;
-        slot.guest = Some(turn.guest);
+        slot.connection = Some(turn.connection);
         Ok(())
     }
 
-    /// As long as too much is held for the owner's callers beside the guest of this turn, takes the guest of
-    /// the one who has taken nothing for the longest of those who don't take all.
+    /// As long as too much is held for the owner's callers beside the connection of this turn, takes
+    /// the connection of the one who has taken nothing for the longest of those who don't take all.
     pub(crate) fn take_deaf(&mut self, turn: &Turn<T>, deaf: &mut Vec<Turn<T>>) {
         let owner = turn.owner();
         self.count(turn.key, 0);
@@ -562,11 +566,11 @@ impl<T: Connected<End = D>, D: Drop> Floor<T, D> {
         }
     }
 
-    /// Of each owner of whom an answer waits since too much is held for its callers, takes the guest of the
-    /// one who has taken nothing for the longest, if that is a second.
+    /// Of each owner of whom an answer waits since too much is held for its callers, takes the
+    /// connection of the one who has taken nothing for the longest, if that is a second.
     pub(crate) fn take_hindering(&mut self, now: Instant, deaf: &mut Vec<Turn<T>>) {
         for owner in 0..self.held.len() {
-            if self.turns.waits_held_up(owner)
+            if self.run_queue.waits_held_up(owner)
                 && deaf.reserve(1).is_ok()
                 && let Some((key, since)) = self.deaf(owner)
                 && now.saturating_duration_since(since) >= Duration::from_secs(DEAF)
@@ -581,13 +585,14 @@ impl<T: Connected<End = D>, D: Drop> Floor<T, D> {
         self.held.get(owner).is_none_or(|held| *held <= MOST_HELD)
     }
 
-    // The owner's guest who has waited for the longest until its caller takes something, and since when.
+    // The owner's connection that has waited for the longest until its caller takes something, and
+    // since when.
     fn deaf(&self, owner: usize) -> Option<(usize, Instant)> {
         let mut longest: Option<(usize, Instant)> = None;
         for key in 0..self.slots.capacity() {
             if let Some(slot) = self.slots.get(key)
                 && slot.place == owner
-                && slot.guest.is_some()
+                && slot.connection.is_some()
                 && !slot.is_listed
                 && longest.is_none_or(|(_, since)| slot.since < since)
             {
@@ -597,8 +602,8 @@ impl<T: Connected<End = D>, D: Drop> Floor<T, D> {
         longest
     }
 
-    /// Guests whose time has passed by now, of some callers in a row. It goes on with those the next
-    /// time. Where others wait for their places, those who haven't logged in have little time.
+    /// Connections whose time has passed by now, of some callers in a row. It goes on with those the
+    /// next time. Where others wait for their places, those who haven't logged in have little time.
     pub(crate) fn take_late(&mut self, now: Instant, is_crowded: bool, late: &mut Vec<Turn<T>>) {
         let first = self.looked;
         let end = self.slots.capacity();
@@ -614,16 +619,16 @@ impl<T: Connected<End = D>, D: Drop> Floor<T, D> {
         }
     }
 
-    // Whether a guest that is waited for has let its time pass.
+    // Whether a connection that is waited for has let its time pass.
     fn is_late(&self, now: Instant, key: usize, is_crowded: bool) -> bool {
         let Some(slot) = self.slots.get(key) else {
             return false;
         };
-        let Some(guest) = &slot.guest else {
+        let Some(connection) = &slot.connection else {
             return false;
         };
         let is_parting = slot.is_parting;
-        let within = if guest.tenant().is_some() && !is_parting {
+        let within = if connection.tenant().is_some() && !is_parting {
             self.limits.idle
         } else if is_crowded {
             Some(Duration::from_millis(CROWDED))

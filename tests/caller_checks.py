@@ -288,7 +288,9 @@ def untaken_answers(program):
             caller.send(FETCH_ALL)
         yield "time of long replies", calms_down(server, 60)
         yield "memory of long replies", growth(before, server.memory(), MOST_UNTAKEN)
-        stay = files_of(server) - files
+        end = time.monotonic() + 30
+        while (stay := files_of(server) - files) == UNTAKEN and time.monotonic() < end:
+            time.sleep(0.1)
         yield "who is let go", None if 0 < stay < UNTAKEN else f"{stay} of {UNTAKEN} stay"
         yield "another tenant's caller", conversation(other, (LIST, EMPTY))
         yield "a further caller of that tenant", served_in(server, TICK, "b")

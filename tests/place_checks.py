@@ -79,10 +79,16 @@ def a_tenant_of_many_callers(program):
         found = collections.Counter(caller.ask(LIST) for caller in stays)
         yield "those who stay", difference(found, {EMPTY: len(stays)})
         stays[0].rest()
-        yield "a caller of theirs behind one who left", served_in(server, TICK, "a")
+        yield "a caller of theirs behind one who left", None if within(TICK, lambda: comes_in(server)) else "none"
         lines = [unstamped(line) for line in told_so_far(server)]
         places = sum(it == {"ended": "a", "why": "places"} for it in lines)
         yield "what is told of who is above", difference(places, PLACES // 4)
+
+
+def comes_in(server):
+    """Whether one more caller of the tenant has a place."""
+    with Caller(server) as caller:
+        return caller.ask(login("a")) == DONE
 
 
 def logged_in(caller):

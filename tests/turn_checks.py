@@ -4,6 +4,7 @@ once, and that who is quiet costs nothing. Each check gives pairs of a name and 
 import collections
 import contextlib
 import heapq
+import itertools
 import pathlib
 import random
 import select
@@ -47,9 +48,9 @@ CROWD, MOST_BEFORE = 300, 100
 LEAVES, AT_ONCE = 21, 0.05
 # Callers who send a long line and fall silent, and what the server may then keep for each, in bytes.
 TALKERS, MOST_OF_A_TALKER = 100, 16 << 10
-# Rounds of a put, a heartbeat, a fetch and an ack, and the most sends that one may take: at times a short fetch
-# isn't, or two rounds have one read each.
-ROUNDS, MOST_SENDS = 100, 1.3
+# Rounds of a put, a heartbeat, a fetch and an ack, so many times; and the most sends that one may take where they
+# take the fewest: beside other work a short fetch isn't at times.
+ROUNDS, TIMES, MOST_SENDS = 20, 10, 1.1
 # How many long replies one caller takes, of which more than 64 MiB are held back in all.
 LONG_REPLIES = 5
 # Texts of which a query tells each so often: a reply has 10 MB. How many callers don't take it, and the bytes that
@@ -200,15 +201,17 @@ def rounds_are_one_send(program):
         with under_failing(SENDS_TOLD=sends) as under, Server(program, TENANTS, under, workers=2) as server:
             with Caller(server, "a", seconds=FOR_GOOD) as caller:
                 yield "a query for rounds", conversation(caller, (STREAM, DONE), (QUERY, BASE), (FETCH, told(0)))
-                before = sends.stat().st_size
-                for at in range(1, ROUNDS + 1):
+                counts = [sends.stat().st_size]
+                for at in range(1, ROUNDS * TIMES + 1):
                     ack = line_of(do="ack", name="q", to=at + 1)
                     caller.send(put(at, at), beat(at), FETCH, ack)
                     wanted = DONE + DONE + told(at + 1, block(at, at, at)) + DONE
                     if fault := difference(caller.replies.read(len(wanted)), wanted):
                         break
+                    if at % ROUNDS == 0:
+                        counts.append(sends.stat().st_size)
                 yield "replies of rounds", fault
-                each = (sends.stat().st_size - before) / ROUNDS
+                each = min((after - before for before, after in itertools.pairwise(counts)), default=0) / ROUNDS
                 yield "sends of a round", None if each <= MOST_SENDS else f"{each:.2f}"
 
 

@@ -6,6 +6,7 @@ import collections
 import contextlib
 import fcntl
 import itertools
+import json
 import os
 import pathlib
 import pty
@@ -27,9 +28,8 @@ RUNNER = TOP / "crates/cqlrun/out/cqlrun"
 # A block of fenced text: its language, and its lines.
 Fence = collections.namedtuple("Fence", "language text")
 # A line of a shell in the running text, of which a name and a word are the least.
-COMMAND = re.compile(
-    r"`((?:\w+=\S+ )*(?:(?:make|pip|python3|rt|cd|sudo|apt-get|systemctl|curl|docker)|(?:crates|examples|tools|tests)/[\w/.]+) [^`]+)`"
-)
+PROGRAMS = r"make|pip|python3|rt|cd|sudo|apt-get|systemctl|curl|docker|(?:crates|examples|tools|tests)/[\w/.]+"
+COMMAND = re.compile(rf"`((?:\w+=\S+ )*(?:{PROGRAMS}) [^`]+)`")
 WIDE = struct.pack("4H", 50, 400, 0, 0)
 
 
@@ -156,12 +156,12 @@ def begins(near, text):
 
 
 def all_of(near):
-    """What a terminal shows up to the end of what was started at it."""
+    """What a terminal shows up to the end of what was started at it, without a bar that is drawn in place."""
     seen = b""
     with contextlib.suppress(OSError):
         while select.select([near], [], [], SECONDS)[0]:
             seen += os.read(near, 1 << 16)
-    return as_shown(seen.decode())
+    return re.sub(r"\r[^\n]*\n", "", as_shown(seen.decode()))
 
 
 def prints(reader, fence):
@@ -236,7 +236,7 @@ def python_follows(reader):
     yield f"{len(examples)} examples in Python of {reader.page.name}", fault
 
 
-# ---- Lines of JSON.
+# ---- Lines of scripts.
 
 
 def answered(program, script):
@@ -262,21 +262,30 @@ def scripts_of(path):
     return [TOP / it for it in dict.fromkeys(names)]
 
 
-def lines_are_answered(reader, texts):
-    """Each line of JSON is one of a script that the page names, or what a server replies to one."""
-    if not texts:
+def is_query(line):
+    return re.match(r"Select |[DIR]stream\(", line) is not None
+
+
+def is_of_scripts(fence):
+    """Whether a block is of lines of JSON, or of queries alone."""
+    lines = fence.text.splitlines()
+    return not fence.language and (all(it.startswith("{") for it in lines) or all(map(is_query, lines)))
+
+
+def lines_are_answered(reader):
+    """Each line of JSON is one of a script that the page names, or what a server replies to one; each query is
+    registered by one."""
+    blocks = filter(is_of_scripts, fences(reader.page))
+    lines = [line for it in blocks for line in it.text.splitlines()]
+    if not lines:
         return
     there = {line for it in scripts_of(reader.page) for line in answered(reader.program, it)}
-    lines = [line for text in texts for line in text.splitlines()]
-    strange = [line for line in lines if line not in there]
-    yield f"{len(lines)} lines of JSON of {reader.page.name}", f"no script has {strange[0]}" if strange else None
+    texts = {json.loads(it).get("text") for it in there}
+    strange = [it for it in lines if it not in (texts if is_query(it) else there)]
+    yield f"{len(lines)} lines of scripts of {reader.page.name}", f"no script has {strange[0]}" if strange else None
 
 
 # ---- A page.
-
-
-def is_json(fence):
-    return not fence.language and all(line.startswith("{") for line in fence.text.splitlines())
 
 
 def way_of(fence, how):
@@ -291,39 +300,39 @@ def way_of(fence, how):
 
 def block_follows(reader, fence, how):
     way, first = way_of(fence, how), fence.text.partition("\n")[0]
-    if way is None:
+    if way is None or not callable(way) and shown(fence):
         yield first, "it is neither run nor said why it isn't"
-    elif callable(way):
+    if callable(way):
         try:
             yield from way(reader, fence)
         except OSError as error:
             raise OSError(f"{first}: {error}") from error
 
 
-def lines_of_json(page):
-    return [it.text for it in fences(page) if is_json(it)]
-
-
 def blocks_of(page):
     """A page's blocks from the top down, and each command of its running text that no block has as one more."""
-    blocks = [it for it in fences(page) if not is_json(it)]
+    blocks = [it for it in fences(page) if not is_of_scripts(it)]
     there = {line for it in blocks for line in typed(it)}
     return blocks + [Fence("", f"$ {it}\n") for it in commands_between(page) if it not in there]
 
 
 def page_follows(reader, how):
-    """All blocks of a page, by what is told of their lines; examples in Python together, where the last of them stands."""
+    """All blocks of a page, by what is told of their lines; examples in Python together, where the last of them
+    stands. A block of comma-separated values is the file of that name."""
     blocks = blocks_of(reader.page)
     for fence in blocks:
         if fence.language == "python":
             reader.examples.append(fence.text)
+            continue
+        if fence.language == "csv":
+            (reader.folder / "rows.csv").write_text(fence.text)
             continue
         if reader.examples:
             yield from python_follows(reader)
         yield from block_follows(reader, fence, how)
     if reader.examples:
         yield from python_follows(reader)
-    yield from lines_are_answered(reader, lines_of_json(reader.page))
+    yield from lines_are_answered(reader)
     marks = re.findall(r"^\s*(?:```|~~~)", reader.page.read_text(), re.MULTILINE)
     yield f"blocks of {reader.page.name}", difference(2 * len(fences(reader.page)), len(marks))
     there = {line for it in blocks for line in typed(it)}

@@ -3,9 +3,11 @@ pairs of a name and of what is wrong, or None.
 """
 import contextlib
 import json
+import pathlib
 import re
 import subprocess
 import sys
+import tempfile
 import urllib.request
 
 from clients import (
@@ -24,6 +26,7 @@ from clients import (
 )
 from followed import (
     RUNNER,
+    Fence,
     Reader,
     begins,
     given_key,
@@ -51,7 +54,7 @@ def sessions_on(path):
             yield given.encode(), re.sub("^a> ", "> ", replies, flags=re.MULTILINE).encode()
 
 
-TUTORIAL, README = TOP / "docs/TUTORIAL.md", MODULE / "README.md"
+TUTORIAL, COOKBOOK, README = TOP / "docs/TUTORIAL.md", TOP / "docs/COOKBOOK.md", MODULE / "README.md"
 
 
 def serves(reader, fence):
@@ -99,7 +102,7 @@ def puts_rows(reader, fence):
     with reader.starts(typed(fence)), romburik.Session(port=reader.port, tenant="a", key="ka") as it:
         wait_for(lambda: "busy" in [one.name for one in it.list().queries])
         wait_for(lambda: len(it.fetch("busy").blocks) >= 2)
-    yield typed(fence)[-1], None
+    yield typed(fence)[-1], difference(shown(fence), "")
 
 
 def serves_by_the_program(reader, fence):
@@ -125,13 +128,59 @@ TUTORIAL_LINES = {
     "make build": "it proves the programs, for an hour",
     "crates/cqld/out/cqld --port 7000 < examples/first.jsonl": serves_by_the_program,
 }
+INSTALLS = "it installs, by what the system or the network has to build it"
 README_LINES = {
     "python3 -m romburik --port 7000 --tenant a": talks,
     "python3 -m romburik watch w --port 7000 --tenant a": watches,
     "python3 -m romburik": "the beginning of the lines above",
     "tests/page --pictures docs": "a test of its own",
-    "pip install ./clients/python": "it installs what a test isn't to leave behind",
-    "pip install --no-build-isolation ./clients/python": "it installs what a test isn't to leave behind",
+    "pip install ./clients/python": INSTALLS,
+    "pip install --no-build-isolation ./clients/python": INSTALLS,
+}
+
+
+def runs_a_recipe(reader, fence):
+    """A script, by cqlrun, with the replies of the file beside it."""
+    script = reader.folder / typed(fence)[-1].split()[-1]
+    told = script.with_suffix(".out").read_text()
+    yield from runs_a_script(reader, Fence("", fence.text + told))
+
+
+def puts_a_file(reader, fence):
+    """The rows of the file that the page shows, into a stream of its columns."""
+    with romburik.Session(port=reader.port, tenant="a", key="ka") as it:
+        it.stream("reading", {"room": "text", "degrees": "int"})
+        yield from prints(reader, fence)
+        yield "how far a stream is", difference([one.open for one in it.list().streams], [36])
+
+
+def stages(reader, fence):
+    """What its query tells comes into its stream."""
+    text = "Select Istream(room, Sum(degrees) As total) From reading [Range 60] Group By room"
+    with romburik.Session(port=reader.port, tenant="a", key="ka") as it:
+        it.query("totals", text)
+        it.stream("sums", {"room": "text", "total": "int"})
+        it.query("high", "Select Istream(*) From sums [Now] Where total > 20")
+        it.put_many("reading", [(40, ["hall", 18]), (41, ["hall", 5])])
+        it.beat("reading", 50)
+        with reader.starts(typed(fence)):
+            wait_for(lambda: it.fetch("high").blocks)
+        rows = [one.rows for one in it.fetch("high").blocks]
+    yield typed(fence)[-1], difference((rows, shown(fence)), ([(("hall", 23),)], ""))
+
+
+BROKER = "tests/running_checks.py runs it, with a broker of its own"
+COOKBOOK_LINES = {
+    "crates/cqlrun/out/cqlrun < examples/last_value_of_each_key.jsonl": runs_a_recipe,
+    "export PYTHONPATH=clients/python CQL_KEY=ka": "the lines behind it are run so",
+    "python3 -m romburik put reading --csv rows.csv --at when --beat --port 7000 --tenant a": puts_a_file,
+    "examples/bridge.py --topic 'home/+' --stream reading --log log.jsonl": BROKER,
+    "examples/feed.py --port 7000 --tenant a --setup setup.jsonl --log log.jsonl --offsets offsets --scale 100": BROKER,
+    "examples/consume.py --port 7000 --tenant a --query high --offsets offsets"
+    " --exec 'mosquitto_pub -q 1 -t alerts -s'": BROKER,
+    "examples/consume.py .. --form csv --out high.csv": "tests/feeder_checks.py runs it",
+    "export CQL_KEY=ka": "the line behind it is run so",
+    "examples/stage.py --port 7000 --tenant a --query totals --stream sums": stages,
 }
 
 
@@ -139,6 +188,17 @@ def tutorial(program):
     """The tutorial from its first line to its last, on the server that it starts."""
     with contextlib.ExitStack() as stack:
         yield from page_follows(Reader(TUTORIAL, TOP, program, stack), TUTORIAL_LINES)
+
+
+def cookbook(program):
+    """The cookbook, in a folder that has the repository's ones, on a server of the tutorial's tenants."""
+    with contextlib.ExitStack() as stack:
+        folder = pathlib.Path(stack.enter_context(tempfile.TemporaryDirectory()))
+        for name in "clients", "crates", "examples":
+            (folder / name).symlink_to(TOP / name)
+        reader = Reader(COOKBOOK, folder, program, stack)
+        reader.port = stack.enter_context(Server(program, TENANTS)).port
+        yield from page_follows(reader, COOKBOOK_LINES)
 
 
 def readme(program):
@@ -173,4 +233,4 @@ def pages(program):
         yield "how many they are", difference(len(pairs), 2)
 
 
-CHECKS = tutorial, readme, pages
+CHECKS = tutorial, cookbook, readme, pages

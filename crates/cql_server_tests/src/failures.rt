@@ -2,6 +2,8 @@
 use cql_server::Failure;
 use cql_wire::BrokenRule;
 use std::alloc::Global;
+use std::io::ErrorKind;
+use std::net::Ipv4Addr;
 use std::test::Fail;
 
 const ENDINGS: &[(Failure, u8, &str)] = &[
@@ -15,7 +17,15 @@ const ENDINGS: &[(Failure, u8, &str)] = &[
     (Failure::Reading, 3, "reading failed"),
     (Failure::Writing, 4, "writing failed"),
     (Failure::NoMemory, 5, "no memory"),
-    (Failure::Listening, 6, "cannot listen"),
+    (
+        Failure::Listening {
+            ip: Ipv4Addr::LOCALHOST,
+            port: 7000,
+            why: ErrorKind::AddrInUse,
+        },
+        6,
+        "cannot listen at 127.0.0.1:7000: address in use",
+    ),
     (Failure::Audit { at: 0 }, 7, "audit failed at 0"),
     (
         Failure::Audit {

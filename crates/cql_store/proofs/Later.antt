@@ -15,7 +15,7 @@ use Rattle.cql_window.proofs.Ends.{before_mono, before_rest}
 use Rattle.cql_window.proofs.Laws.{kept_le}
 use Rattle.cql_window.proofs.Newest.{parts_twice}
 use Rattle.cql_window.proofs.Coming.{more_come}
-use Rattle.cql_window.specs.Coming.{with_all, AreNewestOf}
+use Rattle.cql_window.specs.Coming.{with_all}
 use Rattle.cql_window.proofs.Between.{range_between}
 use Rattle.cql_store.proofs.Fit.{asc_take, fit_drop, fit_behind, fit_front, fit_newest}
 use Rattle.cql_store.proofs.Keeps.{whole}

@@ -9,7 +9,6 @@ pub mod Crosses
 pub mod Fit
 pub mod Keeps
 pub mod Numbers
-pub mod Bare
 pub mod Changes
 pub mod Trims
 pub mod Next
@@ -17,6 +16,7 @@ pub mod Later
 pub mod Told
 pub mod Search
 pub mod Lifted
+pub mod Settled
 pub mod StreamsCrosses
 pub mod Moved
 pub mod Added

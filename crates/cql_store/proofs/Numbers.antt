@@ -3,10 +3,9 @@ use Rattle.std.proofs.Common.{◌≡◌, inl, inr, ℕ, zero, suc, ◌≤◌, �
 use Rattle.std.proofs.lemmas.Bool.Decides.{nat_tests}
 use Rattle.std.proofs.lemmas.Bool.{cases_eq}
 use Rattle.std.proofs.lemmas.List.{get_or-set_same, get_or-set_other, length-set}
-use Rattle.std.specs.List.{All}
 use Rattle.cql_store.specs.declared.stub.Stub.{Stub}
-use Rattle.cql_store.specs.Sequence.{Slots, slot_of, at_some, held_count, emptied, marked, greatest, limit, first_at, limit_at, lives, live_count, AreOf, AreLonger, AreKnown, AreWithin}
-use Rattle.cql_store.proofs.Keeps.{IsChange, marked_not}
+use Rattle.cql_store.specs.Sequence.{Slots, slot_of, held_count, emptied, greatest, limit, first_at, limit_at, lives, live_count, AreOf, AreLonger, AreKnown}
+use Rattle.cql_store.proofs.Keeps.{IsChange}
 
 -- ---- more slots
 
@@ -97,17 +96,10 @@ past_limit count s past top = let over : s.hold < held_count count s = omega (ar
 pub within_limit : (count : ℕ) (s : Stub) → count ≤ limit s → length s.kept ≤ s.hold → held_count count s ≤ s.hold
 within_limit count s low few = omega (arith, low, few)
 
--- a marked stub is marked already
-marked_once : (count : ℕ) (s : Stub) → s.overrun ≡ false → nat_lt s.hold (held_count count s) ≡ true → marked count (emptied s) ≡ marked count s
-marked_once count s live over = grind (arith, live, over)
-
 pub map_same : (F : Option Stub → Option Stub) (slots : Slots) (id : ℕ) (s : Stub) (o : Option Stub) → slot_of slots id ≡ Some s → F o ≡ F (Some s) → map F (set slots id o) ≡ map F slots
 map_same F [] id s o found same = refl
 map_same F (x ∷ slots) zero s o found same = λ i. (same ∙ ap F (sym found)) i ∷ map F slots
 map_same F (x ∷ slots) (suc id) s o found same = ap (λ l. F x ∷ l) (map_same F slots id s o found same)
-
-pub mark_same : (count : ℕ) (slots : Slots) (id : ℕ) (s : Stub) → slot_of slots id ≡ Some s → s.overrun ≡ false → nat_lt s.hold (held_count count s) ≡ true → map (at_some (marked count)) (set slots id (Some (emptied s))) ≡ map (at_some (marked count)) slots
-mark_same count slots id s found live over = map_same (at_some (marked count)) slots id s (Some (emptied s)) found (ap (λ (u : Stub). Some u) (marked_once count s live over))
 
 pub mark_fewer : (slots : Slots) (id : ℕ) (s : Stub) → slot_of slots id ≡ Some s → s.overrun ≡ false → live_count (set slots id (Some (emptied s))) < live_count slots
 mark_fewer [] id s found live = absurd cc
@@ -115,21 +107,3 @@ mark_fewer (x ∷ slots) zero s found live =
     let was : lives x ≡ 1 = ap lives found ∙ ap (λ b. cond b 0 1) live in
     omega (arith, was)
 mark_fewer (x ∷ slots) (suc id) s found live = let less : live_count (set slots id (Some (emptied s))) < live_count slots = mark_fewer slots id s found live in omega (arith, less)
-
-pub map_none : (F : Option Stub → Option Stub) (slots : Slots) → F None ≡ None → ((id : ℕ) (s : Stub) → slot_of slots id ≡ Some s → F (Some s) ≡ Some s) → map F slots ≡ slots
-map_none F [] none some = refl
-map_none F (None ∷ slots) none some = λ i. none i ∷ map_none F slots none (λ id s h. some (suc id) s h) i
-map_none F (Some s ∷ slots) none some = λ i. some 0 s refl i ∷ map_none F slots none (λ id s h. some (suc id) s h) i
-
--- where no limit is below the count, no stub is marked
-pub mark_none : (count : ℕ) (slots : Slots) (limits : List ℕ) → AreOf limit_at slots limits → AreWithin slots → All (λ n. count ≤ n) limits → map (at_some (marked count)) slots ≡ slots
-mark_none count slots limits of within all = map_none (at_some (marked count)) slots refl (λ id s found. ap (λ (u : Stub). Some u) (one id s found s.overrun refl))
-  where
-    one : (id : ℕ) (s : Stub) → slot_of slots id ≡ Some s → (b : Bool) → s.overrun ≡ b → marked count s ≡ s
-    one id s found true over = grind (arith, over)
-    one id s found false over =
-        let slot : id < length limits = of.covers id s found in
-        let low : count ≤ get_or limits id greatest = all id greatest slot in
-        let is : get_or limits id greatest ≡ limit s = of.each id ∙ ap limit_at found ∙ limit_live s over in
-        let below : count ≤ limit s = omega (arith, low, is) in
-        marked_not count s (within_limit count s below (within id s (record { held = found; live = over })))

@@ -38,16 +38,9 @@ held_count len s = len - s.first + length s.kept
 abbrev pub emptied : Stub → Stub
 emptied s = record s { overrun = true; kept = [] }
 
--- one that is overrun, and still keeps its rows: nobody sees them
-abbrev pub lapsed : Stub → Stub
-lapsed s = record s { overrun = true }
-
--- a stub without what it keeps, if it is overrun
-abbrev pub bare : Stub → Stub
-bare s = if s.overrun then record s { kept = [] } else s
-
+-- where so many rows have come, a stub that was marked as overrun, or has more rows than it may hold, has let its rows go
 abbrev pub marked : ℕ → Stub → Stub
-marked len s = if s.overrun then s else if nat_lt s.hold (held_count len s) then emptied s else s
+marked count s = if s.overrun then emptied s else if nat_lt s.hold (held_count count s) then emptied s else s
 
 abbrev pub at_some : (Stub → Stub) → Option Stub → Option Stub
 at_some f None = None
@@ -58,9 +51,13 @@ pub record IsLive (slots : Slots) (id : ℕ) (s : Stub) : Type 0 where
   pub held : slot_of slots id ≡ Some s
   pub live : s.overrun ≡ false
 
--- from one slot to before another no stub that is overrun keeps rows
-abbrev pub AreBareIn : Slots → ℕ → ℕ → Type 0
-AreBareIn slots from to = (id : ℕ) (s : Stub) → from ≤ id → id < to → slot_of slots id ≡ Some s → s.overrun ≡ true → s.kept ≡ []
+-- the stubs where so many rows have come, whether those that are overrun were marked yet or not
+abbrev pub settled : ℕ → Slots → Slots
+settled count slots = map (at_some (marked count)) slots
+
+-- from one slot to before another those that are overrun were marked, and keep no rows
+abbrev pub AreMarkedIn : ℕ → Slots → ℕ → ℕ → Type 0
+AreMarkedIn count slots from to = (id : ℕ) (s : Stub) → from ≤ id → id < to → slot_of slots id ≡ Some s → marked count s ≡ s
 
 -- a window of parts keeps its content itself, which are the newest of their parts; any other none
 abbrev pub IsKept : Window → List Element → ℕ → ℕ → Type 0

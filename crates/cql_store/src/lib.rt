@@ -28,6 +28,7 @@ mod part;
 mod parted;
 pub mod ready;
 mod retention_index;
+mod row_bytes;
 pub mod store;
 mod stores;
 pub mod streams_law;

@@ -1,11 +1,10 @@
 // What the stubs need of the store's rows, without a look at them.
-ghost use Rattle.std.specs.Prelude.{◌≡◌, ◌≢◌, ◌↔◌, ◌≤◌, ◌<◌, ◌+◌, ℕ, [], IfSome, IfNone, IsSome, IsTrue, OnOk, Some, length, set, slice_index, map, min, drop};
+ghost use Rattle.std.specs.Prelude.{◌≡◌, ◌≢◌, ◌↔◌, ◌≤◌, ◌<◌, ◌+◌, ℕ, [], IfSome, IfNone, IsTrue, OnOk, length, set, slice_index, min, drop};
 ghost use Rattle.std.specs.List.{All, Contains};
 ghost use Rattle.cql_bag.specs.Levels.{changed_where};
-ghost use Rattle.cql_store.specs.declared.stub.Stub.{Stub as StubValue};
-ghost use Rattle.cql_store.specs.Sequence.{greatest, AreLonger, AreKnown, AreOf, AreBareIn, AreWithin, IsKnown, IsStore, Slots, all_shown, at_some, bare, lapsed, limit_at, marked, live_count, slot_of};
+ghost use Rattle.cql_store.specs.Sequence.{greatest, AreLonger, AreKnown, AreMarkedIn, AreWithin, IsKnown, IsStore, Slots, all_shown, settled, live_count, slot_of};
 
-use crate::stub::{Stub, clear_lapsed, lapse, mark};
+use crate::stub::{Stub, mark};
 use cql_bag::MinTree;
 use cql_chunks::{Budget, Chunks, Waste};
 use slab::Slab;
@@ -16,7 +15,7 @@ use std::marker::Model;
 const FEW: usize = 64;
 
 // Or such a share of all stubs, where that is more. One by one they take less than a walk over all.
-const SHARE: usize = 64;
+const SHARE: usize = 256;
 
 /// By slot, the first row that its stub needs, and how many rows may have come before the stub has
 /// one too many. Where no stub lives both are the greatest number.
@@ -24,8 +23,8 @@ const SHARE: usize = 64;
 pub(crate) struct RetentionIndex {
     pub(crate) firsts: MinTree,
     pub(crate) limits: MinTree,
-    /// From this slot on some stubs that are overrun may still keep rows; where it is the greatest
-    /// number none does.
+    /// From this slot on some stubs that are overrun may not be marked yet, and keep rows; where it is
+    /// the greatest number all are marked.
     pub(crate) swept: usize,
 }
 
@@ -89,7 +88,8 @@ impl RetentionIndex {
     }
 
     /// The numbers of each slot whose stub has one too many where so many rows have come become the
-    /// greatest, in one walk over all slots. Those stubs may still keep rows. This takes no memory.
+    /// greatest, in one walk over all slots. Those stubs aren't marked yet, and may still keep rows.
+    /// This takes no memory.
     pub(crate) fn lift(&mut self, count: u64)
         ensures firsts { self.new.firsts ≡ changed_where self.old.limits count greatest self.old.firsts }
         ensures limits { self.new.limits ≡ changed_where self.old.limits count greatest self.old.limits }
@@ -101,7 +101,7 @@ impl RetentionIndex {
         self.swept = 0;
     }
 
-    /// Whether some stubs that are overrun may still keep rows.
+    /// Whether all stubs that are overrun are marked, and keep no rows.
     pub(crate) fn is_swept(&self) -> bool
         ensures { IsTrue result ↔ self.now.swept ≡ greatest }
     {
@@ -120,132 +120,111 @@ fn reach_in(numbers: &mut MinTree, alloc: Global, slot: usize) -> Result<(), All
     Ok(())
 }
 
-// Marks the stub of a slot that has one too many.
+// Marks the stub of a slot that has one too many with the row behind so many.
 fn mark_one(
     stubs: &mut Slab<Stub>,
     retention: &mut RetentionIndex,
     waste: &mut Waste,
     slot: usize,
-    count: u64,
+    came: u64,
 )
-    requires known { AreKnown stubs.old.slots retention.old.firsts retention.old.limits }
+    requires fits { came < greatest }
+    requires known { AreKnown (settled came stubs.old.slots) retention.old.firsts retention.old.limits }
     requires slot { slot < length retention.old.limits }
-    requires over { slice_index retention.old.limits slot < count }
-    ensures marked { map (at_some (marked count)) stubs.new.slots ≡ map (at_some (marked count)) stubs.old.slots }
-    ensures known { AreKnown stubs.new.slots retention.new.firsts retention.new.limits }
-    ensures within { AreWithin stubs.old.slots → AreWithin stubs.new.slots }
-    ensures fewer { live_count stubs.new.slots < live_count stubs.old.slots }
+    requires over { slice_index retention.old.limits slot < came + 1 }
+    ensures settled { settled (came + 1) stubs.new.slots ≡ settled (came + 1) stubs.old.slots }
+    ensures known { AreKnown (settled came stubs.new.slots) retention.new.firsts retention.new.limits }
+    ensures within { AreWithin (settled came stubs.old.slots) → AreWithin (settled came stubs.new.slots) }
+    ensures fewer { live_count (settled came stubs.new.slots) < live_count (settled came stubs.old.slots) }
 {
     match stubs.get_mut(slot) {
-        Some(stub) => mark(stub, waste),
+        Some(stub) => mark(stub, waste, came + 1),
         None => unreachable!(),
     }
     retention.put(slot, u64::MAX, u64::MAX);
 }
 
-// Marks stubs that have more than they may hold where so many rows have come, one by one: all of
+// Marks stubs that have more than they may hold with the row behind so many, one by one: all of
 // them where they are few. It looks at no other stub, and tells whether none is left.
 fn mark_few(
     stubs: &mut Slab<Stub>,
     retention: &mut RetentionIndex,
     waste: &mut Waste,
-    count: u64,
+    came: u64,
 ) -> bool
-    requires known { AreKnown stubs.old.slots retention.old.firsts retention.old.limits }
-    requires within { AreWithin stubs.old.slots }
-    ensures marked { map (at_some (marked count)) stubs.new.slots ≡ map (at_some (marked count)) stubs.old.slots }
-    ensures known { AreKnown stubs.new.slots retention.new.firsts retention.new.limits }
-    ensures within { AreWithin stubs.new.slots }
-    ensures none { IsTrue result → All (λ n. count ≤ n) retention.new.limits }
+    requires fits { came < greatest }
+    requires known { AreKnown (settled came stubs.old.slots) retention.old.firsts retention.old.limits }
+    requires within { AreWithin (settled came stubs.old.slots) }
+    ensures settled { settled (came + 1) stubs.new.slots ≡ settled (came + 1) stubs.old.slots }
+    ensures known { AreKnown (settled came stubs.new.slots) retention.new.firsts retention.new.limits }
+    ensures within { AreWithin (settled came stubs.new.slots) }
+    ensures none { IsTrue result → All (λ n. came + 1 ≤ n) retention.new.limits }
 {
     for _ in 0..retention.few() {
-        let Some(slot) = retention.overdue(count) else {
+        let Some(slot) = retention.overdue(came + 1) else {
             return true;
         };
-        mark_one(stubs, retention, waste, slot, count);
+        mark_one(stubs, retention, waste, slot, came);
     }
-    retention.overdue(count).is_none()
+    retention.overdue(came + 1).is_none()
 }
 
-// The stub of a slot is overrun, and still keeps its rows.
-fn lapse_at(stubs: &mut Slab<Stub>, slot: usize)
-    requires { IsSome (slot_of stubs.old.slots slot) }
-    ensures { (s : StubValue) → slot_of stubs.old.slots slot ≡ Some s → stubs.new.slots ≡ set stubs.old.slots slot (Some (lapsed s)) }
-{
-    match stubs.get_mut(slot) {
-        Some(stub) => lapse(stub),
-        None => unreachable!(),
-    }
-}
-
-// Each stub whose limit is below the count is overrun, by one walk over all limits. What these keep
-// stays for now: it would take longer than the walk.
-fn lapse_slots(stubs: &mut Slab<Stub>, limits: &[u64], count: u64)
-    requires limits { AreOf limit_at stubs.old.slots limits.now }
-    requires within { AreWithin stubs.old.slots }
-    ensures { map (at_some bare) stubs.new.slots ≡ map (at_some bare) (map (at_some (marked count)) stubs.old.slots) }
-{
-    for (slot, limit) in limits.iter().enumerate() {
-        if *limit < count {
-            lapse_at(stubs, slot);
-        }
-    }
-}
-
-// What the stub of a slot still keeps is let go where it is overrun.
-fn clear_at(stubs: &mut Slab<Stub>, waste: &mut Waste, slot: usize)
-    ensures same { map (at_some bare) stubs.new.slots ≡ map (at_some bare) stubs.old.slots }
+// The stub of a slot is marked, and lets its rows go, if it is overrun where so many have come.
+fn mark_at(stubs: &mut Slab<Stub>, waste: &mut Waste, slot: usize, count: u64)
+    ensures same { settled count stubs.new.slots ≡ settled count stubs.old.slots }
     ensures others { (id : ℕ) → id ≢ slot → slot_of stubs.new.slots id ≡ slot_of stubs.old.slots id }
-    ensures bare { AreBareIn stubs.new.slots slot (slot + 1) }
+    ensures marked { AreMarkedIn count stubs.new.slots slot (slot + 1) }
 {
     if let Some(stub) = stubs.get_mut(slot) {
-        clear_lapsed(stub, waste);
+        mark(stub, waste, count);
     }
 }
 
-/// Lets go of what stubs that are overrun still keep, slot by slot from where it stopped, as far as
-/// the budget has units: each slot takes one.
+/// Marks stubs that are overrun and aren't marked yet, and lets go of what they keep, slot by slot
+/// from where it stopped, as far as the budget has units: each slot takes one.
 pub(crate) fn sweep(
     stubs: &mut Slab<Stub>,
     retention: &mut RetentionIndex,
     waste: &mut Waste,
     budget: &mut Budget,
+    count: u64,
 )
-    ensures same { map (at_some bare) stubs.new.slots ≡ map (at_some bare) stubs.old.slots }
+    ensures same { settled count stubs.new.slots ≡ settled count stubs.old.slots }
     ensures firsts { retention.new.firsts ≡ retention.old.firsts }
     ensures limits { retention.new.limits ≡ retention.old.limits }
-    ensures bare { AreBareIn stubs.new.slots retention.old.swept (min retention.new.swept (length retention.old.limits)) }
+    ensures marked { AreMarkedIn count stubs.new.slots retention.old.swept (min retention.new.swept (length retention.old.limits)) }
     ensures all { 0 < budget.new.units → retention.new.swept ≡ greatest }
 {
     for slot in retention.swept..retention.limits.len() {
         if budget.units == 0 {
             return;
         }
-        clear_at(stubs, waste, slot);
+        mark_at(stubs, waste, slot, count);
         budget.units -= 1;
         retention.swept = slot + 1;
     }
     retention.swept = usize::MAX;
 }
 
-/// Marks each stub that has more than it may hold where so many rows have come. Where these are few
-/// it looks at no other stub; else it walks once over all, and what they keep stays for `sweep`.
-pub(crate) fn mark_all(
+/// With the row behind so many each stub that has more than it may hold is overrun. Where these are
+/// few it marks them and looks at no other stub. Where they are many it looks at no stub at all: it
+/// walks once over the numbers, and the stubs are marked by `sweep`.
+pub(crate) fn overrun_all(
     stubs: &mut Slab<Stub>,
     retention: &mut RetentionIndex,
     waste: &mut Waste,
-    count: u64,
+    came: u64,
 )
-    requires known { AreKnown stubs.old.slots retention.old.firsts retention.old.limits }
-    requires within { AreWithin stubs.old.slots }
-    ensures stubs { map (at_some bare) stubs.new.slots ≡ map (at_some bare) (map (at_some (marked count)) stubs.old.slots) }
-    ensures known { AreKnown stubs.new.slots retention.new.firsts retention.new.limits }
+    requires fits { came < greatest }
+    requires known { AreKnown (settled came stubs.old.slots) retention.old.firsts retention.old.limits }
+    requires within { AreWithin (settled came stubs.old.slots) }
+    ensures settled { settled (came + 1) stubs.new.slots ≡ settled (came + 1) stubs.old.slots }
+    ensures known { AreKnown (settled (came + 1) stubs.new.slots) retention.new.firsts retention.new.limits }
 {
-    if mark_few(stubs, retention, waste, count) {
+    if mark_few(stubs, retention, waste, came) {
         return;
     }
-    lapse_slots(stubs, retention.limits.numbers(), count);
-    retention.lift(count);
+    retention.lift(came + 1);
 }
 
 // Lets go of so many rows at the front.
@@ -259,6 +238,7 @@ fn drop_front(rows: &mut Chunks, behind: usize)
 /// Lets go of the rows before the first that some stub needs. Tells how many are gone then.
 pub(crate) fn trim(rows: &mut Chunks, gone: usize, retention: &RetentionIndex) -> usize
     requires { gone + length rows.old ≤ greatest }
+    ensures count { result + length rows.new ≡ gone + length rows.old }
     ensures store { (slots : Slots) → IsKnown rows.old gone slots retention.now.firsts retention.now.limits → IsStore rows.new result slots retention.now.firsts retention.now.limits }
     ensures same { (slots : Slots) → IsKnown rows.old gone slots retention.now.firsts retention.now.limits → all_shown rows.new result slots ≡ all_shown rows.old gone slots }
 {

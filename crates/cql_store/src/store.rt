@@ -1,12 +1,13 @@
 // The store of a stream.
-ghost use Rattle.std.specs.Prelude.{◌≡◌, ◌↔◌, IsSomeAnd, IsTrue, false, [], map, IsSome, OnOk, OnErr, IfOk, IfSome, None, Some};
+ghost use Rattle.std.specs.Prelude.{◌≡◌, ◌↔◌, ◌≤◌, ◌+◌, IsSomeAnd, IsTrue, false, [], length, map, IsSome, OnOk, OnErr, IfOk, IfSome, None, Some};
 ghost use Rattle.cql_store.specs.Held.{Updates, stub_of, opened, fed_at, CanAppend, CanAdvance, IsReady, HasParts, pinned, advanced, IsRowsHeld};
-ghost use Rattle.cql_store.specs.Sequence.{all_shown, shown, shifted, slot_of, IsKnown};
+ghost use Rattle.cql_store.specs.Sequence.{all_shown, greatest, settled, shown, shifted, slot_of, IsKnown};
 
 use crate::moves::{go_to, kept_at, pin_of};
 use crate::ready::Ready;
-use crate::retention_index::{RetentionIndex, mark_all, sweep, trim};
-use crate::stub::{Stub, StubId, StubRows, limit_of};
+use crate::retention_index::{RetentionIndex, overrun_all, sweep, trim};
+use crate::row_bytes::{RowBytes, bytes_of};
+use crate::stub::{Stub, StubId, StubRows, is_overrun, limit_of};
 use cql_chunks::{Budget, Chunks, Waste};
 use cql_value::Timed;
 use cql_window::{Window, WindowPin};
@@ -24,6 +25,13 @@ pub struct Store {
     retention: RetentionIndex,
     // What stubs kept that are gone.
     waste: Waste,
+    upkeep: Upkeep,
+}
+
+// What a store notes for itself, of which contracts see nothing.
+#[derive(Drop)]
+struct Upkeep {
+    bytes: RowBytes,
     // So many rows were gone when it was asked last, and whether it waits since to let go of something.
     noted: usize,
     waits: bool,
@@ -38,21 +46,21 @@ impl Drop for Store {
             stubs: _,
             retention: _,
             waste: _,
-            noted: _,
-            waits: _,
+            upkeep: _,
         } = self;
     }
 }
 
 impl Model for Store {
     ghost use Rattle.cql_store.specs.Held.{Stubs};
-    ghost use Rattle.cql_store.specs.Sequence.{all_shown, IsStore};
+    ghost use Rattle.std.specs.Prelude.{◌+◌, length};
+    ghost use Rattle.cql_store.specs.Sequence.{all_shown, settled, IsStore};
 
     ghost Value = { Stubs };
 
-    ghost view = { λ s. all_shown s.rows s.gone s.stubs.slots };
+    ghost view = { λ s. all_shown s.rows s.gone (settled (s.gone + length s.rows) s.stubs.slots) };
 
-    ghost invariant = { λ s. IsStore s.rows s.gone s.stubs.slots s.retention.firsts s.retention.limits };
+    ghost invariant = { λ s. IsStore s.rows s.gone (settled (s.gone + length s.rows) s.stubs.slots) s.retention.firsts s.retention.limits };
 }
 
 impl Store {
@@ -67,8 +75,11 @@ impl Store {
             stubs: Slab::new(alloc),
             retention: RetentionIndex::new(alloc),
             waste: Waste::new(alloc),
-            noted: 0,
-            waits: false,
+            upkeep: Upkeep {
+                bytes: RowBytes::new(alloc),
+                noted: 0,
+                waits: false,
+            },
         }
     }
 
@@ -101,8 +112,8 @@ impl Store {
 
     /// One more row for every stub that isn't overrun. A stub for which it is one too many is
     /// overrun from then on, and has no rows. It looks at the stubs that it overruns, and at no
-    /// other, or where these are many once at all. No store takes 2^64 rows: the last is refused as
-    /// for want of memory.
+    /// other, or where these are many at none, but once at their numbers. No store takes 2^64 rows:
+    /// the last is refused as for want of memory.
     pub fn append(&mut self, row: Timed) -> Result<(), AllocError>
         requires { CanAppend self.old row }
         ensures ok { OnOk result (self.new ≡ map (fed_at row) self.old) }
@@ -112,14 +123,18 @@ impl Store {
         if count == usize::MAX {
             return Err(AllocError);
         }
+        self.upkeep.bytes.reserve()?;
+        let bytes = bytes_of(&row);
         self.rows.push(self.alloc, row)?;
-        mark_all(
+        self.upkeep.bytes.add(count, bytes);
+        overrun_all(
             &mut self.stubs,
             &mut self.retention,
             &mut self.waste,
-            count as u64 + 1,
+            count as u64,
         );
         self.gone = trim(&mut self.rows, self.gone, &self.retention);
+        self.upkeep.bytes.let_go(self.gone);
         Ok(())
     }
 
@@ -129,7 +144,7 @@ impl Store {
         ensures { IfSome (stub_of self.now id) (λ s. result ≡ s.overrun) }
     {
         match self.stubs.get(id.slot) {
-            Some(stub) => stub.overrun,
+            Some(stub) => is_overrun(stub, count_of(&self.rows, self.gone)),
             None => false,
         }
     }
@@ -177,6 +192,7 @@ impl Store {
             ready,
         );
         self.gone = trim(&mut self.rows, self.gone, &self.retention);
+        self.upkeep.bytes.let_go(self.gone);
     }
 
     /// Lets go of as much of what no stub needs any more as the budget has units for.
@@ -189,6 +205,7 @@ impl Store {
             &mut self.retention,
             &mut self.waste,
             budget,
+            count_of(&self.rows, self.gone),
         );
         self.waste.settle(budget);
     }
@@ -198,10 +215,10 @@ impl Store {
         ensures { self.new ≡ self.old }
     {
         let waste = !self.waste.is_empty() || !self.retention.is_swept();
-        let waits = self.waits || self.gone != self.noted || waste;
-        let begins = waits && !self.waits;
-        self.noted = self.gone;
-        self.waits = waits;
+        let waits = self.upkeep.waits || self.gone != self.upkeep.noted || waste;
+        let begins = waits && !self.upkeep.waits;
+        self.upkeep.noted = self.gone;
+        self.upkeep.waits = waits;
         begins
     }
 
@@ -209,7 +226,7 @@ impl Store {
     pub(crate) fn end_wait(&mut self)
         ensures { self.new ≡ self.old }
     {
-        self.waits = false;
+        self.upkeep.waits = false;
     }
 
     /// How many rows the store holds: as many as the stub that needs the most.
@@ -219,12 +236,17 @@ impl Store {
         self.rows.len() as u64
     }
 
+    /// About how many bytes these rows take, with their texts. It looks at 128 of them at most.
+    pub fn bytes_held(&self) -> u64 {
+        self.upkeep.bytes.of(&self.rows, self.gone)
+    }
+
     /// Whether there is such a stub, isn't overrun, and may go to the cursor: its own is no later.
     pub fn may_advance(&self, id: StubId, to: u64) -> bool
         ensures { IsTrue result ↔ IsSomeAnd (stub_of self.now id) (CanAdvance to) }
     {
         match self.stubs.get(id.slot) {
-            Some(stub) => !stub.overrun && stub.cursor <= to,
+            Some(stub) => !is_overrun(stub, count_of(&self.rows, self.gone)) && stub.cursor <= to,
             None => false,
         }
     }
@@ -237,7 +259,16 @@ impl Store {
         let_go(self.stubs.try_remove(id.slot), &mut self.waste);
         self.retention.put(id.slot, u64::MAX, u64::MAX);
         self.gone = trim(&mut self.rows, self.gone, &self.retention);
+        self.upkeep.bytes.let_go(self.gone);
     }
+}
+
+// So many rows came.
+fn count_of(rows: &Chunks, gone: usize) -> u64
+    requires { gone + length rows.now ≤ greatest }
+    ensures { result ≡ gone + length rows.now }
+{
+    (gone + rows.len()) as u64
 }
 
 // Lets go of a stub that was taken away, and of the rows that it kept a few at a time.
@@ -256,10 +287,10 @@ fn move_one(
     gone: usize,
     ready: Ready,
 )
-    requires known { IsKnown rows.now gone stubs.old.slots retention.old.firsts retention.old.limits }
-    requires can { IsSomeAnd (slot_of stubs.old.slots ready.id) (λ s. IsReady ready.to ready.kept (shown rows.now (shifted gone s))) }
-    ensures known { IsKnown rows.now gone stubs.new.slots retention.new.firsts retention.new.limits }
-    ensures moved { IfSome (slot_of stubs.old.slots ready.id) (λ s. Updates (all_shown rows.now gone stubs.old.slots) (all_shown rows.now gone stubs.new.slots) ready.id (Some (advanced ready.to (shown rows.now (shifted gone s))))) }
+    requires known { let count = gone + length rows.now in IsKnown rows.now gone (settled count stubs.old.slots) retention.old.firsts retention.old.limits }
+    requires can { let count = gone + length rows.now in IsSomeAnd (slot_of (settled count stubs.old.slots) ready.id) (λ s. IsReady ready.to ready.kept (shown rows.now (shifted gone s))) }
+    ensures known { let count = gone + length rows.now in IsKnown rows.now gone (settled count stubs.new.slots) retention.new.firsts retention.new.limits }
+    ensures moved { let count = gone + length rows.now in IfSome (slot_of (settled count stubs.old.slots) ready.id) (λ s. Updates (all_shown rows.now gone (settled count stubs.old.slots)) (all_shown rows.now gone (settled count stubs.new.slots)) ready.id (Some (advanced ready.to (shown rows.now (shifted gone s))))) }
 {
     let Ready { id, to, kept } = ready;
     match stubs.get_mut(id.slot) {

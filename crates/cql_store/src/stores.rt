@@ -203,6 +203,14 @@ impl Stores {
         self.owners[owner.index()].store(stream).rows_held()
     }
 
+    /// About how many bytes the rows take that the store of a stream holds, with their texts. It looks at
+    /// 128 of them at most.
+    pub fn bytes_held(&self, owner: TenantId, stream: usize) -> u64
+        requires { IsStream self.now owner stream }
+    {
+        self.owners[owner.index()].store(stream).bytes_held()
+    }
+
     // Notes whether the store of a stream has something to let go of.
     // Takes no memory: there is room for each stream.
     fn note(&mut self, owner: TenantId, stream: usize)

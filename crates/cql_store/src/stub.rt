@@ -1,6 +1,6 @@
 // A window on the store's rows.
-ghost use Rattle.std.specs.Prelude.{◌≡◌, ◌++◌, [], length, IfOk, OnOk};
-ghost use Rattle.cql_store.specs.Sequence.{bare, emptied, lapsed, limit};
+ghost use Rattle.std.specs.Prelude.{◌≡◌, ◌++◌, [], length, nat_lt, IfOk, OnOk};
+ghost use Rattle.cql_store.specs.Sequence.{held_count, limit, marked};
 
 use crate::kept_parts::KeptParts;
 use cql_chunks::{Chunks, Waste};
@@ -147,6 +147,8 @@ pub(crate) struct Stub {
     /// Before it, the unseen rows are known to have come before the end that the window looks up
     /// to: they wait for a whole slide of rows.
     pub(crate) counted: usize,
+    /// It was marked as overrun. One that is overrun and isn't marked yet has more rows than it may
+    /// hold.
     pub(crate) overrun: bool,
     pub(crate) kept: StubRows,
 }
@@ -166,28 +168,32 @@ impl Drop for Stub {
     }
 }
 
-/// There are more rows than the stub may hold. Those that it keeps are let go by `clear_lapsed`.
-pub(crate) fn lapse(stub: &mut Stub)
-    ensures { stub.new ≡ lapsed stub.old }
+// Whether a stub that isn't marked has more rows than it may hold where so many have come.
+fn is_past(stub: &Stub, count: u64) -> bool
+    ensures { result ≡ nat_lt stub.now.hold (held_count count stub.now) }
 {
-    stub.overrun = true;
-}
-
-/// Lets go of the rows that the stub still keeps where it is overrun.
-pub(crate) fn clear_lapsed(stub: &mut Stub, waste: &mut Waste)
-    ensures { stub.new ≡ bare stub.old }
-{
-    if stub.overrun {
-        stub.kept.clear(waste);
+    match stub.hold.checked_sub(stub.kept.len() as u64) {
+        Some(room) => room < count.saturating_sub(stub.first as u64),
+        None => true,
     }
 }
 
-/// Lets the rows go: there are more than the stub may hold.
-pub(crate) fn mark(stub: &mut Stub, waste: &mut Waste)
-    ensures { stub.new ≡ emptied stub.old }
+/// Whether the stub is overrun where so many rows have come: it was marked, or has more than it may
+/// hold.
+pub(crate) fn is_overrun(stub: &Stub, count: u64) -> bool
+    ensures { result ≡ (marked count stub.now).overrun }
 {
-    lapse(stub);
-    clear_lapsed(stub, waste);
+    stub.overrun || is_past(stub, count)
+}
+
+/// Marks the stub, and lets its rows go, if it is overrun where so many have come.
+pub(crate) fn mark(stub: &mut Stub, waste: &mut Waste, count: u64)
+    ensures { stub.new ≡ marked count stub.old }
+{
+    if is_overrun(stub, count) {
+        stub.overrun = true;
+        stub.kept.clear(waste);
+    }
 }
 
 /// So many rows may have come before the stub has one too many.

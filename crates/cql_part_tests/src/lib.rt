@@ -7,6 +7,8 @@ mod groups;
 #[cfg(test)]
 mod joins;
 #[cfg(test)]
+mod looks;
+#[cfg(test)]
 mod lookups;
 #[cfg(test)]
 mod stores;

@@ -365,7 +365,7 @@ const THREE_TENS: Case = Case {
     tells: false,
 };
 
-// Whether the operator has no memory while the flag is set, and else tells a thousand rows.
+// Whether the operator has no memory while the flag is set, and else tells as many rows as it may.
 fn gives_up<O: Operator>(alloc: Global, op: &mut O, case: &Case) -> Result<bool, OpError>
     requires { (O.model_of op.old).kind ≡ join_kind }
 {
@@ -374,7 +374,7 @@ fn gives_up<O: Operator>(alloc: Global, op: &mut O, case: &Case) -> Result<bool,
     flag.set();
     let given_up = told(alloc, op, case);
     flag.clear();
-    Ok(given_up == Err(OpError::NoMemory) && told(alloc, op, case)? == 1000)
+    Ok(given_up == Err(OpError::NoMemory) && told(alloc, op, case)? as u64 == case.limit)
 }
 
 // Whether a keyed join does, and how often it then asks its condition.
@@ -407,6 +407,32 @@ fn a_keyed_join_is_given_up(rt: HostRuntime) -> Result<(), Fail> {
 fn a_plain_join_is_given_up(rt: HostRuntime) -> Result<(), Fail> {
     // A hundred pairs of the first two ports' rows, each put to ten of the third.
     assert!(rt; plain_gives_up(rt.alloc(), &THREE_TENS)? == (true, 1100));
+    Ok(())
+}
+
+#[test]
+fn a_filter_is_given_up(rt: HostRuntime) -> Result<(), Fail> {
+    let case = Case {
+        ports: 1,
+        all: &[],
+        rows: &[Rows::Below(0, 601)],
+        limit: 600,
+        tells: false,
+    };
+    // Each row is pushed and told: neither alone is as many steps as stand between two looks.
+    assert!(rt; plain_gives_up(rt.alloc(), &case)? == (true, 0));
+    Ok(())
+}
+
+#[test]
+fn a_keyed_join_is_given_up_as_it_tells(rt: HostRuntime) -> Result<(), Fail> {
+    let case = Case {
+        rows: &[Rows::Below(0, 301), Rows::Below(1, 301)],
+        limit: 300,
+        ..TENS
+    };
+    // 600 rows are pushed, and 300 pairs tried and told.
+    assert!(rt; keyed_gives_up(rt.alloc(), &case)? == (true, 300));
     Ok(())
 }
 

@@ -99,7 +99,8 @@ module _ (p : Put) (ms : Members) (h : Holds p ms) where
     keys = among (codes "at") _ ms refl h.keys;
   })
 
-  pub holds_row : (d : Data) (v : Vec Value Global) (q : Put) → values_of d ≡ Some v.items → q ≡ record { is_put = p.is_put; tenant = p.tenant; stream = p.stream; at = p.at; row = Some v } → Holds q (put (codes "row") d ms)
+  pub holds_row : (d : Data) (v : Vec Value Global) (q : Put) → values_of d ≡ Some v.items → q ≡ record { is_put = p.is_put; tenant = p.tenant; stream = p.stream; at = p.at; row = Some v }
+      → Holds q (put (codes "row") d ms)
   holds_row d v q is e = rw e (record {
     word = kept (codes "do") (codes "row") _ ms refl ∙ h.word;
     tenant = kept (codes "tenant") (codes "row") _ ms refl ∙ h.tenant;

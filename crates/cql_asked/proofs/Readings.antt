@@ -20,7 +20,8 @@ as_none A B UnknownTenant told = cc
 as_none A B NoMemory told = tt
 
 -- what is no answer to a part is none to the whole
-pub passed_on : {A B : Type 0} (part : Option A) (whole : Option B) (fault : LineFault) (r : Result B LineFault) → r ≡ Err fault → (part ≡ None → whole ≡ None) → Means (ok_or part BadKey) (Err fault) → Means (ok_or whole BadKey) r
+pub passed_on : {A B : Type 0} (part : Option A) (whole : Option B) (fault : LineFault) (r : Result B LineFault) → r ≡ Err fault → (part ≡ None → whole ≡ None)
+    → Means (ok_or part BadKey) (Err fault) → Means (ok_or whole BadKey) r
 passed_on {A} {B} part whole fault r is less told = subst (λ r. Means (ok_or whole BadKey) r) (sym is) (by_part part whole fault less told)
   where
     by_part : (part : Option A) (whole : Option B) (fault : LineFault) → (part ≡ None → whole ≡ None) → Means (ok_or part BadKey) (Err fault) → Means (ok_or whole BadKey) (Err fault)

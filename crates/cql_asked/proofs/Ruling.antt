@@ -18,7 +18,8 @@ use Rattle.cql_asked.specs.declared.rules.TenantRule.TheVariants as rule
 use Rattle.cql_asked.specs.declared.rules.BrokenRule.TheVariants as broken
 use Rattle.cql_lines.specs.Tree.{text_at, whole_at, array_at, has_only, all_of}
 use Rattle.cql_asked.specs.Table.{tenant_keys, tenant_of, tenants_of, as_table}
-use Rattle.cql_asked.specs.Rules.{word_of, is_number, is_key, is_named, key_passes, number_rule, keys_rule, rule_of_tenant, tenant_breaks, rules_from, is_the_name, has_name, named_from, twin_of, twin_breaks, twins_from, items_len, rule_of_items, rule_in_list, rule_of_tree}
+use Rattle.cql_asked.specs.Rules.{word_of, is_number, is_key, is_named, key_passes, number_rule, keys_rule, rule_of_tenant, tenant_breaks, rules_from, is_the_name, has_name, named_from, twin_of}
+use Rattle.cql_asked.specs.Rules.{twin_breaks, twins_from, items_len, rule_of_items, rule_in_list, rule_of_tree}
 
 pub items_len_view : (vs : List Value) → items_len (items_view vs) ≡ length vs
 items_len_view [] = refl

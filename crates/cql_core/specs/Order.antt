@@ -12,7 +12,8 @@ use Rattle.cql_window.specs.Chosen.{is_shown}
 use Rattle.cql_core.specs.declared.command.ColumnText.{ColumnText}
 use Rattle.cql_core.specs.declared.command.Command.TheVariants.{Stream, Grant, Revoke, Put, Beat, Query, Fetch, Ack, Drop, List as Lists}
 use Rattle.cql_core.specs.declared.refusal.Refusal.{Refusal}
-use Rattle.cql_core.specs.declared.refusal.Refusal.TheVariants.{StreamExists, BadName, BadColumns, TooManyStreams, UnknownStream, UnknownTenant, AlreadyGranted, SelfGrant, BadGrantColumns, NotGranted, WrongRow, Late, AtTooLarge, BadQuery, TooManyQueries, QueryExists, UnknownQuery, Overrun, Ahead, Behind, Revoked}
+use Rattle.cql_core.specs.declared.refusal.Refusal.TheVariants.{StreamExists, BadName, BadColumns, TooManyStreams, UnknownStream, UnknownTenant, AlreadyGranted, SelfGrant, BadGrantColumns, NotGranted}
+use Rattle.cql_core.specs.declared.refusal.Refusal.TheVariants.{WrongRow, Late, AtTooLarge, BadQuery, TooManyQueries, QueryExists, UnknownQuery, Overrun, Ahead, Behind, Revoked}
 use Rattle.cql_core.specs.Columns.{schema_of}
 use Rattle.cql_core.specs.Bound.{BoundPlan}
 use Rattle.cql_core.specs.ReplyModel.{ReplyModel, Done, Based, Blocks, Refused}
@@ -103,7 +104,8 @@ pub record ShowsWhole (q : SoloQuery) (result end : ℕ) (p : PinModel) : Type 0
   pub before : (c : ℕ) → c ≤ q.base → contents_at p c ≡ None
   pub since : (c : ℕ) → q.base < c → contents_at p c ≡ Some (through_projections q.plan.plan.inputs (map (λ i. content i.window c [] (rows_on i.stream_id q.came)) q.plan.inputs))
 
--- Of each command its checks in their order, and what it is told where no fault is there. Of a fetch that is the blocks of any pin that shows the query whole up to the limit, or up to `until` where that is less; there is such a pin.
+-- Of each command its checks in their order, and what it is told where no fault is there. Of a fetch that is the blocks
+-- of any pin that shows the query whole up to the limit, or up to `until` where that is less; there is such a pin.
 pub record OrderLaw (language : Language) (tenant : ℕ) (k : SoloState) : Type 0 where
   pub make : (name : List ℕ) (columns : List ColumnText) → Tells tenant k (stream_checks k name columns) Done (meaning language tenant k (Stream name columns))
   pub grant : (stream to : List ℕ) (columns : Option (List (List ℕ))) → Tells tenant k (grant_checks tenant k stream columns (tenant_in tenant k to)) Done (meaning language tenant k (Grant stream to columns))
@@ -112,8 +114,10 @@ pub record OrderLaw (language : Language) (tenant : ℕ) (k : SoloState) : Type 
   pub put : (name : List ℕ) (at : ℕ) (row : List Value) (s : Clocked) → find_named k.streams name ≡ Some s → Tells tenant k (row_checks s at row) Done (meaning language tenant k (Put name at row))
   pub beat_nowhere : (name : List ℕ) (at : ℕ) → find_named k.streams name ≡ None → Tells tenant k no_stream Done (meaning language tenant k (Beat name at))
   pub beat : (name : List ℕ) (at : ℕ) (s : Clocked) → find_named k.streams name ≡ Some s → Tells tenant k (time_checks s at) Done (meaning language tenant k (Beat name at))
-  pub query_refused : (name text : List ℕ) (refusal : Refusal) → plan_in language tenant k text ≡ Err refusal → Tells tenant k (query_checks language k name text) (Refused refusal) (meaning language tenant k (Query name text))
-  pub query : (name text : List ℕ) (plan : BoundPlan) → plan_in language tenant k text ≡ Ok plan → Tells tenant k (query_checks language k name text) (Based (limit_to tenant k plan)) (meaning language tenant k (Query name text))
+  pub query_refused : (name text : List ℕ) (refusal : Refusal) → plan_in language tenant k text ≡ Err refusal
+      → Tells tenant k (query_checks language k name text) (Refused refusal) (meaning language tenant k (Query name text))
+  pub query : (name text : List ℕ) (plan : BoundPlan) → plan_in language tenant k text ≡ Ok plan
+      → Tells tenant k (query_checks language k name text) (Based (limit_to tenant k plan)) (meaning language tenant k (Query name text))
   pub fetch_nothing : (name : List ℕ) (until : Option ℕ) → find_named k.queries name ≡ None → Tells tenant k no_query Done (meaning language tenant k (Fetch name until))
   pub fetch : (name : List ℕ) (q : SoloQuery) (p : PinModel) → find_named k.queries name ≡ Some q → ShowsWhole q k.quotas.result (limit_to tenant k q.plan) p
       → Tells tenant k (gone_check q ∷ overrun_check k q ∷ []) (Blocks (language.blocks_of p) (limit_to tenant k q.plan)) (meaning language tenant k (Fetch name None))

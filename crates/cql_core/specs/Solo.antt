@@ -42,7 +42,8 @@ pub record SoloQuery : Type 0 where
   pub came : List Came
   pub gone : Bool
 
--- what a tenant knows: the names of all tenants, its quotas, its streams in order of making, its own grants (the index of the reader and the name of the stream), the streams that were granted to it in order of the grants, and its live queries in order of registration
+-- what a tenant knows: the names of all tenants, its quotas, its streams in order of making, its own grants (the index of the reader and
+-- the name of the stream), the streams that were granted to it in order of the grants, and its live queries in order of registration
 pub record SoloState : Type 0 where
   pub names : List (List ℕ)
   pub quotas : Quotas

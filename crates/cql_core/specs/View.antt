@@ -41,7 +41,8 @@ seen_of_other tenant namespaces user (Grant stream to columns) =
 seen_of_other tenant namespaces user (Revoke stream to) =
     if is_accepted (reply_on_streams namespaces user (revoke stream to)) && is_tenant tenant (tenant_named namespaces user to) then Gone (stream_id_of user stream) ∷ [] else []
 seen_of_other tenant namespaces user (Put stream at row) =
-    if is_accepted (reply_on_streams namespaces user (put stream at row)) && has_grant namespaces user stream tenant then Comes (stream_id_of user stream) (record { at = at; row = projected row (projection_in namespaces tenant (stream_id_of user stream)) }) ∷ [] else []
+    if is_accepted (reply_on_streams namespaces user (put stream at row)) && has_grant namespaces user stream tenant
+    then Comes (stream_id_of user stream) (record { at = at; row = projected row (projection_in namespaces tenant (stream_id_of user stream)) }) ∷ [] else []
 seen_of_other tenant namespaces user (Beat stream at) =
     if is_accepted (reply_on_streams namespaces user (beat stream at)) && has_grant namespaces user stream tenant then Beats (stream_id_of user stream) at ∷ [] else []
 seen_of_other tenant namespaces user (Stream name columns) = []

@@ -20,9 +20,10 @@ use cql_algebra::{Block, Output, Runs};
 use cql_bag::Room;
 use cql_ops::{BenchOf, Operator};
 use cql_plan::OutputKind;
-use cql_value::Items;
+use cql_value::{Items, Row};
 use cql_window::changes;
 use std::alloc::{AllocError, Global};
+use std::mem::size_of;
 use std::sync::Arc;
 
 /// The blocks of a pin, in one walk over its rows: the bench is started anew, and the relation is
@@ -99,17 +100,27 @@ pub(crate) fn evaluate<O: Operator>(
     let mut rows = Room::new(alloc);
     let until = next_of(left, end);
     let told_before = bench.told();
-    let mut lists: u64 = 0;
     let (mut shown, went_on) = begin(alloc, bench, pin, kept, &mut runs, &mut rows, until)?;
+    let mut lists = first_list(pin, &runs, &shown.last);
+    bench.look(told_before, lists, left.len())?;
     while let Some((_, later)) = left.split_first() {
-        bench.look(told_before, lists, later.len())?;
         left = later;
         let until = next_of(left, end);
         change(alloc, bench, pin, &mut shown, &mut runs, &mut rows, until)?;
         lists = lists.saturating_add(bench.listed(shown.last.bag.size()));
+        bench.look(told_before, lists, left.len())?;
     }
     let last = remember(alloc, bench, pin, shown);
     Ok((runs.finish(), 1 + instants.len() as u64, went_on, last))
+}
+
+// How many bytes the list takes that is told at the first instant, if one is. Kinds that tell no relation
+// whole keep no rows.
+fn first_list(pin: &Pin, runs: &Runs, last: &LastTold) -> u64 {
+    if runs.next() == pin.from() || last.fault.is_some() {
+        return 0;
+    }
+    last.bag.size().saturating_mul(size_of::<Row>() as u64)
 }
 
 // The instants from the first one at which a window's content may change, in whatever order.

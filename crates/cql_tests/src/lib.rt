@@ -17,6 +17,8 @@ mod pins;
 #[cfg(test)]
 mod pools;
 #[cfg(test)]
+mod rooms;
+#[cfg(test)]
 mod scripts;
 #[cfg(test)]
 mod splits;

@@ -1,4 +1,4 @@
-mod Buffering
+pub mod Buffering
 mod Escaping
 mod Plain
-mod Telling
+pub mod Telling

@@ -1,5 +1,7 @@
 -- Lemmas on what is told and what is to come.
-use Rattle.std.proofs.Common.{◌≡◌, ℕ, ◌≤◌, List, [], ◌∷◌, ◌++◌, length, take, arith, refl, sym, ap, ◌∙◌, append_assoc}
+use Rattle.std.proofs.Common.{◌≡◌, ℕ, ◌<◌, ◌≤◌, true, false, List, [], ◌∷◌, ◌++◌, length, take, drop, arith, refl, sym, ap, ◌∙◌, append_assoc}
+use Rattle.cql_value.specs.declared.value.Value.{Value}
+use Rattle.cql_reply.specs.Line.{items_text, value_text}
 
 -- what comes behind stays behind
 pub told_behind : (before after rest left behind : List ℕ) → after ++ left ≡ before ++ rest → after ++ (left ++ behind) ≡ before ++ (rest ++ behind)
@@ -16,3 +18,8 @@ cut_back (b ∷ bs) (n ∷ ns) rest text is grows =
     let more : take (length bs) ns ≡ bs = cut_back bs ns rest text tail longer in
     let same : n ≡ b = cc in
     cc
+
+-- items with a comma before each are the items of a list behind its opening bracket
+pub opened : (values : List Value) → 0 < length values → (text : List ℕ) → text ≡ items_text value_text true values → 91 ∷ drop 1 text ≡ 91 ∷ items_text value_text false values
+opened [] some text is = absurd (omega (arith, some))
+opened (v ∷ vs) some text is = ap (λ t. 91 ∷ drop 1 t) is

@@ -69,7 +69,7 @@ impl ByteRoom {
     }
 
     /// Whether there is room for any step.
-    pub(crate) fn has_room(&self) -> bool
+    pub fn has_room(&self) -> bool
         ensures { IsTrue result ↔ (length self.now.bytes + 64 ≤ self.now.size) }
     {
         self.size - self.bytes.len() >= PIECE
@@ -83,13 +83,13 @@ impl ByteRoom {
     }
 
     /// Holds one byte more. Takes no memory.
-    pub(crate) fn push(&mut self, byte: u8)
+    pub fn push(&mut self, byte: u8)
         requires { length self.old.bytes < self.old.size }
         ensures bytes { self.new.bytes ≡ self.old.bytes ++ byte ∷ [] }
         ensures len { length self.new.bytes ≡ length self.old.bytes + 1 }
         ensures size { self.new.size ≡ self.old.size }
     {
-        let _ = self.bytes.push(byte);
+        self.bytes.push_reserved(byte);
     }
 
     /// Holds these bytes too. Takes no memory.
@@ -102,8 +102,20 @@ impl ByteRoom {
         let _ = self.bytes.extend_from_slice(bytes);
     }
 
+    /// The same, one by one: few bytes are held sooner so.
+    pub(crate) fn put_few(&mut self, bytes: &[u8])
+        requires { length self.old.bytes + length bytes.now ≤ self.old.size }
+        ensures bytes { self.new.bytes ≡ self.old.bytes ++ bytes.now }
+        ensures len { length self.new.bytes ≡ length self.old.bytes + length bytes.now }
+        ensures size { self.new.size ≡ self.old.size }
+    {
+        for byte in bytes {
+            self.push(*byte);
+        }
+    }
+
     /// Holds the digits of a number too. Takes no memory.
-    pub(crate) fn put_number(&mut self, number: u64)
+    pub fn put_number(&mut self, number: u64)
         requires { length self.old.bytes + 20 ≤ self.old.size }
         ensures bytes { self.new.bytes ≡ self.old.bytes ++ decimal number }
         ensures len { length self.new.bytes ≤ length self.old.bytes + 20 }

@@ -1,5 +1,5 @@
 //! The line of an answer, written as there is room for it: what is kept of it is the answer and a
-//! place in its line, and no text of the line.
+//! place in its line, and no text of the line. Lists of other things are written so, too.
 #![tactic(auto)]
 
 mod block_place;
@@ -13,4 +13,7 @@ mod weight;
 
 pub use byte_room::ByteRoom;
 pub use line_place::LinePlace;
+pub use list_place::ListPlace;
+pub use text_place::TextPlace;
+pub use value_place::{ValuePlace, put_escaped};
 pub use weight::weight_of;

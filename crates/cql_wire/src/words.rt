@@ -5,7 +5,7 @@ ghost use Rattle.std.specs.Net.Grammar.{Parses, IsIpv4Text};
 use clap::builder::ValueParser;
 use clap::error::ErrorKind;
 use clap::{Arg, ArgAction, ArgMatches, Command, Error, value_parser};
-use std::alloc::Global;
+use std::alloc::{AllocError, Global};
 use std::env::{self, Env};
 use std::io;
 use std::net::{AddrParseError, Ipv4Addr};
@@ -28,7 +28,7 @@ pub enum JoinForm {
 }
 
 /// What is served, and how.
-#[derive(Clone, Copy)]
+#[derive(Drop)]
 pub struct Config {
     /// The address that is listened at, of this machine; 0.0.0.0 for all that it has.
     pub listen: Ipv4Addr,
@@ -59,6 +59,11 @@ pub struct Config {
     pub room: u32,
     /// Every how many seconds what was done is told, up to 86,400; at 0 never.
     pub log: u32,
+    /// The file that the calls are written to that change something, and read from at the start.
+    pub journal: Option<String>,
+    /// For how many milliseconds such calls are gathered before they are made durable, up to 60,000; at 0
+    /// for as long as the last ones took.
+    pub sync: u16,
     /// Whether each call is kept, and checked after the last session.
     pub audit: bool,
     /// Whether the tenants are looked at, and nobody is served.
@@ -88,6 +93,7 @@ where
     ensures warm_room { IfOk result (λ c. (1 ≤ c.warm_room) × (c.warm_room ≤ 65536)) }
     ensures room { IfOk result (λ c. (1 ≤ c.room) × (c.room ≤ 65536)) }
     ensures log { IfOk result (λ c. c.log ≤ 86400) }
+    ensures sync { IfOk result (λ c. c.sync ≤ 60000) }
 {
     let words = match words_of(rt) {
         Ok(words) => words,
@@ -126,6 +132,7 @@ fn read_words(alloc: Global, words: &[String]) -> Result<Config, Error>
     ensures warm_room { IfOk result (λ c. (1 ≤ c.warm_room) × (c.warm_room ≤ 65536)) }
     ensures room { IfOk result (λ c. (1 ≤ c.room) × (c.room ≤ 65536)) }
     ensures log { IfOk result (λ c. c.log ≤ 86400) }
+    ensures sync { IfOk result (λ c. c.sync ≤ 60000) }
 {
     let matches = command(alloc)?.try_get_matches_from(words)?;
     let Ok(listen) = address_of(matches.get_str("listen").unwrap_or("")) else {
@@ -145,6 +152,8 @@ fn read_words(alloc: Global, words: &[String]) -> Result<Config, Error>
         warm_room: number(&matches, "warm-room", 1, 65_536),
         room: number(&matches, "room", 1, 65_536),
         log: number(&matches, "log", 0, 86_400),
+        journal: text_of(alloc, matches.get_str("journal"))?,
+        sync: number(&matches, "sync", 0, 60_000) as u16,
         audit: matches.get_flag("audit"),
         check: matches.get_flag("check"),
     })
@@ -169,6 +178,14 @@ fn number(matches: &ArgMatches, word: &str, least: u32, most: u32) -> u32
         .clamp(least, most)
 }
 
+// A copy of a text, if there is one.
+fn text_of(alloc: Global, text: Option<&str>) -> Result<Option<String>, AllocError> {
+    match text {
+        Some(text) => Ok(Some(String::from_str(alloc, text)?)),
+        None => Ok(None),
+    }
+}
+
 // The form of that name; keyed where none is named.
 fn join_form(name: Option<&str>) -> JoinForm {
     match name {
@@ -186,8 +203,12 @@ enum Takes {
     Seconds(&'static str, i64),
     // A number of MiB: what it is where none is given, the least and the most.
     Mebibytes(&'static str, i64, i64),
+    // A number of milliseconds: what it is where none is given, and the most.
+    Milliseconds(&'static str, i64),
     // A form of joins.
     Form,
+    // A file, of which none need be given, and none may be beside these words.
+    File(&'static [&'static str]),
     // An IPv4 address: what it is where none is given.
     Address(&'static str),
     Nothing,
@@ -263,6 +284,16 @@ const WORDS: &[Word] = &[
         "How often counts are told on standard error, with who comes and leaves, or 0 for nothing",
     ),
     Word(
+        "journal",
+        Takes::File(&["audit", "sessions"]),
+        "The file that keeps what changes for the next start; without it nothing is kept",
+    ),
+    Word(
+        "sync",
+        Takes::Milliseconds("0", 60_000),
+        "How long changes are gathered before the file has them for good",
+    ),
+    Word(
         "audit",
         Takes::Nothing,
         "Keep each call, and check them after the last session",
@@ -277,7 +308,7 @@ const WORDS: &[Word] = &[
 fn command<'a>(alloc: Global) -> Result<Command<'a>, Error> {
     let mut words = Vec::with_capacity(alloc, WORDS.len())?;
     for word in WORDS {
-        words.push(argument(alloc, word))?;
+        words.push(argument(alloc, word)?)?;
     }
     let command = Command::new(alloc, "cqld").version(VERSION).about(
         "Serves continuous queries to the tenants that standard input names",
@@ -285,10 +316,10 @@ fn command<'a>(alloc: Global) -> Result<Command<'a>, Error> {
     Ok(command.args(words)?)
 }
 
-fn argument<'a>(alloc: Global, word: &'static Word) -> Arg<'a> {
+fn argument<'a>(alloc: Global, word: &'static Word) -> Result<Arg<'a>, AllocError> {
     let Word(name, takes, help) = word;
     let argument = Arg::new(alloc, *name).long(*name).help(*help);
-    match *takes {
+    let argument = match *takes {
         Takes::Count(default, least, most) => {
             valued(
                 argument,
@@ -313,10 +344,18 @@ fn argument<'a>(alloc: Global, word: &'static Word) -> Arg<'a> {
                 value_parser!(u32).range(0..=most),
             )
         }
+        Takes::Milliseconds(default, most) => {
+            valued(argument, "MS", default, value_parser!(u32).range(0..=most))
+        }
+        Takes::File(others) => argument
+            .value_name("FILE")
+            .value_parser(ValueParser::string())
+            .conflicts_with_all(others)?,
         Takes::Form => valued(argument, "FORM", "keyed", JOIN_FORMS.into()),
         Takes::Address(default) => valued(argument, "ADDRESS", default, ValueParser::string()),
         Takes::Nothing => argument.action(ArgAction::SetTrue),
-    }
+    };
+    Ok(argument)
 }
 
 // One that takes a value: what the value is called, what it is where none is given, and how it is read.

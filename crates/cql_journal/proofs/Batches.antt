@@ -2,8 +2,8 @@
 use Rattle.std.proofs.Common.{◌≡◌, ◌≢◌, ℕ, ◌+◌, ◌<◌, ◌≤◌, inl, inr, List, [], ◌∷◌, ◌++◌, length, drop, refl, sym, ap, subst, ◌∙◌, arith, append_assoc, append-nil, length-append}
 use Rattle.std.specs.List.{AllByRecursion}
 use Rattle.std.proofs.lemmas.Bool.{cases_lt}
-use Rattle.cql_journal.specs.Record.{IsChain, Entry, Lacks, Fits, first_chain, heading, chain_after, record_line, record_lines, batch, batch_chain, written, chain_behind, AreBatches, NoBatch}
-use Rattle.cql_journal.specs.Splits.{IsOneReadingLaw, IsRoundTripLaw, IsFrontLaw, EndsBefore}
+use Rattle.cql_journal.specs.Record.{IsChain, Entry, Lacks, Fits, first_chain, heading, chain_after, record_line, record_lines, batch, batch_chain, written, chain_behind, IsBatch, AreBatches, NoBatch}
+use Rattle.cql_journal.specs.Splits.{IsOneReadingLaw, IsRoundTripLaw, IsAppendLaw, IsFrontLaw, EndsBefore}
 use Rattle.cql_journal.proofs.Parsing.{first_is_chain, after_is_chain, no_chain, lines_then, lines_are, line_behind, is_longer, cancel}
 
 then_more : (l k more : List ℕ) → (l ++ (k ++ 10 ∷ [])) ++ more ≡ l ++ (k ++ 10 ∷ more)
@@ -61,7 +61,7 @@ none_in_nothing chain = λ fs more b that.
     absurd (omega (arith, len, batch_size chain fs))
 
 -- a front that is no longer than a list in front of which it stands
-within : (b rest more behind : List ℕ) → length b ≤ length rest → b ++ more ≡ rest ++ behind → rest ≡ b ++ drop (length b) rest
+pub within : (b rest more behind : List ℕ) → length b ≤ length rest → b ++ more ≡ rest ++ behind → rest ≡ b ++ drop (length b) rest
 within [] rest more behind h is = refl
 within (x ∷ b) [] more behind h is = absurd (omega (arith, h))
 within (x ∷ b) (y ∷ rest) more behind h is =
@@ -118,3 +118,29 @@ pub front_law : IsFrontLaw
 front_law text behind rest batches found are is f =
     let same : written first_chain batches ≡ f.0 ++ behind = cancel heading _ _ (is ∙ ap (λ t. t ++ behind) f.1 ∙ append_assoc heading f.0 behind) in
     front first_chain text behind rest batches found first_is_chain are f.2.are f.2.none (same ∙ ap (λ t. t ++ behind) f.2.text_is ∙ append_assoc (written first_chain found) rest behind)
+
+-- ---- a batch behind others
+
+pub written_more : (chain : List ℕ) (batches : List (List Entry)) (es : List Entry) → written chain (batches ++ es ∷ []) ≡ written chain batches ++ batch (chain_behind chain batches) es
+written_more chain [] es = append-nil (batch chain es)
+written_more chain (x ∷ batches) es = ap (λ t. batch chain x ++ t) (written_more (batch_chain chain x) batches es) ∙ sym (append_assoc (batch chain x) (written (batch_chain chain x) batches) _)
+
+pub behind_more : (chain : List ℕ) (batches : List (List Entry)) (es : List Entry) → chain_behind chain (batches ++ es ∷ []) ≡ batch_chain (chain_behind chain batches) es
+behind_more chain [] es = refl
+behind_more chain (x ∷ batches) es = behind_more (batch_chain chain x) batches es
+
+pub are_more : (chain : List ℕ) (batches : List (List Entry)) (es : List Entry) → AreBatches chain batches → IsBatch (chain_behind chain batches) es → AreBatches chain (batches ++ es ∷ [])
+are_more chain [] es p q = (q, tt)
+are_more chain (x ∷ batches) es p q = (p.0, are_more (batch_chain chain x) batches es p.1 q)
+
+pub behind_is_chain : (chain : List ℕ) (batches : List (List Entry)) → IsChain chain → IsChain (chain_behind chain batches)
+behind_is_chain chain [] c = c
+behind_is_chain chain (x ∷ batches) c = behind_is_chain (batch_chain chain x) batches (after_is_chain chain (record_lines chain x))
+
+pub append_law : IsAppendLaw
+append_law batches es are is =
+    let one = batch (chain_behind first_chain batches) es in
+    let more : (heading ++ written first_chain batches) ++ one ≡ heading ++ written first_chain (batches ++ es ∷ []) = append_assoc heading (written first_chain batches) one ∙ ap (λ t. heading ++ t) (sym (written_more first_chain batches es)) in (
+      (written first_chain (batches ++ es ∷ []), more, record { text_is = sym (append-nil (written first_chain (batches ++ es ∷ []))); are = are_more first_chain batches es are is; none = none_in_nothing _ }),
+      behind_more first_chain batches es,
+    )

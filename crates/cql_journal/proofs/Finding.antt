@@ -11,14 +11,14 @@ use Rattle.cql_journal.proofs.Batches.{no_commit, no_room, no_end, batch_size, b
 
 -- ---- one record more
 
-lines_more : (chain : List ℕ) (es : List Entry) (e : Entry) (rest : List ℕ) → record_lines chain es ++ (record_line chain e ++ 10 ∷ rest) ≡ record_lines chain (es ++ e ∷ []) ++ rest
+pub lines_more : (chain : List ℕ) (es : List Entry) (e : Entry) (rest : List ℕ) → record_lines chain es ++ (record_line chain e ++ 10 ∷ rest) ≡ record_lines chain (es ++ e ∷ []) ++ rest
 lines_more chain [] e rest = sym (append_assoc (record_line chain e) (10 ∷ []) rest)
 lines_more chain (x ∷ es) e rest =
     append_assoc (record_line chain x) (10 ∷ record_lines chain es) (record_line chain e ++ 10 ∷ rest)
     ∙ ap (λ t. record_line chain x ++ 10 ∷ t) (lines_more chain es e rest)
     ∙ sym (append_assoc (record_line chain x) (10 ∷ record_lines chain (es ++ e ∷ [])) rest)
 
-fit_more : (es : List Entry) (e : Entry) → AllByRecursion Fits es → Fits e → AllByRecursion Fits (es ++ e ∷ [])
+pub fit_more : (es : List Entry) (e : Entry) → AllByRecursion Fits es → Fits e → AllByRecursion Fits (es ++ e ∷ [])
 fit_more [] e p f = (f, tt)
 fit_more (x ∷ es) e p f = (p.0, fit_more es e p.1 f)
 
@@ -44,7 +44,7 @@ module _ (chain held : List ℕ) (size : ℕ) (h : StartsRecords chain size held
   behind_is : drop size held ≡ h.rest
   behind_is = ap (λ n. drop n held) h.size_is ∙ ap (drop (length (record_lines chain h.entries))) h.held_is ∙ drop_front (record_lines chain h.entries) h.rest
 
-  front_is : take size held ≡ record_lines chain h.entries
+  pub front_is : take size held ≡ record_lines chain h.entries
   front_is = ap (λ n. take n held) h.size_is ∙ ap (take (length (record_lines chain h.entries))) h.held_is ∙ take_front (record_lines chain h.entries) h.rest
 
   pub within : size ≤ length held

@@ -1,7 +1,7 @@
 -- The laws of reading at a file of one record, worked by hand: a premise that it doesn't meet is refused here.
 use Rattle.std.proofs.Common.{◌≡◌, List, [], ◌∷◌, ◌++◌, length, refl, sym, arith, append-nil}
-use Rattle.cql_journal.specs.Record.{Entry, Fits, first_chain, record_lines, AreBatches, chain_behind}
-use Rattle.cql_journal.specs.Splits.{IsFile, file_of, IsOneReadingLaw, IsRoundTripLaw, IsFrontLaw, EndsBefore}
+use Rattle.cql_journal.specs.Record.{Entry, Fits, first_chain, record_lines, batch, AreBatches, chain_behind}
+use Rattle.cql_journal.specs.Splits.{IsFile, file_of, IsOneReadingLaw, IsRoundTripLaw, IsAppendLaw, IsFrontLaw, EndsBefore}
 use Rattle.cql_journal.proofs.Batches.{batch_size}
 
 -- `b`, of the tenant `a`
@@ -31,3 +31,6 @@ one_reading law trip = (law (file_of batches) [] [] batches batches (trip batche
 
 front : IsFrontLaw → IsRoundTripLaw → (lost : List (List Entry)) × (batches ≡ batches ++ lost) × EndsBefore (chain_behind first_chain batches) lost []
 front law trip = law (file_of batches) [] [] batches batches are (sym (append-nil (file_of batches))) (trip batches are)
+
+append : IsAppendLaw → IsFile (file_of [] ++ batch first_chain (entry ∷ [])) batches []
+append law = (law [] (entry ∷ []) tt are.0).0

@@ -2,6 +2,9 @@ mod Cutting
 mod Parsing
 mod Batches
 mod Finding
+mod Hiding
+mod Waiting
+mod Beginning
 mod Leaving
 mod Stepping
 mod Recovering

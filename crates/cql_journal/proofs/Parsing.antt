@@ -55,13 +55,22 @@ fits line chain bytes tenant rest is cut space feed =
     let parts : Lacks 10 (tenant ++ 32 ∷ rest) = subst (Lacks 10) cut whole in
     record { spaceless = space; feedless = lacks_before 10 tenant _ parts; whole = (lacks_behind 10 tenant _ parts).1 }
 
+-- a record without its chain
+pub no_body : (bytes : List ℕ) (e : Entry) → Lacks 32 bytes → bytes ≡ body e → ⊥
+no_body bytes e none is = (lacks_behind 32 e.tenant (32 ∷ e.line) (subst (Lacks 32) is none)).0 refl
+
+pub body_fits : (bytes tenant rest : List ℕ) → bytes ≡ tenant ++ 32 ∷ rest → Lacks 32 tenant → Lacks 10 bytes → Fits (record { tenant = tenant; line = rest })
+body_fits bytes tenant rest cut space feed =
+    let parts : Lacks 10 (tenant ++ 32 ∷ rest) = subst (Lacks 10) cut feed in
+    record { spaceless = space; feedless = lacks_before 10 tenant _ parts; whole = (lacks_behind 10 tenant _ parts).1 }
+
 lacks_at : (b : ℕ) (xs : List ℕ) (n : ℕ) → 0 ≢ b → Lacks b xs → slice_index xs n ≢ b
 lacks_at b [] n z p = z
 lacks_at b (x ∷ xs) zero z p = p.0
 lacks_at b (x ∷ xs) (suc n) z p = lacks_at b xs n z p.1
 
 -- a number from 11 on isn't 10
-apart : (n : ℕ) → 10 < n → n ≢ 10
+pub apart : (n : ℕ) → 10 < n → n ≢ 10
 apart n h e = absurd (omega (arith, h, e))
 
 pub first_is_chain : IsChain first_chain
@@ -113,7 +122,7 @@ pub lines_are : (chain : List ℕ) (es : List Entry) (rest : List ℕ) → recor
 lines_are chain [] rest = refl
 lines_are chain (e ∷ es) rest = append_assoc (record_line chain e) (10 ∷ record_lines chain es) rest ∙ ap (λ t. record_line chain e ++ 10 ∷ t) (lines_are chain es rest)
 
-size_more : (chain : List ℕ) (e : Entry) (es : List Entry) → length (record_lines chain (e ∷ es)) ≡ length (record_line chain e) + suc (length (record_lines chain es))
+pub size_more : (chain : List ℕ) (e : Entry) (es : List Entry) → length (record_lines chain (e ∷ es)) ≡ length (record_line chain e) + suc (length (record_lines chain es))
 size_more chain e es = length-append (record_line chain e) (10 ∷ record_lines chain es)
 
 pub one_lines : (chain : List ℕ) (es fs : List Entry) → IsChain chain → AllByRecursion Fits es → AllByRecursion Fits fs → record_lines chain es ≡ record_lines chain fs → es ≡ fs

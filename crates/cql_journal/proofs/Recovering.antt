@@ -1,23 +1,31 @@
 -- One batch more, and all of them.
-use Rattle.std.proofs.Common.{◌≡◌, ℕ, ◌+◌, ◌-◌, Bool, List, [], ◌∷◌, ◌++◌, length, take, drop, Option, Some, None, refl, ap, subst, sym, ◌∙◌, arith, append_assoc, append-nil, length-append}
-use Rattle.std.specs.Prelude.{map, ◌^◌, IfSome}
+use Rattle.std.proofs.Common.{◌≡◌, ℕ, ◌+◌, ◌-◌, ◌≤◌, Bool, List, [], ◌∷◌, ◌++◌, length, take, drop, Option, Some, None, refl, ap, subst, sym, ◌∙◌, arith, append_assoc, append-nil, length-append, true, inl, Result, Ok, Err}
+use Rattle.std.specs.Prelude.{map, ◌^◌, ◌⊎◌, IfSome, IfOk}
 use Rattle.std.specs.Io.KnownBytes.{Consumes, Keeps, prepend_known}
-use Rattle.std.proofs.KnownBytes.{Consumes-trans}
+use Rattle.std.proofs.KnownBytes.{Consumes-trans, Consumes-nil}
 use Rattle.cql_tenants.specs.declared.tenants.Tenant.{Tenant}
 use Rattle.cql_core.specs.declared.command.Command.{Command}
 use Rattle.cql_core.specs.Machine.{State, opening, state_after}
 use Rattle.cql_core.specs.Law.{state_from}
 use Rattle.cql_core.specs.Cql.{cql}
-use Rattle.cql_journal.specs.Record.{Entry, IsChain, first_chain, chain_after, record_lines, batch, batch_chain, written, chain_behind, IsBatch, AreBatches, NoBatch}
-use Rattle.cql_journal.specs.Splits.{Splits}
+use Rattle.cql_journal.specs.Record.{Entry, IsChain, first_chain, heading, chain_after, record_lines, batch, batch_chain, written, chain_behind, IsBatch, AreBatches, NoBatch}
+use Rattle.cql_journal.specs.Splits.{file_of}
+use Rattle.cql_journal.specs.Hidden.{Hides, HidesNone}
 use Rattle.cql_journal.specs.Reading.{StartsBatch}
 use Rattle.cql_journal.specs.Recovery.{call_of, AllChange, Replayed, counted, AreLines, ReplaysLines, StopsInLines}
-use Rattle.cql_journal.specs.Recovered.{all_entries, TakesBatch, NothingLeft, StopsInBatch, StopsIn, Recovering, Recovers, HasBatches, Fails}
+use Rattle.cql_journal.specs.Recovered.{all_entries, fault_of, Opens, IsFirst, TooLong, TakesBatch, StopsInBatch, StopsIn, EndsBadly, Recovering, IsWhole, Recovers, IsDamaged, Fails}
+use Rattle.cql_journal.specs.Starting.{IsNew, Begins}
+use Rattle.cql_journal.specs.declared.starting.Begin.{Begin}
+use Rattle.cql_journal.specs.declared.starting.Begin.TheVariants.{Whole, Part, Other}
+use Rattle.cql_journal.specs.declared.reading.ReadStop.{ReadStop}
+use Rattle.cql_journal.specs.declared.reading.ReadStop.TheVariants.{Failed as stopped_failed, NoMemory as stopped_memory, TooMany as stopped_many}
 use Rattle.cql_journal.specs.declared.replaying.Unfit.{Unfit}
 use Rattle.cql_journal.specs.declared.recovery.RecoveryFault.{RecoveryFault}
-use Rattle.cql_journal.specs.declared.recovery.RecoveryFault.TheVariants.{Record, Failed, NoMemory, TooMany}
+use Rattle.cql_journal.specs.declared.recovery.RecoveryFault.TheVariants.{OtherFormat, Record, Damaged, Failed, NoMemory, TooMany}
+use Rattle.cql_journal.specs.declared.recovery.Place.{Place}
+use Rattle.cql_journal.specs.declared.recovery.Recovered.{Recovered}
 use Rattle.cql_journal.proofs.Parsing.{first_is_chain, after_is_chain, one_lines}
-use Rattle.cql_journal.proofs.Batches.{batch_size, batch_rest}
+use Rattle.cql_journal.proofs.Batches.{batch_size, batch_rest, written_more, behind_more, are_more, behind_is_chain}
 use Rattle.cql_journal.proofs.Finding.{drop_front, take_front}
 use Rattle.cql_journal.proofs.Stepping.{replayed_none}
 
@@ -45,14 +53,16 @@ replayed_joined table es fs old mid new p q = record {
 
 -- ---- one batch
 
-pub at_some : (P : ℕ → Type 0) (found : Option ℕ) (size : ℕ) → found ≡ Some size → IfSome found P → P size
-at_some P found size e h = subst (λ x. IfSome x P) e h
-
 -- what is held in front of known bytes loses its front
 held_less : (known : Option (List ℕ)) (come : Option (List ℕ)) (held front left : List ℕ) → Keeps come (prepend_known held known) → held ≡ front ++ left → Consumes come (prepend_known left known) front
 held_less known None held front left k is = tt
 held_less None (Some xs) held front left k is = absurd k
 held_less (Some ys) (Some xs) held front left k is = sym k ∙ ap (λ t. t ++ ys) is ∙ append_assoc front left ys
+
+far_text : (come known : Option (List ℕ)) (held front left : List ℕ) (bytes size limit : ℕ) → Keeps come (prepend_known held known) → held ≡ front ++ left → size ≡ length front → limit ≤ bytes + size → IfSome come (λ text. limit ≤ bytes + length text)
+far_text None known held front left bytes size limit k is n h = tt
+far_text (Some xs) None held front left bytes size limit k is n h = absurd k
+far_text (Some xs) (Some ys) held front left bytes size limit k is n h = omega (arith, h, n, ap length k, length-append held ys, ap length is, length-append front left)
 
 -- the parts that a slice was split into, at a batch
 lines_of_batch : (chain shown lines held : List ℕ) (size : ℕ) → StartsBatch chain size held → lines ≡ take size shown → shown ≡ held → (b : StartsBatch chain size held) → lines ≡ record_lines chain b.entries
@@ -67,120 +77,229 @@ left_of_batch chain held size b =
     let n : size + 17 ≡ length (batch chain b.entries) = omega (arith, b.size_is, batch_size chain b.entries) in
     ap (λ k. drop k held) n ∙ ap (drop (length (batch chain b.entries))) b.held_is ∙ drop_front (batch chain b.entries) b.behind
 
-module _ (table : List Tenant) (come known : Option (List ℕ)) (chain shown lines held : List ℕ) (size : ℕ) (old : State) (count : ℕ) (l : lines ≡ take size shown) (s : shown ≡ held) (b : StartsBatch chain size held) (k : Keeps come (prepend_known held known)) where
-  pub took : (c : IsChain chain) (after left : List ℕ) (new : State) (counts : ℕ) → after ≡ chain_after chain lines → left ≡ drop (size + 17) held → ReplaysLines table chain lines old new count counts → TakesBatch table come (prepend_known left known) chain after old new count counts
-  took c after left new counts a d r =
-      let same : r.entries ≡ b.entries = one_lines chain r.entries b.entries c r.fit b.is.fit (sym r.lines_are ∙ lines_of_batch chain shown lines held size b l s b) in
+-- what stands behind the records is the chain behind the batch
+rest_of_batch : (chain shown rest held : List ℕ) (size : ℕ) → rest ≡ drop size shown → shown ≡ held → (b : StartsBatch chain size held) → rest ≡ batch_chain chain b.entries ++ 10 ∷ b.behind
+rest_of_batch chain shown rest held size r s b =
+    r ∙ ap (drop size) s ∙ ap (λ n. drop n held) b.size_is ∙ ap (drop (length (record_lines chain b.entries))) (b.held_is ∙ batch_rest chain b.entries b.behind) ∙ drop_front (record_lines chain b.entries) _
+
+pub rest_long : (chain shown rest held : List ℕ) (size : ℕ) → rest ≡ drop size shown → shown ≡ held → StartsBatch chain size held → 16 ≤ length rest
+rest_long chain shown rest held size r s b =
+    let k : length (batch_chain chain b.entries) ≡ 16 = (after_is_chain chain (record_lines chain b.entries)).size in
+    omega (arith, k, ap length (rest_of_batch chain shown rest held size r s b) ∙ length-append (batch_chain chain b.entries) (10 ∷ b.behind))
+
+chain_there : (chain shown rest held : List ℕ) (size : ℕ) → rest ≡ drop size shown → shown ≡ held → (b : StartsBatch chain size held) → take 16 rest ≡ batch_chain chain b.entries
+chain_there chain shown rest held size r s b =
+    let k : length (batch_chain chain b.entries) ≡ 16 = (after_is_chain chain (record_lines chain b.entries)).size in
+    ap (take 16) (rest_of_batch chain shown rest held size r s b) ∙ ap (λ n. take n (batch_chain chain b.entries ++ 10 ∷ b.behind)) (sym k) ∙ take_front (batch_chain chain b.entries) (10 ∷ b.behind)
+
+module _ (table : List Tenant) (come known : Option (List ℕ)) (from : Place) (shown lines held : List ℕ) (size : ℕ) (old : State) (l : lines ≡ take size shown) (s : shown ≡ held) (b : StartsBatch from.chain size held) (k : Keeps come (prepend_known held known)) where
+  pub took : (c : IsChain from.chain) (rest left : List ℕ) (new : State) (counts : ℕ) (to : Place) → rest ≡ drop size shown → left ≡ drop (size + 17) held → ReplaysLines table from.chain lines old new from.count counts
+      → to.chain ≡ take 16 rest → to.count ≡ counts → to.bytes ≡ from.bytes + (size + 17) → TakesBatch table come (prepend_known left known) old new from to
+  took c rest left new counts to rs d r ch n y =
+      let same : r.entries ≡ b.entries = one_lines from.chain r.entries b.entries c r.fit b.is.fit (sym r.lines_are ∙ lines_of_batch from.chain shown lines held size b l s b) in
       record {
         entries = b.entries;
         is = b.is;
-        consumed = held_less known come held (batch chain b.entries) left k (b.held_is ∙ ap (λ t. batch chain b.entries ++ t) (sym (d ∙ left_of_batch chain held size b)));
-        chain_is = a ∙ ap (chain_after chain) (lines_of_batch chain shown lines held size b l s b);
+        consumed = held_less known come held (batch from.chain b.entries) left k (b.held_is ∙ ap (λ t. batch from.chain b.entries ++ t) (sym (d ∙ left_of_batch from.chain held size b)));
+        chain_is = ch ∙ chain_there from.chain shown rest held size rs s b;
         replayed = subst (λ es. Replayed table es old new) same r.replayed;
-        count_is = r.count_is ∙ ap (λ es. counted (count + length es)) same;
+        count_is = n ∙ r.count_is ∙ ap (λ es. counted (from.count + length es)) same;
+        bytes_are = omega (arith, y, b.size_is, batch_size from.chain b.entries);
       }
 
-  pub stopped : (c : IsChain chain) (at : ℕ) (unfit : Unfit) → StopsInLines table chain lines old count at unfit → StopsInBatch table come chain old count at unfit
+  pub stopped : (c : IsChain from.chain) (at : ℕ) (unfit : Unfit) → StopsInLines table from.chain lines old from.count at unfit → StopsInBatch table come from.chain old from.count at unfit
   stopped c at unfit r =
-      let same : b.entries ≡ r.before ++ r.entry ∷ r.after = one_lines chain b.entries _ c b.is.fit r.fit (sym (lines_of_batch chain shown lines held size b l s b) ∙ r.lines_are) in
+      let same : b.entries ≡ r.before ++ r.entry ∷ r.after = one_lines from.chain b.entries _ c b.is.fit r.fit (sym (lines_of_batch from.chain shown lines held size b l s b) ∙ r.lines_are) in
       record {
         before = r.before;
         entry = r.entry;
         after = r.after;
-        is = subst (IsBatch chain) same b.is;
+        is = subst (IsBatch from.chain) same b.is;
         left = prepend_known b.behind known;
-        starts = subst (λ es. Consumes come (prepend_known b.behind known) (batch chain es)) same (held_less known come held (batch chain b.entries) b.behind k b.held_is);
+        starts = subst (λ es. Consumes come (prepend_known b.behind known) (batch from.chain es)) same (held_less known come held (batch from.chain b.entries) b.behind k b.held_is);
         state = r.state;
         replayed = r.replayed;
         misfits = r.misfits;
         at_is = r.at_is;
       }
 
+  -- the place behind the batch would be too far
+  pub too_far : 2 ^ 64 ≤ from.bytes + (size + 17) → IfSome come (λ text. 2 ^ 64 ≤ from.bytes + length text)
+  too_far h = far_text come known held (batch from.chain b.entries) b.behind (from.bytes) (size + 17) (2 ^ 64) k b.held_is (omega (arith, b.size_is, batch_size from.chain b.entries)) h
+
 -- ---- all batches
-
-none_taken : (before : Option (List ℕ)) (held : List ℕ) → held ≡ [] → Consumes before (prepend_known held before) []
-none_taken None held is = tt
-none_taken (Some xs) held is = sym (ap (λ h. h ++ xs) is)
-
-pub recovering_none : (table : List Tenant) (before : Option (List ℕ)) (held chain : List ℕ) (state : State) → held ≡ [] → chain ≡ first_chain → state ≡ opening table → Recovering table before (prepend_known held before) chain 0 0 state
-recovering_none table before held chain state h c s = record {
-  batches = [];
-  are = tt;
-  consumed = none_taken before held h;
-  chain_is = c;
-  replayed = subst (λ t. Replayed table [] (opening table) t) (sym s) (replayed_none table (opening table));
-  number_is = refl;
-  count_is = refl;
-}
-
-written_more : (chain : List ℕ) (batches : List (List Entry)) (es : List Entry) → written chain (batches ++ es ∷ []) ≡ written chain batches ++ batch (chain_behind chain batches) es
-written_more chain [] es = append-nil (batch chain es)
-written_more chain (x ∷ batches) es = ap (λ t. batch chain x ++ t) (written_more (batch_chain chain x) batches es) ∙ sym (append_assoc (batch chain x) (written (batch_chain chain x) batches) _)
-
-behind_more : (chain : List ℕ) (batches : List (List Entry)) (es : List Entry) → chain_behind chain (batches ++ es ∷ []) ≡ batch_chain (chain_behind chain batches) es
-behind_more chain [] es = refl
-behind_more chain (x ∷ batches) es = behind_more (batch_chain chain x) batches es
-
-are_more : (chain : List ℕ) (batches : List (List Entry)) (es : List Entry) → AreBatches chain batches → IsBatch (chain_behind chain batches) es → AreBatches chain (batches ++ es ∷ [])
-are_more chain [] es p q = (q, tt)
-are_more chain (x ∷ batches) es p q = (p.0, are_more (batch_chain chain x) batches es p.1 q)
 
 entries_more : (batches : List (List Entry)) (es : List Entry) → all_entries (batches ++ es ∷ []) ≡ all_entries batches ++ es
 entries_more [] es = append-nil es
 entries_more (x ∷ batches) es = ap (λ t. x ++ t) (entries_more batches es) ∙ sym (append_assoc x (all_entries batches) es)
 
-behind_is_chain : (chain : List ℕ) (batches : List (List Entry)) → IsChain chain → IsChain (chain_behind chain batches)
-behind_is_chain chain [] c = c
-behind_is_chain chain (x ∷ batches) c = behind_is_chain (batch_chain chain x) batches (after_is_chain chain (record_lines chain x))
-
-pub is_chain : (table : List Tenant) (before come : Option (List ℕ)) (chain : List ℕ) (number count : ℕ) (state : State) → Recovering table before come chain number count state → IsChain chain
-is_chain table before come chain number count state r = subst IsChain (sym r.chain_is) (behind_is_chain first_chain r.batches first_is_chain)
-
-pub recovering_more : (table : List Tenant) (before come left : Option (List ℕ)) (chain chains : List ℕ) (number count counts : ℕ) (old new : State) → Recovering table before come chain number count old → TakesBatch table come left chain chains old new count counts
-    → Recovering table before left chains (number + 1) counts new
-recovering_more table before come left chain chains number count counts old new r t = record {
-  batches = r.batches ++ t.entries ∷ [];
-  are = are_more first_chain r.batches t.entries r.are (subst (λ c. IsBatch c t.entries) r.chain_is t.is);
-  consumed = subst (Consumes before left) (sym (written_more first_chain r.batches t.entries)) (Consumes-trans before come left _ _ r.consumed (subst (λ c. Consumes come left (batch c t.entries)) r.chain_is t.consumed));
-  chain_is = t.chain_is ∙ ap (λ c. batch_chain c t.entries) r.chain_is ∙ sym (behind_more first_chain r.batches t.entries);
-  replayed = subst (λ es. Replayed table es (opening table) new) (sym (entries_more r.batches t.entries)) (replayed_joined table (all_entries r.batches) t.entries (opening table) old new r.replayed t.replayed);
-  number_is = omega (arith, r.number_is, length-append r.batches (t.entries ∷ []));
-  count_is = omega (arith, r.count_is, t.count_is, ap length (entries_more r.batches t.entries) ∙ length-append (all_entries r.batches) t.entries);
+pub recovering_none : (table : List Tenant) (come : Option (List ℕ)) (state : State) (place : Place) → IsFirst place → state ≡ opening table → Recovering table come come 0 state place
+recovering_none table come state place f s = record {
+  batches = [];
+  are = tt;
+  consumed = Consumes-nil come;
+  chain_is = f.0;
+  replayed = subst (λ t. Replayed table [] (opening table) t) (sym s) (replayed_none table (opening table));
+  number_is = refl;
+  count_is = f.1;
+  bytes_are = f.2;
 }
 
-whole : (before come left : Option (List ℕ)) (chain : List ℕ) (batches : List (List Entry)) → AreBatches first_chain batches → chain ≡ chain_behind first_chain batches → Consumes before come (written first_chain batches) → Keeps come left → IfSome left (λ text. NoBatch chain text)
-    → IfSome before (λ text. (rest : List ℕ) × Splits first_chain text batches rest)
-whole None come left chain batches a c p k n = tt
-whole (Some xs) None left chain batches a c p k n = absurd p
-whole (Some xs) (Some ys) None chain batches a c p k n = absurd k
-whole (Some xs) (Some ys) (Some zs) chain batches a c p k n = (ys, record { text_is = p; are = a; none = subst (λ x. NoBatch x ys) c (subst (NoBatch chain) k n) })
+pub is_chain : (table : List Tenant) (before come : Option (List ℕ)) (number : ℕ) (state : State) (place : Place) → Recovering table before come number state place → IsChain place.chain
+is_chain table before come number state place r = subst IsChain (sym r.chain_is) (behind_is_chain first_chain r.batches first_is_chain)
 
-pub recovered : (table : List Tenant) (before come left : Option (List ℕ)) (chain chains : List ℕ) (number count counts : ℕ) (old new : State) → Recovering table before come chain number count old → NothingLeft come left chain chains old new count counts
-    → Recovers table before chains number counts new
-recovered table before come left chain chains number count counts old new r n = record {
-  batches = r.batches;
-  whole = whole before come left chain r.batches r.are r.chain_is r.consumed n.kept n.none;
-  chain_is = n.chain_is ∙ r.chain_is;
-  replayed = subst (λ s. Replayed table (all_entries r.batches) (opening table) s) (sym n.state_is) r.replayed;
-  number_is = r.number_is;
-  count_is = n.count_is ∙ r.count_is;
+pub recovering_more : (table : List Tenant) (before come left : Option (List ℕ)) (number : ℕ) (old new : State) (from to : Place) → Recovering table before come number old from → TakesBatch table come left old new from to
+    → Recovering table before left (number + 1) new to
+recovering_more table before come left number old new from to r t =
+    let one : batch from.chain t.entries ≡ batch (chain_behind first_chain r.batches) t.entries = ap (λ c. batch c t.entries) r.chain_is in
+    let more : written first_chain (r.batches ++ t.entries ∷ []) ≡ written first_chain r.batches ++ batch from.chain t.entries = written_more first_chain r.batches t.entries ∙ ap (λ b. written first_chain r.batches ++ b) (sym one) in
+    record {
+      batches = r.batches ++ t.entries ∷ [];
+      are = are_more first_chain r.batches t.entries r.are (subst (λ c. IsBatch c t.entries) r.chain_is t.is);
+      consumed = subst (Consumes before left) (sym more) (Consumes-trans before come left _ _ r.consumed t.consumed);
+      chain_is = t.chain_is ∙ ap (λ c. batch_chain c t.entries) r.chain_is ∙ sym (behind_more first_chain r.batches t.entries);
+      replayed = subst (λ es. Replayed table es (opening table) new) (sym (entries_more r.batches t.entries)) (replayed_joined table (all_entries r.batches) t.entries (opening table) old new r.replayed t.replayed);
+      number_is = omega (arith, r.number_is, length-append r.batches (t.entries ∷ []));
+      count_is = omega (arith, r.count_is, t.count_is, ap length (entries_more r.batches t.entries) ∙ length-append (all_entries r.batches) t.entries);
+      bytes_are = omega (
+        arith,
+        t.bytes_are,
+        r.bytes_are,
+        length-append heading (written first_chain r.batches),
+        length-append heading (written first_chain (r.batches ++ t.entries ∷ [])),
+        ap length more ∙ length-append (written first_chain r.batches) (batch from.chain t.entries),
+      );
+    }
+
+-- ---- the whole file
+
+whole : (file before come left : Option (List ℕ)) (chain : List ℕ) (batches : List (List Entry)) → Consumes file before heading → AreBatches first_chain batches → chain ≡ chain_behind first_chain batches → Consumes before come (written first_chain batches) → Keeps come left
+    → IfSome left (λ text. NoBatch chain text) → IfSome left HidesNone → IfSome file (λ text. IsWhole text batches)
+whole None before come left chain batches h a c p k n m = tt
+whole (Some t) None come left chain batches h a c p k n m = absurd h
+whole (Some t) (Some xs) None left chain batches h a c p k n m = absurd p
+whole (Some t) (Some xs) (Some ys) None chain batches h a c p k n m = absurd k
+whole (Some t) (Some xs) (Some ys) (Some zs) chain batches h a c p k n m = (ys, (xs, h, record { text_is = p; are = a; none = subst (λ x. NoBatch x ys) c (subst (NoBatch chain) k n) }), subst HidesNone k m)
+
+pub recovered : (table : List Tenant) (file before come left : Option (List ℕ)) (number : ℕ) (old : State) (from : Place) (r : Recovered) → Consumes file before heading → Recovering table before come number old from → Keeps come left
+    → IfSome left (λ text. NoBatch from.chain text) → IfSome left HidesNone → r.core ≡ old → r.chain ≡ from.chain → r.batches ≡ number → r.count ≡ from.count → r.bytes ≡ from.bytes → Recovers table file r
+recovered table file before come left number old from r h s k n m core chain batches count bytes = record {
+  batches = s.batches;
+  whole = whole file before come left from.chain s.batches h s.are s.chain_is s.consumed k n m;
+  chain_is = chain ∙ s.chain_is;
+  replayed = subst (λ t. Replayed table (all_entries s.batches) (opening table) t) (sym core) s.replayed;
+  number_is = batches ∙ s.number_is;
+  count_is = count ∙ s.count_is;
+  bytes_are = bytes ∙ s.bytes_are;
 }
 
-pub failed : (table : List Tenant) (before come : Option (List ℕ)) (chain : List ℕ) (number count : ℕ) (state : State) (over : Bool) (fault : RecoveryFault) → Recovering table before come chain number count state → StopsIn table come chain state count over fault → Fails table before over fault
-failed table before come chain number count state over (Record stop) r s = record {
+-- so many bytes of the file are taken, and the rest has so many
+far : (file before come : Option (List ℕ)) (batches : List (List Entry)) (bytes limit : ℕ) → Consumes file before heading → Consumes before come (written first_chain batches) → bytes ≡ length (file_of batches) → IfSome come (λ text. limit ≤ bytes + length text)
+    → IfSome file (λ text. limit ≤ length text)
+far None before come batches bytes limit h p b s = tt
+far (Some t) None come batches bytes limit h p b s = absurd h
+far (Some t) (Some xs) None batches bytes limit h p b s = absurd p
+far (Some t) (Some xs) (Some ys) batches bytes limit h p b s =
+    omega (arith, s, b, ap length h ∙ length-append heading xs, ap length p ∙ length-append (written first_chain batches) ys, length-append heading (written first_chain batches))
+
+weaker : (come : Option (List ℕ)) (P Q : List ℕ → Type 0) → ((x : List ℕ) → P x → Q x) → IfSome come P → IfSome come Q
+weaker None P Q f h = tt
+weaker (Some x) P Q f h = f x h
+
+too_long : (file : Option (List ℕ)) → IfSome file (λ text. 2 ^ 64 ≤ length text) → TooLong file
+too_long file h = weaker file (λ text. 2 ^ 64 ≤ length text) (λ text. 2 ^ 64 - 1 ≤ length text) (λ x l. omega (arith, l)) h
+
+pub failed : (table : List Tenant) (file before come : Option (List ℕ)) (number : ℕ) (state : State) (place : Place) (over : Bool) (fault : RecoveryFault) → Consumes file before heading → Recovering table before come number state place → StopsIn table come state place over fault
+    → Fails table file over fault
+failed table file before come number state place over OtherFormat h r s = absurd s
+failed table file before come number state place over (Record stop) h r s = record {
   batches = r.batches;
   are = r.are;
   come = come;
-  consumed = r.consumed;
+  consumed = Consumes-trans file before come heading (written first_chain r.batches) h r.consumed;
   state = state;
   replayed = r.replayed;
-  count = count;
+  count = place.count;
   count_is = r.count_is;
-  stops = subst (λ c. StopsInBatch table come c state count stop.at stop.unfit) r.chain_is s;
+  stops = subst (λ c. StopsInBatch table come c state place.count stop.at stop.unfit) r.chain_is s;
 }
-failed table before come chain number count state over Failed r s = s
-failed table before come chain number count state over NoMemory r s = tt
-failed table before come chain number count state over TooMany r s = absurd s
+failed table file before come number state place over (Damaged bytes) h r s = absurd s
+failed table file before come number state place over Failed h r s = s
+failed table file before come number state place over NoMemory h r s = tt
+failed table file before come number state place over TooMany h r s = too_long file (far file before come r.batches place.bytes (2 ^ 64) h r.consumed r.bytes_are s)
 
-pub too_many : (table : List Tenant) (before come : Option (List ℕ)) (chain : List ℕ) (number count : ℕ) (state : State) → number ≡ 2 ^ 64 - 1 → Recovering table before come chain number count state → HasBatches before (2 ^ 64 - 1)
-too_many table before come chain number count state n r = (r.batches, r.are, sym r.number_is ∙ n, come, r.consumed)
+damaged : (file before come left : Option (List ℕ)) (chain : List ℕ) (batches : List (List Entry)) (bytes : ℕ) → Consumes file before heading → AreBatches first_chain batches → chain ≡ chain_behind first_chain batches → Consumes before come (written first_chain batches) → Keeps come left
+    → IfSome left (λ text. NoBatch chain text) → IfSome left Hides → bytes ≡ length (file_of batches) → IfSome file (IsDamaged bytes)
+damaged None before come left chain batches bytes h a c p k n m b = tt
+damaged (Some t) None come left chain batches bytes h a c p k n m b = absurd h
+damaged (Some t) (Some xs) None left chain batches bytes h a c p k n m b = absurd p
+damaged (Some t) (Some xs) (Some ys) None chain batches bytes h a c p k n m b = absurd k
+damaged (Some t) (Some xs) (Some ys) (Some zs) chain batches bytes h a c p k n m b = record {
+  batches = batches;
+  rest = ys;
+  is = (xs, h, record { text_is = p; are = a; none = subst (λ x. NoBatch x ys) c (subst (NoBatch chain) k n) });
+  hides = subst Hides k m;
+  bytes_are = b;
+}
+
+kept_long : (come left : Option (List ℕ)) (limit : ℕ) (bytes : ℕ) → Keeps come left → IfSome left (λ text. limit ≤ length text) → IfSome come (λ text. limit ≤ bytes + length text)
+kept_long None left limit bytes k h = tt
+kept_long (Some x) None limit bytes k h = absurd k
+kept_long (Some x) (Some y) limit bytes k h = omega (arith, h, ap length k)
+
+pub ends_badly : (table : List Tenant) (file before come left : Option (List ℕ)) (number : ℕ) (state : State) (place : Place) (over : Bool) (fault : RecoveryFault) → Consumes file before heading → Recovering table before come number state place → Keeps come left
+    → IfSome left (λ text. NoBatch place.chain text) → EndsBadly left place.bytes over fault → Fails table file over fault
+ends_badly table file before come left number state place over OtherFormat h r k n s = absurd s
+ends_badly table file before come left number state place over (Record stop) h r k n s = absurd s
+ends_badly table file before come left number state place over (Damaged bytes) h r k n s = damaged file before come left place.chain r.batches bytes h r.are r.chain_is r.consumed k n s.0 (s.1 ∙ r.bytes_are)
+ends_badly table file before come left number state place over Failed h r k n s = s
+ends_badly table file before come left number state place over NoMemory h r k n s = tt
+ends_badly table file before come left number state place over TooMany h r k n s = far file before come r.batches place.bytes (2 ^ 64 - 1) h r.consumed r.bytes_are (kept_long come left (2 ^ 64 - 1) place.bytes k s)
+
+-- there are as many bytes as batches
+batches_size : (chain : List ℕ) (batches : List (List Entry)) → length batches ≤ length (written chain batches)
+batches_size chain [] = omega arith
+batches_size chain (es ∷ batches) = omega (arith, batches_size (batch_chain chain es) batches, length-append (batch chain es) (written (batch_chain chain es) batches), batch_size chain es)
+
+long_file : (file before come : Option (List ℕ)) (batches : List (List Entry)) (limit : ℕ) → Consumes file before heading → Consumes before come (written first_chain batches) → limit ≤ length batches → IfSome file (λ text. limit ≤ length text)
+long_file None before come batches limit h p l = tt
+long_file (Some t) None come batches limit h p l = absurd h
+long_file (Some t) (Some xs) None batches limit h p l = absurd p
+long_file (Some t) (Some xs) (Some ys) batches limit h p l =
+    omega (arith, l, batches_size first_chain batches, ap length h ∙ length-append heading xs, ap length p ∙ length-append (written first_chain batches) ys)
+
+pub too_many : (table : List Tenant) (file before come : Option (List ℕ)) (number : ℕ) (state : State) (place : Place) → Consumes file before heading → number ≡ 2 ^ 64 - 1 → Recovering table before come number state place → TooLong file
+too_many table file before come number state place h n r = long_file file before come r.batches (2 ^ 64 - 1) h r.consumed (omega (arith, n, r.number_is))
+
+-- ---- where no more is read, and the beginning
+
+pub stops_reading : (table : List Tenant) (come : Option (List ℕ)) (old : State) (place : Place) (over : Bool) (A : Type 0) (r : Result A ReadStop) (stop : ReadStop) (fault : RecoveryFault) → fault ≡ fault_of stop → r ≡ Err stop → (r ≡ Err stopped_failed → over ≡ true) → (r ≡ Err stopped_many → ⊥)
+    → StopsIn table come old place over fault
+stops_reading table come old place over A r stopped_failed fault f e h m = subst (StopsIn table come old place over) (sym f) (h e)
+stops_reading table come old place over A r stopped_memory fault f e h m = subst (StopsIn table come old place over) (sym f) tt
+stops_reading table come old place over A r stopped_many fault f e h m = absurd (m e)
+
+pub ends_reading : (come : Option (List ℕ)) (bytes : ℕ) (over : Bool) (A : Type 0) (r : Result A ReadStop) (stop : ReadStop) (fault : RecoveryFault) → fault ≡ fault_of stop → r ≡ Err stop → (r ≡ Err stopped_failed → over ≡ true) → (r ≡ Err stopped_many → TooLong come)
+    → EndsBadly come bytes over fault
+ends_reading come bytes over A r stopped_failed fault f e h m = subst (EndsBadly come bytes over) (sym f) (h e)
+ends_reading come bytes over A r stopped_memory fault f e h m = subst (EndsBadly come bytes over) (sym f) tt
+ends_reading come bytes over A r stopped_many fault f e h m = subst (EndsBadly come bytes over) (sym f) (m e)
+
+pub fails_reading : (table : List Tenant) (file : Option (List ℕ)) (over : Bool) (A : Type 0) (r : Result A ReadStop) (stop : ReadStop) (fault : RecoveryFault) → fault ≡ fault_of stop → r ≡ Err stop → (r ≡ Err stopped_failed → over ≡ true) → (r ≡ Err stopped_many → ⊥) → Fails table file over fault
+fails_reading table file over A r stopped_failed fault f e h m = subst (Fails table file over) (sym f) (h e)
+fails_reading table file over A r stopped_memory fault f e h m = subst (Fails table file over) (sym f) tt
+fails_reading table file over A r stopped_many fault f e h m = absurd (m e)
+
+-- nothing is held at first
+pub of_file : (file left : Option (List ℕ)) (held : List ℕ) (begin : Begin) → held ≡ [] → Begins (prepend_known held file) left begin → Begins file left begin
+of_file None left held Whole none b = tt
+of_file None left held Part none b = tt
+of_file None left held Other none b = tt
+of_file (Some x) left held begin none b = subst (λ h. Begins (Some (h ++ x)) left begin) none b
+
+pub opens : (table : List Tenant) (file : Option (List ℕ)) (r : Recovered) → IfSome file IsNew → r.core ≡ opening table → r.chain ≡ first_chain → r.batches ≡ 0 → r.count ≡ 0 → r.bytes ≡ 0 → Opens table file r
+opens table file r new core chain batches count bytes = record { new = new; chain_is = chain; state_is = core; none = (batches, count, bytes) }
+
+pub or_opens : (table : List Tenant) (file : Option (List ℕ)) (r : Result Recovered RecoveryFault) → IfOk r (λ x. Recovers table file x) → IfOk r (λ x. Recovers table file x ⊎ Opens table file x)
+or_opens table file (Ok x) h = inl h
+or_opens table file (Err e) h = tt

@@ -7,14 +7,14 @@ use Rattle.cql_tenants.specs.Tenants.{index_of}
 use Rattle.cql_core.specs.declared.command.Command.{Command}
 use Rattle.cql_core.specs.declared.reply.Step.{Step}
 use Rattle.cql_core.specs.Machine.{State, step_of, reads, reply_to, state_after, Stepped, Says, Pinned}
-use Rattle.cql_core.specs.ReplyModel.{no_memory}
+use Rattle.cql_core.specs.ReplyModel.{no_memory, Refused as refused}
 use Rattle.cql_core.specs.Law.{state_from}
 use Rattle.cql_core.specs.Cql.{cql}
 use Rattle.cql_core.specs.Steps.{stepped_of, Steps}
 use Rattle.cql_journal.specs.Record.{Entry, Lacks, Fits, IsChain, record_line, record_lines}
-use Rattle.cql_journal.specs.Recovery.{said_by, call_of, changes, is_change, AllChange, Changed, Unchanged, Replays, Replayed, Misfits, counted, AreLines, Replaying, ReplaysLines, StopsInLines}
+use Rattle.cql_journal.specs.Recovery.{said_by, call_of, changes, is_change, is_read, AllChange, Changed, Told, Stands, Replays, Replayed, Misfits, counted, AreLines, Replaying, ReplaysLines, StopsInLines}
 use Rattle.cql_journal.specs.declared.replaying.Unfit.{Unfit}
-use Rattle.cql_journal.specs.declared.replaying.Unfit.TheVariants.{Refused, NoMemory}
+use Rattle.cql_journal.specs.declared.replaying.Unfit.TheVariants.{UnknownTenant, NoCommand, Refused, Unchanged, NoMemory}
 use Rattle.cql_journal.proofs.Parsing.{lacks_behind, line_same, one_record, record_feedless}
 
 reads_change : (s : Stepped) → is_change s ≡ true → changes (reads cql s) ≡ true
@@ -34,31 +34,49 @@ pub replays : (table : List Tenant) (old new : State) (e : Entry) (tenant : ℕ)
     → Changed old tenant command new → Replays table old e new
 replays table old new e tenant command t u h = record { call = (tenant, command); means = means table e tenant command t u; changed = h }
 
-unchanged : (old new : State) (tenant : ℕ) (command : Command) (step : Step) → Steps old tenant command step new → is_change (stepped_of step) ≡ false → stepped_of step ≢ Says no_memory → Unchanged old tenant command
-unfolding Unchanged
-unchanged old new tenant command step (inl well) h no_room = subst (λ s. is_change s ≡ false) well.0 h
-unchanged old new tenant command step (inr none) h no_room = absurd (no_room none.0)
-
 pub step_ok : (old new : State) (tenant : ℕ) (command : Command) (step : Step) (r : Result (Unit {0}) Unfit) → Steps old tenant command step new → OnOk r (is_change (stepped_of step) ≡ true) → OnOk r (Changed old tenant command new)
 step_ok old new tenant command step (Ok u) s h = changed old new tenant command step s h
 step_ok old new tenant command step (Err e) s h = tt
 
-pub step_err : (old new : State) (tenant : ℕ) (command : Command) (step : Step) (r : Result (Unit {0}) Unfit) → Steps old tenant command step new
-    → IfErr r (λ e. (e ≡ NoMemory) ⊎ ((e ≡ Refused) × (is_change (stepped_of step) ≡ false) × (stepped_of step ≢ Says no_memory))) → IfErr r (λ e. (e ≡ NoMemory) ⊎ ((e ≡ Refused) × Unchanged old tenant command))
+-- what tells that there was no memory is no other refusal, and nothing that is read
+no_other : (told : Stepped) (e : Unfit) → told ≡ Says no_memory → Told told e → e ≡ NoMemory
+no_other told (Refused refusal) is h = absurd (h.1 (let k : Says (refused refusal) ≡ Says no_memory = sym h.0 ∙ is in cc))
+no_other told Unchanged is h = absurd (let k : true ≡ false = sym h ∙ ap is_read is in cc)
+no_other told NoMemory is h = refl
+no_other told UnknownTenant is h = absurd h
+no_other told NoCommand is h = absurd h
+
+stands : (old new : State) (tenant : ℕ) (command : Command) (step : Step) (e : Unfit) → Steps old tenant command step new → Told (stepped_of step) e → Stands old tenant command e
+unfolding Stands
+stands old new tenant command step e (inl well) h = subst (λ t. Told t e) well.0 h
+stands old new tenant command step e (inr none) h = subst (Told (step_of cql old tenant command)) (sym (no_other (stepped_of step) e none.0 h)) tt
+
+-- of memory nothing is said
+pub no_room_stands : (old : State) (tenant : ℕ) (command : Command) → Stands old tenant command NoMemory
+unfolding Stands
+no_room_stands old tenant command = tt
+
+pub step_err : (old new : State) (tenant : ℕ) (command : Command) (step : Step) (r : Result (Unit {0}) Unfit) → Steps old tenant command step new → IfErr r (λ e. Told (stepped_of step) e) → IfErr r (λ e. Stands old tenant command e)
 step_err old new tenant command step (Ok u) s h = tt
-step_err old new tenant command step (Err e) s (inl m) = inl m
-step_err old new tenant command step (Err e) s (inr p) = inr (p.0, unchanged old new tenant command step s p.1 p.2)
+step_err old new tenant command step (Err e) s h = stands old new tenant command step e s h
 
 pub record_ok : (table : List Tenant) (old new : State) (e : Entry) (tenant : ℕ) (command : Command) (r : Result (Unit {0}) Unfit) → index_of table e.tenant ≡ Some tenant → said_by e.line ≡ Some command
     → OnOk r (Changed old tenant command new) → OnOk r (Replays table old e new)
 record_ok table old new e tenant command (Ok u) t said h = replays table old new e tenant command t said h
 record_ok table old new e tenant command (Err x) t said h = tt
 
+its_misfit : (table : List Tenant) (old : State) (e : Entry) (tenant : ℕ) (command : Command) (x : Unfit) → call_of table e ≡ Some (tenant, command) → Stands old tenant command x → Misfits table old e x
+unfolding Stands
+its_misfit table old e tenant command (Refused refusal) m h = ((tenant, command), m, h)
+its_misfit table old e tenant command Unchanged m h = ((tenant, command), m, h)
+its_misfit table old e tenant command NoMemory m h = tt
+its_misfit table old e tenant command UnknownTenant m h = absurd h
+its_misfit table old e tenant command NoCommand m h = absurd h
+
 pub record_err : (table : List Tenant) (old : State) (e : Entry) (tenant : ℕ) (command : Command) (r : Result (Unit {0}) Unfit) → index_of table e.tenant ≡ Some tenant → said_by e.line ≡ Some command
-    → IfErr r (λ x. (x ≡ NoMemory) ⊎ ((x ≡ Refused) × Unchanged old tenant command)) → IfErr r (λ x. Misfits table old e x)
+    → IfErr r (λ x. Stands old tenant command x) → IfErr r (λ x. Misfits table old e x)
 record_err table old e tenant command (Ok u) t said h = tt
-record_err table old e tenant command (Err x) t said (inl m) = subst (Misfits table old e) (sym m) tt
-record_err table old e tenant command (Err x) t said (inr p) = subst (Misfits table old e) (sym p.0) ((tenant, command), means table e tenant command t said, p.1)
+record_err table old e tenant command (Err x) t said h = its_misfit table old e tenant command x (means table e tenant command t said) h
 
 -- ---- one more behind the others
 

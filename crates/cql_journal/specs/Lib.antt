@@ -1,7 +1,10 @@
 pub mod Record
 pub mod Taken
 pub mod Splits
+pub mod Starting
 pub mod Reading
+pub mod Hidden
+pub mod Waiting
 pub mod Law
 pub mod Recovery
 pub mod Recovered

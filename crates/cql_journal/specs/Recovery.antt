@@ -1,5 +1,5 @@
 -- The state that the records of a journal lead to.
-use Rattle.std.specs.Prelude.{⊤, ◌≡◌, ◌⊎◌, ◌+◌, ◌-◌, ◌^◌, ℕ, Bool, true, false, List, [], ◌∷◌, ◌++◌, length, map, min, Option, Some, None, option_map, option_and_then, Result, Ok, Err}
+use Rattle.std.specs.Prelude.{⊤, ◌≡◌, ◌≢◌, ◌⊎◌, ◌+◌, ◌-◌, ◌^◌, ℕ, Bool, true, false, List, [], ◌∷◌, ◌++◌, length, map, min, Option, Some, None, option_map, option_and_then, Result, Ok, Err, codes}
 use Rattle.std.specs.Str.{IsUtf8}
 use Rattle.std.specs.List.{AllByRecursion}
 use Rattle.cql_tenants.specs.declared.tenants.Tenant.{Tenant}
@@ -8,12 +8,14 @@ use Rattle.cql_core.specs.declared.command.Command.{Command}
 use Rattle.cql_core.specs.ReplyModel.{ReplyModel, Done, Based, Blocks, Listed, Refused as refused}
 use Rattle.cql_core.specs.Machine.{State, reply_to, state_after, step_of, Stepped, Says, Pinned}
 use Rattle.cql_core.specs.Law.{state_from}
+use Rattle.cql_core.specs.Refusal.{name_of}
 use Rattle.cql_core.specs.Cql.{cql}
 use Rattle.cql_asked.specs.declared.fault.LineFault.{LineFault}
 use Rattle.cql_asked.specs.Command.{command_of}
 use Rattle.cql_journal.specs.Record.{Entry, Fits, record_lines}
 use Rattle.cql_journal.specs.declared.replaying.Unfit.{Unfit}
-use Rattle.cql_journal.specs.declared.replaying.Unfit.TheVariants.{UnknownTenant, NoCommand, Refused, NoMemory}
+use Rattle.cql_journal.specs.declared.replaying.Unfit.TheVariants.{UnknownTenant, NoCommand, Refused, Unchanged, NoMemory}
+use Rattle.cql_core.specs.declared.refusal.Refusal.TheVariants.{NoMemory as no_room}
 
 -- ---- what a record means
 
@@ -44,18 +46,43 @@ abbrev pub is_change : Stepped → Bool
 is_change (Says told) = changes told
 is_change (Pinned p) = false
 
+-- what is told without a change: an answer, its pin, or a list
+abbrev pub is_read : Stepped → Bool
+is_read (Says Done) = false
+is_read (Says (Based base)) = false
+is_read (Says (Blocks blocks next)) = true
+is_read (Says (Listed listing)) = true
+is_read (Says (refused refusal)) = false
+is_read (Pinned p) = true
+
 -- a command changed the machine, and this is the state after it
 unfoldable pub Changed : State → ℕ → Command → State → Type 0
 Changed old tenant command new = (changes (reply_to cql old tenant command) ≡ true) × (new ≡ state_after cql old tenant command)
 
--- the machine tells at once neither that it is done nor a base
-unfoldable pub Unchanged : State → ℕ → Command → Type 0
-Unchanged old tenant command = is_change (step_of cql old tenant command) ≡ false
+-- Why what is told isn't that it may have changed the machine. Of memory nothing is said.
+abbrev pub Told : Stepped → Unfit → Type 0
+Told told (Refused refusal) = (told ≡ Says (refused refusal)) × (refusal ≢ no_room)
+Told told Unchanged = is_read told ≡ true
+Told told NoMemory = ⊤
+Told told UnknownTenant = ⊥
+Told told NoCommand = ⊥
+
+-- the same of what the machine tells of a command
+unfoldable pub Stands : State → ℕ → Command → Unfit → Type 0
+Stands old tenant command unfit = Told (step_of cql old tenant command) unfit
 
 -- each call changes in its turn
 abbrev pub AllChange : State → List (ℕ × Command) → Type 0
 AllChange s [] = ⊤
 AllChange s (call ∷ calls) = (changes (reply_to cql s call.0 call.1) ≡ true) × AllChange (state_after cql s call.0 call.1) calls
+
+-- the name by which it is told why a record leads nowhere
+abbrev pub unfit_name : Unfit → List ℕ
+unfit_name UnknownTenant = codes "UnknownTenant"
+unfit_name NoCommand = codes "NoCommand"
+unfit_name (Refused refusal) = name_of refusal
+unfit_name Unchanged = codes "Unchanged"
+unfit_name NoMemory = codes "NoMemory"
 
 -- ---- one record, and some
 
@@ -72,11 +99,12 @@ pub record Replayed (table : List Tenant) (entries : List Entry) (old new : Stat
   pub change : AllChange old calls
   pub state_is : new ≡ state_from cql old calls
 
--- Why a record leads nowhere: no tenant of the table has its name; its line is no command, or names a tenant; the command is refused, or changes nothing. Of memory nothing is said.
+-- Why a record leads nowhere: no tenant of the table has its name; its line is no command, or names a tenant; the machine refuses the command; or it is a fetch or a list. Of memory nothing is said.
 abbrev pub Misfits : List Tenant → State → Entry → Unfit → Type 0
 Misfits table s e UnknownTenant = (IsUtf8 e.tenant → ⊥) ⊎ (index_of table e.tenant ≡ None)
 Misfits table s e NoCommand = said_by e.line ≡ None
-Misfits table s e Refused = (call : ℕ × Command) × (call_of table e ≡ Some call) × Unchanged s call.0 call.1
+Misfits table s e (Refused refusal) = (call : ℕ × Command) × (call_of table e ≡ Some call) × Stands s call.0 call.1 (Refused refusal)
+Misfits table s e Unchanged = (call : ℕ × Command) × (call_of table e ≡ Some call) × Stands s call.0 call.1 Unchanged
 Misfits table s e NoMemory = ⊤
 
 -- as far as 2^64 - 1

@@ -1,6 +1,6 @@
 -- What whole batches a text begins with.
 use Rattle.std.specs.Prelude.{⊤, ◌≡◌, ◌<◌, ℕ, List, [], ◌∷◌, ◌++◌, length}
-use Rattle.cql_journal.specs.Record.{Entry, first_chain, heading, batch, written, chain_behind, AreBatches, NoBatch}
+use Rattle.cql_journal.specs.Record.{Entry, first_chain, heading, batch, batch_chain, written, chain_behind, IsBatch, AreBatches, NoBatch}
 
 -- Behind a chain a text is these batches and a rest, in whose front no whole batch stands.
 pub record Splits (chain text : List ℕ) (batches : List (List Entry)) (rest : List ℕ) : Type 0 where
@@ -23,6 +23,11 @@ IsOneReadingLaw = (text rest other_rest : List ℕ) (batches others : List (List
 -- What is read of what was written are its batches.
 abbrev pub IsRoundTripLaw : Type 0
 IsRoundTripLaw = (batches : List (List Entry)) → AreBatches first_chain batches → IsFile (file_of batches) batches []
+
+-- A batch behind the whole batches of a file makes a file of them and this one, and nothing is left.
+abbrev pub IsAppendLaw : Type 0
+IsAppendLaw = (batches : List (List Entry)) (es : List Entry) → AreBatches first_chain batches → IsBatch (chain_behind first_chain batches) es
+    → IsFile (file_of batches ++ batch (chain_behind first_chain batches) es) (batches ++ es ∷ []) [] × (chain_behind first_chain (batches ++ es ∷ []) ≡ batch_chain (chain_behind first_chain batches) es)
 
 -- the front's length is less than with the next batch too, where there is one
 abbrev pub EndsBefore : List ℕ → List (List Entry) → List ℕ → Type 0

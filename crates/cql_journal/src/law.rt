@@ -1,6 +1,6 @@
 //! The laws of a journal: functions that do nothing, whose contracts are the laws.
 ghost use Rattle.cql_journal.specs.Law.{IsRecordedLaw};
-ghost use Rattle.cql_journal.specs.Splits.{IsFrontLaw, IsOneReadingLaw, IsRoundTripLaw};
+ghost use Rattle.cql_journal.specs.Splits.{IsAppendLaw, IsFrontLaw, IsOneReadingLaw, IsRoundTripLaw};
 
 use cql_core::law::{fetch_law, refusal_law};
 
@@ -12,6 +12,11 @@ pub fn one_reading_law()
 /// What is read of a file that was written are its batches, and nothing is left.
 pub fn round_trip_law()
     ensures { IsRoundTripLaw }
+{}
+
+/// What is read of a file with a batch more, written behind its last chain, are its batches and this one.
+pub fn append_law()
+    ensures { IsAppendLaw }
 {}
 
 /// What is read of any front of a file that has its heading are the batches that are whole in it.

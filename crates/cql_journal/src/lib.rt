@@ -7,8 +7,13 @@ mod reading;
 mod record;
 mod recovery;
 mod replaying;
+mod searching;
+mod starting;
+mod writing;
 
-pub use reading::{MAX_BATCH, ReadStop};
-pub use record::{CHAIN, Chain, FIRST, Record, append_record, chain_after, commit, record_in};
-pub use recovery::{Recovered, RecoveryFault, recover};
+pub use reading::MAX_BATCH;
+pub use record::{CHAIN, Chain, FIRST, Record};
+pub use recovery::{Onlooker, Recovered, RecoveryFault, Untold, recover};
 pub use replaying::{Unfit, UnfitRecord};
+pub use starting::HEADING;
+pub use writing::{BatchFault, append_waiting, reserve_waiting, write_batch};

@@ -1,9 +1,9 @@
 //! Bytes that are read in blocks, ahead of what is taken of them, and the batch that they begin with.
-ghost use Rattle.std.specs.Prelude.{◌≡◌, ◌≤◌, ◌+◌, ◌++◌, [], drop, length, true, Ok, Err, IfOk, OnOk, IfSome, IfNone};
+ghost use Rattle.std.specs.Prelude.{◌≡◌, ◌≤◌, ◌<◌, ◌+◌, ◌++◌, [], drop, length, true, false, Ok, Err, IfOk, OnOk, OnErr, IfSome};
 ghost use Rattle.std.specs.Io.KnownBytes.{Keeps, prepend_known};
 ghost use Rattle.cql_lines.specs.Watched.{inner_of, has_failed};
 ghost use Rattle.cql_journal.specs.Record.{IsChain, NoBatch};
-ghost use Rattle.cql_journal.specs.Reading.{Fills, Follows, StartsBatch};
+ghost use Rattle.cql_journal.specs.Reading.{Fills, Follows, StartsBatch, StartsRecords};
 
 use crate::record::{CHAIN, Chain, chain_after, record_in, split_line};
 use cql_lines::{ReadFault, Watched};
@@ -24,6 +24,8 @@ pub enum ReadStop {
     Failed,
     /// There was no memory.
     NoMemory,
+    /// So many bytes were read that their number isn't told any more.
+    TooMany,
 }
 
 impl From<ReadFault> for ReadStop {
@@ -46,14 +48,20 @@ impl From<AllocError> for ReadStop {
     }
 }
 
-// Bytes, and behind them others.
-fn joined(alloc: Global, front: &[u8], back: &[u8]) -> Result<Vec<u8>, AllocError>
-    ensures { IfOk result (λ all. all.items ≡ front.now ++ back.now) }
+// Puts a piece behind the bytes from a place on, and lets go of those before it.
+fn grow(alloc: Global, held: &mut Vec<u8>, start: usize, piece: &[u8]) -> Result<(), AllocError>
+    requires { start ≤ length held.old.items }
+    ensures ok { OnOk result (held.new.items ≡ drop start held.old.items ++ piece.now) }
+    ensures err { OnErr result (held.new.items ≡ held.old.items) }
 {
-    let mut all = Vec::new(alloc);
-    all.extend_from_slice(front)?;
-    all.extend_from_slice(back)?;
-    Ok(all)
+    if start == 0 {
+        return held.extend_from_slice(piece);
+    }
+    let mut rest = Vec::new(alloc);
+    rest.extend_from_slice(&held[start..])?;
+    rest.extend_from_slice(piece)?;
+    *held = rest;
+    Ok(())
 }
 
 /// The bytes that were read and not yet taken.
@@ -107,12 +115,32 @@ impl ReadAhead {
     pub fn fill<R: Read>(&mut self, reader: &mut Watched<R>) -> Result<bool, ReadStop>
         ensures ok { IfOk result (λ more. Fills self.old self.new (R.remaining (inner_of reader.old)) (R.remaining (inner_of reader.new)) more) }
         ensures fault { result ≡ Err ReadStop.Failed → has_failed reader.new ≡ true }
+        ensures many { result ≡ Err ReadStop.TooMany → ⊥ }
     {
         let count = reader.read(&mut self.block)?;
-        let held = joined(self.alloc, &self.held[self.start..], &self.block[..count])?;
-        self.held = held;
+        grow(self.alloc, &mut self.held, self.start, &self.block[..count])?;
         self.start = 0;
         Ok(count > 0)
+    }
+
+    /// Reads until so many bytes are there; tells whether they are.
+    pub fn reach<R: Read>(
+        &mut self,
+        reader: &mut Watched<R>,
+        count: usize,
+    ) -> Result<bool, ReadStop>
+        ensures kept { OnOk result (Keeps (prepend_known self.old (R.remaining (inner_of reader.old))) (prepend_known self.new (R.remaining (inner_of reader.new)))) }
+        ensures some { IfOk result (λ reached. reached ≡ true → count ≤ length self.new) }
+        ensures none { IfOk result (λ reached. reached ≡ false → IfSome (prepend_known self.new (R.remaining (inner_of reader.new))) (λ text. (text ≡ self.new) × (length text < count))) }
+        ensures fault { result ≡ Err ReadStop.Failed → has_failed reader.new ≡ true }
+        ensures many { result ≡ Err ReadStop.TooMany → ⊥ }
+    {
+        while self.as_slice().len() < count {
+            if !self.fill(reader)? {
+                return Ok(false);
+            }
+        }
+        Ok(true)
     }
 }
 
@@ -145,34 +173,61 @@ fn next_line(chain: &Chain, before: &[u8], rest: &[u8]) -> Next
     Next::Wrong
 }
 
-/// How many bytes the records of the batch behind a chain take that stands at the front; none where no
-/// whole batch stands there. It reads as far as it has to.
-pub(crate) fn next_batch<R: Read>(
+/// What stands at a front.
+#[derive(Clone, Copy)]
+pub(crate) struct Front {
+    /// So many bytes are records of a batch behind the chain.
+    pub(crate) size: usize,
+    /// A commit line stands behind them: they are a whole batch.
+    pub(crate) is_batch: bool,
+}
+
+// So many bytes of records, and no commit line.
+fn no_batch(size: usize) -> Front
+    ensures { result ≡ record { size = size; is_batch = false } }
+{
+    Front {
+        size,
+        is_batch: false,
+    }
+}
+
+/// What stands at the front behind a chain: as many records as there are, and whether they are a whole
+/// batch. It reads as far as it has to.
+pub(crate) fn front_at<R: Read>(
     ahead: &mut ReadAhead,
     reader: &mut Watched<R>,
     chain: &Chain,
-) -> Result<Option<usize>, ReadStop>
+) -> Result<Front, ReadStop>
     requires { IsChain chain.now }
     ensures kept { OnOk result (Keeps (prepend_known ahead.old (R.remaining (inner_of reader.old))) (prepend_known ahead.new (R.remaining (inner_of reader.new)))) }
-    ensures some { IfOk result (λ found. IfSome found (λ size. StartsBatch chain.now size ahead.new)) }
-    ensures room { IfOk result (λ found. IfSome found (λ size. size + 17 ≤ length ahead.new)) }
-    ensures none { IfOk result (λ found. IfNone found (IfSome (prepend_known ahead.new (R.remaining (inner_of reader.new))) (λ text. NoBatch chain.now text))) }
+    ensures records { IfOk result (λ f. StartsRecords chain.now f.size ahead.new) }
+    ensures batch { IfOk result (λ f. f.is_batch ≡ true → StartsBatch chain.now f.size ahead.new) }
+    ensures none { IfOk result (λ f. f.is_batch ≡ false → IfSome (prepend_known ahead.new (R.remaining (inner_of reader.new))) (λ text. NoBatch chain.now text)) }
+    ensures within { IfOk result (λ f. f.size ≤ length ahead.new) }
+    ensures room { IfOk result (λ f. f.is_batch ≡ true → f.size + 17 ≤ length ahead.new) }
     ensures fault { result ≡ Err ReadStop.Failed → has_failed reader.new ≡ true }
+    ensures many { result ≡ Err ReadStop.TooMany → ⊥ }
 {
-    let mut at = 0;
+    let mut size = 0;
     loop {
         let held = ahead.as_slice();
-        let (before, rest) = held.split_at(at);
+        let (before, rest) = held.split_at(size);
         match next_line(chain, before, rest) {
-            Next::Record(size) => at += size,
-            Next::Commit => return Ok(Some(at)),
-            Next::Wrong => return Ok(None),
+            Next::Record(more) => size += more,
+            Next::Commit => {
+                return Ok(Front {
+                    size,
+                    is_batch: true,
+                });
+            }
+            Next::Wrong => return Ok(no_batch(size)),
             Next::Part => {
                 if held.len() >= MAX_BATCH {
-                    return Ok(None);
+                    return Ok(no_batch(size));
                 }
                 if !ahead.fill(reader)? {
-                    return Ok(None);
+                    return Ok(no_batch(size));
                 }
             }
         }

@@ -83,6 +83,19 @@ fn behind_chain<'a>(chain: &Chain, line: &'a [u8]) -> Option<&'a [u8]>
     }
 }
 
+/// The record that a line without a chain is; none where it has no space.
+pub(crate) fn record_of(bytes: &[u8]) -> Option<Record<'_>>
+    requires { Lacks 10 bytes.now }
+    ensures some { IfSome result (λ r. bytes.now ≡ body (entry_of r)) }
+    ensures fits { IfSome result (λ r. Fits (entry_of r)) }
+    ensures none { IfNone result ((e : Entry) → bytes.now ≢ body e) }
+{
+    let Some((tenant, line)) = cut_at(b' ', bytes) else {
+        return None;
+    };
+    Some(Record { tenant, line })
+}
+
 /// The record that a line of a batch behind a chain is; none where it is no such record.
 pub fn record_in<'a>(chain: &Chain, line: &'a [u8]) -> Option<Record<'a>>
     requires { Lacks 10 line.now }

@@ -1,13 +1,17 @@
 //! The core that the records of a journal lead to.
-ghost use Rattle.std.specs.Prelude.{◌≡◌, true, false, IfErr, IfOk};
-ghost use Rattle.std.specs.Io.KnownBytes.{prepend_known};
+ghost use Rattle.std.specs.Prelude.{List, ℕ, Option, ◌≡◌, ◌⊎◌, ◌+◌, ◌^◌, ◌≤◌, length, take, true, false, IfErr, IfOk, OnOk, IfSome, IfNone};
+ghost use Rattle.std.specs.Io.KnownBytes.{Consumes, prepend_known};
 ghost use Rattle.cql_lines.specs.Watched.{inner_of, has_failed};
-ghost use Rattle.cql_journal.specs.Record.{IsChain};
-ghost use Rattle.cql_journal.specs.Recovered.{Fails, NothingLeft, Recovers, StopsIn, TakesBatch};
+ghost use Rattle.cql_core.specs.Machine.{opening};
+ghost use Rattle.cql_journal.specs.Record.{IsChain, heading};
+ghost use Rattle.cql_journal.specs.Hidden.{HidesNone};
+ghost use Rattle.cql_journal.specs.Recovered.{EndsBadly, Fails, IsFirst, NothingLeft, Opens, Recovers, StopsIn, TakesBatch, fault_of};
 
-use crate::reading::{ReadAhead, ReadStop, next_batch};
-use crate::record::{COMMIT, Chain, FIRST, chain_after};
+use crate::reading::{ReadAhead, ReadStop, front_at};
+use crate::record::{CHAIN, COMMIT, Chain, FIRST};
 use crate::replaying::{UnfitRecord, replay_lines};
+use crate::searching::hides_batch;
+use crate::starting::{Begin, HEADING, take_heading};
 use cql_asked::Scratch;
 use cql_core::{Core, TenantTable};
 use cql_lines::Watched;
@@ -15,15 +19,19 @@ use std::alloc::{AllocError, Global};
 use std::io::Read;
 
 /// Why a journal gives no core.
-#[derive(Clone, Copy, Debug, PartialEq, Eq)]
+#[derive(Clone, Copy, PartialEq, Eq)]
 pub enum RecoveryFault {
+    /// The first line is another one: this is no journal of this format.
+    OtherFormat,
     /// A record of a whole batch leads nowhere.
     Record(UnfitRecord),
+    /// Behind so many bytes stands something that is no whole batch, and behind that a whole batch.
+    Damaged(u64),
     /// The reader has failed.
     Failed,
     /// There was no memory.
     NoMemory,
-    /// There are 2^64 - 1 whole batches.
+    /// The file has 2^64 - 1 bytes or more.
     TooMany,
 }
 
@@ -37,15 +45,59 @@ impl From<AllocError> for RecoveryFault {
     }
 }
 
+// Why nothing is recovered where no more is read.
+fn fault_of(stop: ReadStop) -> RecoveryFault
+    ensures { result ≡ fault_of stop }
+{
+    match stop {
+        ReadStop::Failed => RecoveryFault::Failed,
+        ReadStop::NoMemory => RecoveryFault::NoMemory,
+        ReadStop::TooMany => RecoveryFault::TooMany,
+    }
+}
+
+/// Is told how far a recovery is, behind each batch.
+pub trait Onlooker {
+    /// So many records were replayed, of so many bytes of the file.
+    fn tell(&mut self, count: u64, bytes: u64);
+}
+
+/// Nobody is told.
+#[derive(Clone, Copy, Drop)]
+pub struct Untold;
+
+impl Onlooker for Untold {
+    fn tell(&mut self, _count: u64, _bytes: u64) {}
+}
+
 /// A core that the whole batches of a journal lead to.
 pub struct Recovered {
     pub core: Core,
-    /// The chain of the last batch.
+    /// The chain of the last batch: the next one is written behind it.
     pub chain: Chain,
     /// How many whole batches there are.
     pub batches: u64,
     /// How many records there are. The count stops at 2^64 - 1.
     pub count: u64,
+    /// How many bytes the first line and the whole batches have. The file is to be cut off there, and
+    /// the next batch written there. None where the first line isn't whole.
+    pub bytes: u64,
+}
+
+impl Recovered {
+    /// The core, the chain of the last batch, and how many bytes the file is to keep.
+    pub fn into_parts(self) -> (Core, Chain, u64)
+        ensures { (result.0 ≡ self.core) × (result.1 ≡ self.chain) × (result.2 ≡ self.bytes) }
+    {
+        let Recovered {
+            core,
+            chain,
+            batches: _,
+            count: _,
+            bytes,
+        } = self;
+        (core, chain, bytes)
+    }
 }
 
 impl Drop for Recovered {
@@ -55,8 +107,44 @@ impl Drop for Recovered {
             chain: _,
             batches: _,
             count: _,
+            bytes: _,
         } = self;
     }
+}
+
+/// Where a recovery is.
+#[derive(Clone, Copy)]
+pub(crate) struct Place {
+    pub(crate) chain: Chain,
+    pub(crate) count: u64,
+    pub(crate) bytes: u64,
+}
+
+// Behind the first line.
+fn first_place() -> Place
+    ensures { IsFirst result }
+{
+    Place {
+        chain: FIRST,
+        count: 0,
+        bytes: HEADING.len() as u64,
+    }
+}
+
+// The place behind a batch, of whose commit line and more these are the bytes; none from 2^64 bytes on.
+fn place_behind(place: &Place, count: u64, size: usize, rest: &[u8]) -> Option<Place>
+    requires { 16 ≤ length rest.now }
+    ensures some { IfSome result (λ next. (next.chain ≡ take 16 rest.now) × (next.count ≡ count) × (next.bytes ≡ place.now.bytes + size)) }
+    ensures none { IfNone result (2 ^ 64 ≤ place.now.bytes + size) }
+{
+    let bytes = place.bytes.checked_add(size as u64)?;
+    let mut chain = FIRST;
+    chain.copy_from_slice(&rest[..CHAIN]);
+    Some(Place {
+        chain,
+        count,
+        bytes,
+    })
 }
 
 // One batch more, where a whole one stands there. After an `Err` the core is of no use.
@@ -64,74 +152,130 @@ fn take_batch<R: Read>(
     alloc: Global,
     table: &TenantTable,
     core: &mut Core,
-    chain: &mut Chain,
-    count: &mut u64,
+    place: &mut Place,
     scratch: &mut Scratch,
     ahead: &mut ReadAhead,
     reader: &mut Watched<R>,
 ) -> Result<bool, RecoveryFault>
-    requires { IsChain chain.old }
-    ensures more { IfOk result (λ more. more ≡ true → TakesBatch table.now (prepend_known ahead.old (R.remaining (inner_of reader.old))) (prepend_known ahead.new (R.remaining (inner_of reader.new))) chain.old chain.new core.old core.new count.old count.new) }
-    ensures over { IfOk result (λ more. more ≡ false → NothingLeft (prepend_known ahead.old (R.remaining (inner_of reader.old))) (prepend_known ahead.new (R.remaining (inner_of reader.new))) chain.old chain.new core.old core.new count.old count.new) }
-    ensures err { IfErr result (λ fault. StopsIn table.now (prepend_known ahead.old (R.remaining (inner_of reader.old))) chain.old core.old count.old (has_failed reader.new) fault) }
+    requires { IsChain place.old.chain }
+    ensures more { IfOk result (λ more. more ≡ true → TakesBatch table.now (prepend_known ahead.old (R.remaining (inner_of reader.old))) (prepend_known ahead.new (R.remaining (inner_of reader.new))) core.old core.new place.old place.new) }
+    ensures over { IfOk result (λ more. more ≡ false → NothingLeft (prepend_known ahead.old (R.remaining (inner_of reader.old))) (prepend_known ahead.new (R.remaining (inner_of reader.new))) core.old core.new place.old place.new) }
+    ensures err { IfErr result (λ fault. StopsIn table.now (prepend_known ahead.old (R.remaining (inner_of reader.old))) core.old place.old (has_failed reader.new) fault) }
 {
-    let size = match next_batch(ahead, reader, chain) {
-        Ok(Some(size)) => size,
-        Ok(None) => return Ok(false),
-        Err(ReadStop::Failed) => return Err(RecoveryFault::Failed),
-        Err(ReadStop::NoMemory) => return Err(RecoveryFault::NoMemory),
+    let front = match front_at(ahead, reader, &place.chain) {
+        Ok(front) => front,
+        Err(stop) => return Err(fault_of(stop)),
     };
-    let (lines, _) = ahead.as_slice().split_at(size);
-    let after = chain_after(chain, lines);
-    match replay_lines(alloc, table, core, chain, lines, *count, scratch) {
+    if !front.is_batch {
+        return Ok(false);
+    }
+    let (lines, rest) = ahead.as_slice().split_at(front.size);
+    match replay_lines(
+        alloc,
+        table,
+        core,
+        &place.chain,
+        lines,
+        place.count,
+        scratch,
+    ) {
         Err(stop) => Err(RecoveryFault::Record(stop)),
-        Ok(counts) => {
-            *count = counts;
-            ahead.consume(size + COMMIT);
-            *chain = after;
-            Ok(true)
-        }
+        Ok(count) => match place_behind(place, count, front.size + COMMIT, rest) {
+            None => Err(RecoveryFault::TooMany),
+            Some(next) => {
+                *place = next;
+                ahead.consume(front.size + COMMIT);
+                Ok(true)
+            }
+        },
     }
 }
 
-/// The core that the whole batches of a journal lead to, from a new core of the table. The reader stands
-/// behind the file's first line. Where a batch isn't whole, the journal ends in front of it.
-pub fn recover<R: Read>(
+// Whether what is left may be cut off: it hides no whole batch.
+fn end_of<R: Read>(
+    ahead: &mut ReadAhead,
+    reader: &mut Watched<R>,
+    bytes: u64,
+) -> Result<(), RecoveryFault>
+    ensures ok { OnOk result (IfSome (prepend_known ahead.old (R.remaining (inner_of reader.old))) HidesNone) }
+    ensures err { IfErr result (λ fault. EndsBadly (prepend_known ahead.old (R.remaining (inner_of reader.old))) bytes (has_failed reader.new) fault) }
+{
+    match hides_batch(ahead, reader) {
+        Ok(false) => Ok(()),
+        Ok(true) => Err(RecoveryFault::Damaged(bytes)),
+        Err(stop) => Err(fault_of(stop)),
+    }
+}
+
+// The core that the whole batches behind the first line lead to.
+fn recover_batches<R: Read, P: Onlooker>(
     alloc: Global,
     table: &TenantTable,
+    core: Core,
+    ahead: &mut ReadAhead,
     reader: &mut Watched<R>,
+    onlooker: &mut P,
 ) -> Result<Recovered, RecoveryFault>
-    ensures ok { IfOk result (λ r. Recovers table.now (R.remaining (inner_of reader.old)) r.chain r.batches r.count r.core) }
-    ensures err { IfErr result (λ fault. Fails table.now (R.remaining (inner_of reader.old)) (has_failed reader.new) fault) }
+    requires { core ≡ opening table.now }
+    ensures ok { (file : Option (List ℕ)) → Consumes file (prepend_known ahead.old (R.remaining (inner_of reader.old))) heading → IfOk result (λ r. Recovers table.now file r) }
+    ensures err { (file : Option (List ℕ)) → Consumes file (prepend_known ahead.old (R.remaining (inner_of reader.old))) heading → IfErr result (λ fault. Fails table.now file (has_failed reader.new) fault) }
 {
-    let mut core = Core::new(alloc, table)?;
-    let mut ahead = ReadAhead::new(alloc)?;
+    let mut core = core;
     let mut scratch = Scratch::new(alloc);
-    let mut chain = FIRST;
-    let mut count = 0;
+    let mut place = first_place();
     for batches in 0..u64::MAX {
         match take_batch(
             alloc,
             table,
             &mut core,
-            &mut chain,
-            &mut count,
+            &mut place,
             &mut scratch,
-            &mut ahead,
+            ahead,
             reader,
         ) {
             Err(fault) => return Err(fault),
-            Ok(more) => {
-                if !more {
-                    return Ok(Recovered {
+            Ok(true) => onlooker.tell(place.count, place.bytes),
+            Ok(false) => {
+                return match end_of(ahead, reader, place.bytes) {
+                    Err(fault) => Err(fault),
+                    Ok(()) => Ok(Recovered {
                         core,
-                        chain,
+                        chain: place.chain,
                         batches,
-                        count,
-                    });
-                }
+                        count: place.count,
+                        bytes: place.bytes,
+                    }),
+                };
             }
         }
     }
     Err(RecoveryFault::TooMany)
+}
+
+/// The core that the whole batches of a journal lead to, from a new core of the table. The reader stands
+/// at the file's beginning. Where a batch isn't whole, the journal ends in front of it; but where a whole
+/// one stands behind that, it is damaged.
+pub fn recover<R: Read, P: Onlooker>(
+    alloc: Global,
+    table: &TenantTable,
+    reader: &mut Watched<R>,
+    onlooker: &mut P,
+) -> Result<Recovered, RecoveryFault>
+    ensures ok { IfOk result (λ r. Recovers table.now (R.remaining (inner_of reader.old)) r ⊎ Opens table.now (R.remaining (inner_of reader.old)) r) }
+    ensures err { IfErr result (λ fault. Fails table.now (R.remaining (inner_of reader.old)) (has_failed reader.new) fault) }
+{
+    let core = Core::new(alloc, table)?;
+    let mut ahead = ReadAhead::new(alloc)?;
+    match take_heading(&mut ahead, reader) {
+        Err(stop) => Err(fault_of(stop)),
+        Ok(Begin::Other) => Err(RecoveryFault::OtherFormat),
+        Ok(Begin::Part) => Ok(Recovered {
+            core,
+            chain: FIRST,
+            batches: 0,
+            count: 0,
+            bytes: 0,
+        }),
+        Ok(Begin::Whole) => recover_batches(alloc, table, core, &mut ahead, reader, onlooker),
+    }
 }

@@ -1,12 +1,10 @@
 //! Records that are stepped on a core.
-ghost use Rattle.std.specs.Prelude.{◌≡◌, ◌≢◌, ◌⊎◌, OnOk, IfOk, IfErr, IfSome, IfNone, Some, None, true, false};
+ghost use Rattle.std.specs.Prelude.{◌≡◌, ◌⊎◌, OnOk, IfOk, IfErr, IfSome, IfNone, Some, None, true};
 ghost use Rattle.std.specs.Str.{IsUtf8};
 ghost use Rattle.cql_journal.specs.Record.{IsChain};
 ghost use Rattle.cql_journal.specs.Taken.{entry_of};
-ghost use Rattle.cql_journal.specs.Recovery.{AreLines, Changed, Misfits, ReplaysLines, Replays, StopsInLines, Unchanged, is_change, said_by};
+ghost use Rattle.cql_journal.specs.Recovery.{AreLines, Changed, Misfits, ReplaysLines, Replays, Stands, StopsInLines, Told, is_change, said_by, unfit_name};
 ghost use Rattle.cql_tenants.specs.Tenants.{index_of};
-ghost use Rattle.cql_core.specs.Machine.{Says};
-ghost use Rattle.cql_core.specs.ReplyModel.{no_memory};
 ghost use Rattle.cql_core.specs.Steps.{stepped_of};
 
 use crate::record::{Chain, Record, record_in, split_line};
@@ -15,20 +13,37 @@ use cql_core::{Command, Core, Prepared, Refusal, Reply, Step, TenantId, TenantTa
 use std::alloc::{AllocError, Global};
 
 /// Why a record leads nowhere.
-#[derive(Clone, Copy, Debug, PartialEq, Eq)]
+#[derive(Clone, Copy, PartialEq, Eq)]
 pub enum Unfit {
     /// No tenant of the table has its name.
     UnknownTenant,
     /// Its line is no command, or names a tenant.
     NoCommand,
-    /// The command is refused there, or changes nothing.
-    Refused,
+    /// The command is refused there.
+    Refused(Refusal),
+    /// The command is a fetch or a list, and changes nothing.
+    Unchanged,
     /// There was no memory.
     NoMemory,
 }
 
+impl Unfit {
+    /// The name by which it is told: that of a refusal is its own.
+    pub fn name(self) -> &'static str
+        ensures { result.now ≡ unfit_name self }
+    {
+        match self {
+            Unfit::UnknownTenant => "UnknownTenant",
+            Unfit::NoCommand => "NoCommand",
+            Unfit::Refused(refusal) => refusal.name(),
+            Unfit::Unchanged => "Unchanged",
+            Unfit::NoMemory => "NoMemory",
+        }
+    }
+}
+
 /// A record that leads nowhere.
-#[derive(Clone, Copy, Debug, PartialEq, Eq)]
+#[derive(Clone, Copy, PartialEq, Eq)]
 pub struct UnfitRecord {
     /// How many records stand before it. The count stops at 2^64 - 1.
     pub at: u64,
@@ -64,13 +79,14 @@ fn tenant_in(table: &TenantTable, name: &[u8]) -> Option<TenantId>
 // Whether what was told tells that the core may have changed, and else why not.
 fn outcome_of(step: &Step) -> Result<(), Unfit>
     ensures ok { OnOk result (is_change (stepped_of step.now) ≡ true) }
-    ensures err { IfErr result (λ e. (e ≡ Unfit.NoMemory) ⊎ ((e ≡ Unfit.Refused) × (is_change (stepped_of step.now) ≡ false) × (stepped_of step.now ≢ Says no_memory))) }
+    ensures err { IfErr result (λ e. Told (stepped_of step.now) e) }
 {
     match step {
         Step::Done(Reply::Ok) => Ok(()),
         Step::Done(Reply::Base(_)) => Ok(()),
         Step::Done(Reply::Refused(Refusal::NoMemory)) => Err(Unfit::NoMemory),
-        _ => Err(Unfit::Refused),
+        Step::Done(Reply::Refused(refusal)) => Err(Unfit::Refused(*refusal)),
+        _ => Err(Unfit::Unchanged),
     }
 }
 
@@ -82,7 +98,7 @@ fn step_record(
     prepared: &Prepared,
 ) -> Result<(), Unfit>
     ensures ok { OnOk result (Changed core.old tenant prepared.now core.new) }
-    ensures err { IfErr result (λ e. (e ≡ Unfit.NoMemory) ⊎ ((e ≡ Unfit.Refused) × Unchanged core.old tenant prepared.now)) }
+    ensures err { IfErr result (λ e. Stands core.old tenant prepared.now e) }
 {
     let step = core.step(alloc, tenant, prepared);
     outcome_of(&step)
@@ -96,7 +112,7 @@ fn replay_command(
     command: Command,
 ) -> Result<(), Unfit>
     ensures ok { OnOk result (Changed core.old tenant command core.new) }
-    ensures err { IfErr result (λ e. (e ≡ Unfit.NoMemory) ⊎ ((e ≡ Unfit.Refused) × Unchanged core.old tenant command)) }
+    ensures err { IfErr result (λ e. Stands core.old tenant command e) }
 {
     match prepare(alloc, command) {
         Ok(prepared) => step_record(alloc, core, tenant, &prepared),

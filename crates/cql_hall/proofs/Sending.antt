@@ -153,7 +153,8 @@ placed p ss = each_number (λ k. IsSomeAnd (slice_get ss k) (λ s. s.place ≡ S
     let same : j ≡ k = omega (arith, e) in
     subst (λ m. IsSomeAnd (slice_get ss m) (λ u. u.place ≡ Some p)) same (subst (λ o. IsSomeAnd o (λ u. u.place ≡ Some p)) (sym at) (place_is p s.place is)))
 
-pub numbers_read : {V : Type 0} (f : V → List ℕ) (vs : List V) (count i : ℕ) (v : V) (ks : List ℕ) (ss : List Sent) → length vs ≡ count → i < count → v ≡ get_or vs i v → ks ≡ f v → AreNumbers count ss (map f vs) → ks ≡ numbers_at i 0 ss
+pub numbers_read : {V : Type 0} (f : V → List ℕ) (vs : List V) (count i : ℕ) (v : V) (ks : List ℕ) (ss : List Sent) → length vs ≡ count → i < count → v ≡ get_or vs i v → ks ≡ f v
+    → AreNumbers count ss (map f vs) → ks ≡ numbers_at i 0 ss
 numbers_read f vs count i v ks ss sized within is same are = same ∙ sym (get_or_from_slice_get (map f vs) i (f v) [] (get_map f vs i v (omega (arith, sized, within)) is)) ∙ are i within
 
 get_by : {V : Type 0} (f : V → List ℕ) (vs : List V) (p q : ℕ) (v w : V) (k : ℕ) → q < length vs → w ≡ get_or vs q w → f v ≡ f w ++ k ∷ [] → (q ≡ p) ⊎ (q ≡ p → ⊥)
@@ -249,7 +250,8 @@ told_within t journal reply o = some_weaker (λ p. HoldsAlone t journal p reply)
 pub so_far_none : (t : ℕ) (journal : Journal) (ss : List Sent) (first : Option ℕ) (count : ℕ) → count ≡ length journal.entries → MissesFirst count ss first → FailsSoFar t journal 0 ss first
 so_far_none t journal ss first count sized m = record {
   fails = if_weaker (λ k. IsSomeAnd (slice_get ss k) (λ s. ¬ IsWithin count s.place)) (λ k. IsSomeAnd (slice_get ss k) (λ s. ¬ IsTold t journal s)) first
-      (λ k. some_weaker (λ (s : Sent). ¬ IsWithin count s.place) (λ s. ¬ IsTold t journal s) (slice_get ss k) (λ s miss w. miss (subst (λ n. IsWithin n s.place) (sym sized) (told_within t journal s.reply s.place w)))) m.fails;
+      (λ k. some_weaker (λ (s : Sent). ¬ IsWithin count s.place) (λ s. ¬ IsTold t journal s) (slice_get ss k)
+      (λ s miss w. miss (subst (λ n. IsWithin n s.place) (sym sized) (told_within t journal s.reply s.place w)))) m.fails;
   holds = λ k s at before. some_weaker (λ p. p < count) (λ p. (p < length journal.entries) × (p < 0 → HoldsAlone t journal p s.reply)) s.place
       (λ p less. (omega (arith, less, sized), λ none. absurd (omega (arith, none)))) (m.holds k s at before);
 }

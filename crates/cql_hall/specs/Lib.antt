@@ -5,3 +5,5 @@ pub mod Laws
 pub mod Alone
 pub mod Tells
 pub mod Sent
+pub mod Change
+pub mod Filing

@@ -5,6 +5,8 @@
 mod audits;
 mod book;
 mod claims;
+mod feed;
+mod filed_book;
 mod gate;
 mod hall;
 mod journal;
@@ -16,6 +18,7 @@ mod sent;
 
 pub use audits::{AuditError, audit};
 pub use book::{Book, Entered};
+pub use feed::Filing;
 pub use gate::{EndReason, Gate, OpenGate, Point};
 pub use hall::{Ended, Hall, Pending, Receipt, Seat, SeatsMissing};
 pub use journal::{Bare, Entry, Journal, Kept};

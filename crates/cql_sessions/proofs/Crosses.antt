@@ -17,6 +17,7 @@ use Rattle.cql_sessions.specs.contracts.connection.Connection as connection
 use Rattle.cql_sessions.specs.contracts.in_hand.Taking as taking
 use Rattle.cql_sessions.specs.contracts.socket.Socket as socket
 use Rattle.cql_sessions.specs.contracts.parting.Parting as parting
+use Rattle.cql_sessions.specs.contracts.withheld.Withheld as withheld
 use Rattle.cql_sessions.specs.contracts.session_state.SessionState as state
 
 pub ending_send : IsSend (ending.the_field).row
@@ -42,7 +43,7 @@ caller_send = struct_send (shape caller.the_type) (
   search (sendable, seat.the_send) depth 20,
   (
     search (sendable, vec.the_send, heap.the_send, frees.the_frees, receipt_row_send) depth 20,
-    (search sendable, (search (sendable, taking_send) depth 20, tt)),
+    (search sendable, (search (sendable, taking_send) depth 20, (search sendable, tt))),
   ),
 )
 
@@ -55,12 +56,21 @@ state_send = search (sendable, caller_row_send, intake.the_send) depth 20
 pub state_row_send : IsSend state.the_row
 state_row_send = search (sendable, state_send) depth 20
 
+pub withheld_send : IsSend (withheld.the_field).row
+withheld_send = search sendable depth 20
+
 pub socket_send : IsSend (socket.the_field).row
 socket_send = struct_send (shape socket.the_type) (
   search (crosses, sendable) depth 30,
   (
     search (crosses, sendable) depth 30,
-    (search (crosses, sendable) depth 30, (search sendable, (search sendable, (search sendable, (search sendable, (search sendable, tt)))))),
+    (
+      search (crosses, sendable) depth 30,
+      (
+        search sendable,
+        (search sendable, (search sendable, (search sendable, (search sendable, (search sendable, (search (sendable, withheld_send) depth 20, tt)))))),
+      ),
+    ),
   ),
 )
 

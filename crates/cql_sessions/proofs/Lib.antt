@@ -1,4 +1,3 @@
-pub mod BenchesCrosses
 pub mod Crosses
 pub mod Seating
 pub mod Taking

@@ -1,5 +1,6 @@
 -- Lemmas on whose seat a session has, and of which lines its receipts are.
-use Rattle.std.proofs.Common.{◌≡◌, ℕ, arith, Bool, true, false, ◌||◌, not, ◌&&◌, is_none, is_some, List, [], ◌∷◌, ◌++◌, length, take, drop, take-append-drop, Option, Some, None, Result, Ok, Err, OnOk, is_ok, refl, ap, sym, ◌∙◌, subst, append_assoc, append-nil, ◌⊎◌, inl, inr}
+use Rattle.std.proofs.Common.{◌≡◌, ℕ, arith, Bool, true, false, ◌||◌, not, ◌&&◌, is_none, is_some, List, [], ◌∷◌, ◌++◌, length, take, drop, take-append-drop, Option, Some, None, Result, Ok, Err, OnOk}
+use Rattle.std.proofs.Common.{is_ok, refl, ap, sym, ◌∙◌, subst, append_assoc, append-nil, ◌⊎◌, inl, inr}
 use Rattle.std.proofs.lemmas.Bool.{eqb-true}
 use Rattle.std.proofs.lemmas.List.{take_all, take-append-le}
 use Rattle.std.specs.Arc.{arc_value}
@@ -88,7 +89,8 @@ asks_called lines line old new (inr one) asks =
     let (receipt, request, is) = one in subst (Asks (lines ++ line ∷ [])) (sym is) (asks_next lines line old receipt request asks)
 
 -- one line more was answered
-serves_more : (table : List Tenant) (lines : List LineText) (line : LineText) (old new : Option Account) → (old ≡ None → lines ≡ []) → Answers table line old new → Serves table lines old → Serves table (lines ++ line ∷ []) new
+serves_more : (table : List Tenant) (lines : List LineText) (line : LineText) (old new : Option Account) → (old ≡ None → lines ≡ []) → Answers table line old new → Serves table lines old
+    → Serves table (lines ++ line ∷ []) new
 serves_more table [] line None None first answers serves = answers
 serves_more table [] line None (Some new) first answers serves = answers
 serves_more table [] line (Some old) new first answers serves = none_is_some old serves
@@ -224,7 +226,8 @@ blank_seated table bytes account line ended over blank seated =
 
 -- ---- a session
 
-reached_by : (table : List Tenant) (bytes : List ℕ) (state : SessionState) (account : Option Account) (line : List ℕ) (waits ended over : Bool) → account_of state.caller ≡ account → state.intake ≡ line → state.is_held ≡ waits
+reached_by : (table : List Tenant) (bytes : List ℕ) (state : SessionState) (account : Option Account) (line : List ℕ) (waits ended over : Bool) → account_of state.caller ≡ account
+    → state.intake ≡ line → state.is_held ≡ waits
     → state.is_ended ≡ ended → state.is_over ≡ over → Seated table bytes account line waits ended over → HasReached table bytes state
 reached_by table bytes state account line waits ended over who is held end done seated =
     subst (λ t. Seated table bytes t state.intake state.is_held state.is_ended state.is_over) (sym who)
@@ -245,7 +248,8 @@ no_account (Some caller) e = none_is_some _ e
 module _ (table : List Tenant) (came : List ℕ) (old mid : SessionState) (counts : is_some (line_found old.intake) ≡ true) (same : (mid.intake ≡ old.intake) × (mid.is_held ≡ old.is_held) × (mid.is_ended ≡ old.is_ended))
     (going : old.is_over ≡ false) (faces : Faces table came old) where
   -- a line was answered, and the next one may come
-  pub answered_reached : (new : SessionState) → Answers table (shown_line old.intake) (account_of old.caller) (account_of mid.caller) → mid.is_over ≡ (is_none mid.caller || old.is_over) → HasGoneOn mid new → HasReached table came new
+  pub answered_reached : (new : SessionState) → Answers table (shown_line old.intake) (account_of old.caller) (account_of mid.caller) → mid.is_over ≡ (is_none mid.caller || old.is_over)
+      → HasGoneOn mid new → HasReached table came new
   answered_reached new answers over gone =
       reached_by table came new (account_of mid.caller) [] false old.is_ended (old.is_ended || mid.is_over) (ap account_of gone.caller) gone.line gone.held (gone.ended ∙ same.2)
       (gone.over ∙ ap (λ e. e || mid.is_over) same.2)
@@ -313,13 +317,15 @@ unended_served : (table : List Tenant) (bytes : List ℕ) (state : SessionState)
 unended_served table bytes state unended reached = record { lines = reached.lines; first = subst (λ e. AreFirst e bytes reached.lines) unended reached.first; serves = reached.serves }
 
 -- more bytes came, and nothing was done with them
-pub same_served_behind : (table : List Tenant) (came more : List ℕ) (old : SessionState) (ended : Bool) → old.is_held ≡ false → old.is_over ≡ false → HasReached table came old → Served table ended (came ++ more) (account_of old.caller)
+pub same_served_behind : (table : List Tenant) (came more : List ℕ) (old : SessionState) (ended : Bool) → old.is_held ≡ false → old.is_over ≡ false → HasReached table came old
+    → Served table ended (came ++ more) (account_of old.caller)
 same_served_behind table came more old ended idle going reached =
     served_at_end table ended (came ++ more) (account_of old.caller)
     (served_behind table came more (account_of old.caller) (unended_served table came old (state_unended table came old idle going reached) reached))
 
 -- a fault came while a line of the bytes was answered
-pub whole_stops : (table : List Tenant) (came bytes : List ℕ) (n : ℕ) (ended : Bool) (account : Option Account) → ended ≡ false → Served table ended (came ++ take n bytes) account → Served table false (came ++ bytes) account
+pub whole_stops : (table : List Tenant) (came bytes : List ℕ) (n : ℕ) (ended : Bool) (account : Option Account) → ended ≡ false → Served table ended (came ++ take n bytes) account
+    → Served table false (came ++ bytes) account
 whole_stops table came bytes n ended account unended served =
     let front = served_behind table (came ++ take n bytes) (drop n bytes) account (subst (λ e. Served table e (came ++ take n bytes) account) unended served) in
     subst (λ l. Served table false l account) (append_assoc came (take n bytes) (drop n bytes) ∙ ap (λ l. came ++ l) (take-append-drop n bytes)) front
@@ -329,7 +335,8 @@ pub nowhere : (table : List Tenant) (state : SessionState) (came : List ℕ) →
 nowhere table state came reached = subst (λ l. HasReached table l state) (sym (append-nil came)) reached
 
 -- nothing was done before a fault
-pub still_reads : (table : List Tenant) (state : SessionState) (input to_come : Option (List ℕ)) (well : Bool) → state.is_held ≡ false → Keeps input to_come → state.is_over ≡ false → Reads table state state input to_come well
+pub still_reads : (table : List Tenant) (state : SessionState) (input to_come : Option (List ℕ)) (well : Bool) → state.is_held ≡ false → Keeps input to_come → state.is_over ≡ false
+    → Reads table state state input to_come well
 still_reads table state input to_come well idle keeps going = record {
   bytes = [];
   consumed = Consumes-kept input input to_come [] (Consumes-nil input) keeps;
@@ -494,7 +501,8 @@ end_login table input None seat is served = subst (λ o. IfSome o (λ s. IfSome 
 end_login table input (Some caller) seat is served =
     subst (λ o. IfSome o (λ s. IfSome input (λ text. login_among table (lines_of text) ≡ Some s.tenant))) (sym is) (login_of_served table input (of_caller caller) served)
 
-pub end_asks : (table : List Tenant) (input : Option (List ℕ)) (caller : Option Caller) (seat : Option Seat) (receipts : Vec Receipt Global) → seat ≡ option_map (λ c. c.seat) caller → IfSome caller (λ c. receipts ≡ c.receipts)
+pub end_asks : (table : List Tenant) (input : Option (List ℕ)) (caller : Option Caller) (seat : Option Seat) (receipts : Vec Receipt Global) → seat ≡ option_map (λ c. c.seat) caller
+    → IfSome caller (λ c. receipts ≡ c.receipts)
     → ServedOf table input (account_of caller) → IfSome seat (λ s. IfSome input (λ text. Asks (behind_login (lines_of text)) receipts.items))
 end_asks table input None seat receipts is are served = subst (λ o. IfSome o (λ s. IfSome input (λ text. Asks (behind_login (lines_of text)) receipts.items))) (sym is) tt
 end_asks table input (Some caller) seat receipts is are served =

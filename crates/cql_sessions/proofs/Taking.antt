@@ -65,7 +65,8 @@ lists_of [] = refl
 lists_of (e ∷ es) = ap (λ l. e.receipts.items ∷ l) (lists_of es)
 
 -- where receipts agree with a journal of as many entries as the seats have counted, each entry is one receipt's call
-pub agreed_once : (table : List Tenant) (ends : List Ending) (lists : List (List Receipt)) (seats : List Seat) (many : ℕ) → lists ≡ map (λ e. e.receipts.items) ends → seats ≡ filter_map (λ e. e.seat) ends → Agreed table (in_order 0 lists) many → sum_by (λ s. s.count) seats ≡ many → AgreedOnce table (in_order 0 (map (λ e. e.receipts.items) ends))
+pub agreed_once : (table : List Tenant) (ends : List Ending) (lists : List (List Receipt)) (seats : List Seat) (many : ℕ) → lists ≡ map (λ e. e.receipts.items) ends
+    → seats ≡ filter_map (λ e. e.seat) ends → Agreed table (in_order 0 lists) many → sum_by (λ s. s.count) seats ≡ many → AgreedOnce table (in_order 0 (map (λ e. e.receipts.items) ends))
 agreed_once table ends lists seats many same from agreed counted =
     let hs = in_order 0 (map (λ e. e.receipts.items) ends) in
     let a = subst (λ l. Agreed table (in_order 0 l) many) same agreed in

@@ -1,8 +1,8 @@
 // What sessions need of a hall.
 ghost use Rattle.std.specs.Prelude.{◌≡◌, ◌+◌, is_some, if◌then◌else◌};
 
-use cql_core::{HeldStream, Prepared, TenantId};
-use cql_hall::{Gate, Hall, Journal, Pending, Seat};
+use cql_core::{Prepared, Standing, TenantId};
+use cql_hall::{Filing, Gate, Hall, Journal, Pending, Seat};
 use std::alloc::{AllocError, Global};
 use std::sync::{Arc, Wait};
 
@@ -14,14 +14,37 @@ pub trait Callable<H: Wait, G: Gate> {
         ensures whose { result.tenant ≡ tenant }
         ensures none { result.count ≡ 0 };
 
-    /// Makes one step of the seat's tenant. What has a place in a journal is counted by the seat.
-    fn call(&self, rt: &H, gate: &G, seat: &mut Seat, prepared: Arc<Prepared>) -> Pending
+    /// Whether calls that change something are queued with their lines for a journal's file.
+    fn is_filing(&self) -> bool;
+
+    /// How many of these are durable: replies that rest on others are to be held back.
+    fn durable(&self) -> u64;
+
+    /// So many of these are durable from now on.
+    fn make_durable(&self, count: u64);
+
+    /// Takes the calls that are queued for a journal's file, in order, once some are; or no more are taken.
+    fn take_queued(&self, rt: &H) -> Option<Vec<Filing>>;
+
+    /// Ends their taking, once none is queued.
+    fn end_taking(&self, rt: &H);
+
+    /// Makes one step of the seat's tenant, which sent the line. What has a place in a journal is counted by
+    /// the seat. Where calls aren't queued for a file the line may be empty.
+    fn call(
+        &self,
+        rt: &H,
+        gate: &G,
+        seat: &mut Seat,
+        prepared: Arc<Prepared>,
+        line: Vec<u8>,
+    ) -> Pending
         ensures tenant { (result.tenant ≡ seat.old.tenant) × (seat.new.tenant ≡ seat.old.tenant) }
         ensures prepared { result.prepared ≡ prepared }
         ensures counted { seat.new.count ≡ seat.old.count + (if is_some result.place then 1 else 0) };
 
-    /// The tenant's own streams of which rows are held now, in order of making.
-    fn held_streams(&self, rt: &H, tenant: TenantId) -> Result<Vec<HeldStream>, AllocError>;
+    /// How the tenant stands now.
+    fn standing(&self, rt: &H, tenant: TenantId) -> Result<Standing, AllocError>;
 
     /// Lets go of a few rows that nothing needs any more, as each call does, though nobody calls. Tells
     /// whether some are left.
@@ -33,12 +56,39 @@ impl<H: Wait, G: Gate, J: Journal> Callable<H, G> for Hall<J> {
         Hall::seat(self, tenant)
     }
 
-    fn call(&self, rt: &H, gate: &G, seat: &mut Seat, prepared: Arc<Prepared>) -> Pending {
-        Hall::call(self, rt, gate, seat, prepared)
+    fn is_filing(&self) -> bool {
+        Hall::is_filing(self)
     }
 
-    fn held_streams(&self, rt: &H, tenant: TenantId) -> Result<Vec<HeldStream>, AllocError> {
-        Hall::held_streams(self, rt, tenant)
+    fn durable(&self) -> u64 {
+        Hall::durable(self)
+    }
+
+    fn make_durable(&self, count: u64) {
+        Hall::make_durable(self, count);
+    }
+
+    fn take_queued(&self, rt: &H) -> Option<Vec<Filing>> {
+        Hall::take_queued(self, rt)
+    }
+
+    fn end_taking(&self, rt: &H) {
+        Hall::end_taking(self, rt);
+    }
+
+    fn call(
+        &self,
+        rt: &H,
+        gate: &G,
+        seat: &mut Seat,
+        prepared: Arc<Prepared>,
+        line: Vec<u8>,
+    ) -> Pending {
+        Hall::call(self, rt, gate, seat, prepared, line)
+    }
+
+    fn standing(&self, rt: &H, tenant: TenantId) -> Result<Standing, AllocError> {
+        Hall::standing(self, rt, tenant)
     }
 
     fn settle(&self, rt: &H) -> bool {

@@ -42,6 +42,8 @@ pub(crate) struct Caller {
     is_kept: bool,
     // the reply that is being told, which is the last receipt's where calls are kept
     taking: Taking,
+    // how many records of a journal's file what he was told rests on
+    due: u64,
     ghost tallies: { Tallies is_kept seat receipts.items },
 }
 
@@ -52,6 +54,7 @@ impl Drop for Caller {
             receipts: _,
             is_kept: _,
             taking: _,
+            due: _,
         } = self;
     }
 }
@@ -83,7 +86,15 @@ impl Caller {
             receipts: Vec::new(service.alloc),
             is_kept,
             taking: Taking::new(is_bitwise),
+            due: 0,
         }
+    }
+
+    /// How many records of a journal's file what he was told rests on.
+    pub(crate) fn due(&self) -> u64
+        ensures { result ≡ self.now.due }
+    {
+        self.due
     }
 
     /// Whether nothing is to come of the last reply.
@@ -120,6 +131,7 @@ impl Caller {
             receipts,
             is_kept: _,
             taking: _,
+            due: _,
         } = self;
         SessionEnd {
             seat: Some(seat),
@@ -152,12 +164,17 @@ impl Caller {
                 .at(Point::Refused(tenant, LineFault::NoMemory.number()));
             return buffer.put_fault(writer, &LineFault::NoMemory);
         }
-        let Request { prepared, kind } = request;
+        let Request {
+            prepared,
+            kind,
+            line,
+        } = request;
         let gate = service.gate;
         let begun = begin(gate, tenant, kind);
         let pending = service
             .hall
-            .call(service.rt, gate, &mut self.seat, prepared);
+            .call(service.rt, gate, &mut self.seat, prepared, line);
+        self.due = pending.due().max(self.due);
         let receipt = pending.finish(service.alloc, bench, gate);
         tell(gate, tenant, kind, begun, &receipt.reply);
         if !self.is_kept {
@@ -196,7 +213,7 @@ impl Caller {
         ensures waits { IfOk result (λ outcome. (may_fetch ≡ true → outcome ≢ LineOutcome.Held)
             × (outcome ≡ LineOutcome.Held → of_caller self.new ≡ of_caller self.old)) }
     {
-        let request = match prepared_of(service.alloc, line, scratch) {
+        let request = match prepared_of(service.alloc, line, scratch, service.hall.is_filing()) {
             Ok(request) => request,
             Err(fault) => {
                 service

@@ -1,10 +1,7 @@
 //! Sessions of callers: one over any reader and writer, and one between two pieces of its input, at a
-//! connection that never waits for long; and the benches that compute their answers, which threads
-//! borrow.
+//! connection that never waits for long.
 #![tactic(auto)]
 
-mod answers;
-mod benches;
 mod callable;
 mod caller;
 mod connection;
@@ -16,17 +13,14 @@ mod request;
 mod session_buffers;
 mod session_state;
 mod sessions;
-mod shared_pool;
 mod socket;
 mod turn_length;
+mod withheld;
 
-pub use answers::Answers;
-pub use benches::benches_of;
 pub use callable::Callable;
 pub use caller::Service;
 pub use connection::{Connected, Connection, Permit, WaitsFor};
 pub use ending::Ending;
 pub use session_buffers::SessionBuffers;
 pub use sessions::{SessionEnd, session};
-pub use shared_pool::{Borrowing, Rooms, SharedPool, borrowing};
 pub use socket::Socket;

@@ -8,7 +8,7 @@ ghost use Rattle.cql_lines.specs.Next.{text_of};
 use cql_core::{Command, Prepared, prepare};
 use cql_hall::Kind;
 use cql_wire::{Line, LineFault, Scratch, read_command};
-use std::alloc::Global;
+use std::alloc::{AllocError, Global};
 use std::sync::Arc;
 
 // The command of a line. In this order: `BadLine` (10) where the line is too long, the fault of
@@ -32,13 +32,31 @@ fn command_of(alloc: Global, line: Line<'_>, scratch: &mut Scratch) -> Result<Co
 pub(crate) struct Request {
     pub prepared: Arc<Prepared>,
     pub kind: Kind,
+    /// The line, where its call may be queued for a journal's file; else nothing.
+    pub line: Vec<u8>,
 }
 
-// The same, prepared for a call.
+// The line of a command of a kind, where calls are queued and it may change something; else nothing.
+fn line_of(
+    alloc: Global,
+    line: Line<'_>,
+    kind: Kind,
+    is_filing: bool,
+) -> Result<Vec<u8>, AllocError> {
+    match line {
+        Line::Whole(bytes) if is_filing && kind != Kind::Fetch && kind != Kind::List => {
+            Vec::from_slice(alloc, bytes)
+        }
+        _ => Ok(Vec::new(alloc)),
+    }
+}
+
+// The same, prepared for a call, which may be queued for a journal's file.
 pub(crate) fn prepared_of(
     alloc: Global,
     line: Line<'_>,
     scratch: &mut Scratch,
+    is_filing: bool,
 ) -> Result<Request, LineFault>
     ensures ok { IfOk result (λ request. request_of (text_of line.entry) ≡ Ok (arc_value request.prepared)) }
     ensures err { IfErr result (λ fault. Means (request_of (text_of line.entry)) (Err fault)) }
@@ -46,5 +64,10 @@ pub(crate) fn prepared_of(
     let command = command_of(alloc, line, scratch)?;
     let kind = Kind::of(&command);
     let prepared = prepare(alloc, command)?;
-    Ok(Request { prepared, kind })
+    let line = line_of(alloc, line, kind, is_filing)?;
+    Ok(Request {
+        prepared,
+        kind,
+        line,
+    })
 }

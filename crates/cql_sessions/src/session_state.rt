@@ -123,6 +123,14 @@ impl SessionState {
         }
     }
 
+    /// How many records of a journal's file what its caller was told rests on.
+    pub(crate) fn due(&self) -> u64 {
+        match &self.caller {
+            Some(caller) => caller.due(),
+            None => 0,
+        }
+    }
+
     /// Whose calls it makes, once its caller has logged in.
     pub(crate) fn tenant(&self) -> Option<TenantId>
         ensures { result ≡ option_map (λ caller. caller.seat.tenant) self.now.caller }

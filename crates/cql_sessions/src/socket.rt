@@ -1,9 +1,10 @@
 // A connection that never waits for long.
-ghost use Rattle.std.specs.Prelude.{◌≡◌, true, false};
+ghost use Rattle.std.specs.Prelude.{◌≡◌, ◌<◌, true, false};
 ghost use Rattle.cql_sessions.specs.Unread.{unread_after};
 
 use crate::connection::{Permit, WaitsFor};
 use crate::session_state::Stage;
+use crate::withheld::Withheld;
 use cql_wire::{LineFault, ScriptError, Watched, write_fault};
 use std::alloc::Global;
 use std::io;
@@ -48,10 +49,14 @@ pub struct Socket {
     pub(crate) is_stuck: bool,
     // whether the answer to its caller's last fetch was short
     pub(crate) is_brief: bool,
+    // how many nanoseconds the answer of its last turn took; 0 where that had none
+    pub(crate) took: u64,
     // whether a read waits for a moment
     pub(crate) is_waiting: bool,
     // after so many turns it is waited for again
     patience: u8,
+    // whether what is to be written waits until what it rests on is durable
+    pub(crate) withheld: Withheld,
 }
 
 impl Drop for Socket {
@@ -63,8 +68,10 @@ impl Drop for Socket {
             sent: _,
             is_stuck: _,
             is_brief: _,
+            took: _,
             is_waiting: _,
             patience: _,
+            withheld: _,
         } = self;
     }
 }
@@ -98,8 +105,10 @@ impl Socket {
             sent: 0,
             is_stuck: false,
             is_brief: false,
+            took: 0,
             is_waiting: false,
             patience: PATIENCE,
+            withheld: Withheld::new(),
         })
     }
 
@@ -111,6 +120,13 @@ impl Socket {
     /// How many bytes are held back or not used yet.
     pub fn held(&self) -> usize {
         self.unsent.len().saturating_add(self.unread.len())
+    }
+
+    /// How many nanoseconds the answer of its last turn took; 0 where that had none.
+    pub fn took(&self) -> u64
+        ensures { result ≡ self.now.took }
+    {
+        self.took
     }
 
     /// Whether its caller mostly sends again at once.
@@ -133,7 +149,7 @@ impl Socket {
     ) -> Result<Option<WaitsFor>, ScriptError> {
         let goes_on = self.gathers(stage) && (permit.fetch || !stage.is_held);
         if !goes_on && !self.send(alloc)? {
-            return Ok(Some(WaitsFor::Room));
+            return Ok(Some(self.hindrance()));
         }
         if stage.is_telling {
             return Ok(None);
@@ -150,10 +166,29 @@ impl Socket {
         Ok(None)
     }
 
+    // Whether replies wait for what they rest on, and nothing can be done meanwhile: nothing has come, or
+    // replies are many.
+    fn is_withheld(&self, stage: Stage, is_spent: bool) -> bool {
+        self.withheld.holds() && !self.unsent.is_empty() && (is_spent || !self.gathers(stage))
+    }
+
+    /// What is waited for before more can be written.
+    pub(crate) fn hindrance(&self) -> WaitsFor
+        ensures { self.now.withheld.durable < self.now.withheld.due → result ≡ WaitsFor.Durable }
+    {
+        if self.withheld.holds() {
+            WaitsFor::Durable
+        } else {
+            WaitsFor::Room
+        }
+    }
+
     /// What its session needs once it has had its turn, in which nothing had come or something had.
     pub(crate) fn needs(&self, stage: Stage, is_spent: bool) -> WaitsFor {
         if self.is_stuck {
-            WaitsFor::Room
+            self.hindrance()
+        } else if self.is_withheld(stage, is_spent) {
+            WaitsFor::Durable
         } else if stage.is_telling {
             WaitsFor::Worker
         } else if stage.is_over {
@@ -198,7 +233,7 @@ impl Socket {
     }
 
     /// Whether replies are gathered: where more of its lines stand ready, or a fetch whose answer is mostly
-    /// short, until they are many.
+    /// short, or they wait for what they rest on, until they are many.
     pub(crate) fn gathers(&self, stage: Stage) -> bool
         ensures stuck { self.now.is_stuck ≡ true → result ≡ false }
         ensures over { stage.is_over ≡ true → result ≡ false }
@@ -206,15 +241,23 @@ impl Socket {
         let has_more = if stage.is_held {
             self.is_brief
         } else {
-            !self.unread.is_empty()
+            !self.unread.is_empty() || self.withheld.holds()
         };
-        has_more && !stage.is_over && !self.is_stuck && self.unsent.len() < GATHERED
+        has_more
+            && !stage.is_over
+            && !self.is_stuck
+            && self.unsent.len() < GATHERED
+            && !self.withheld.is_far()
     }
 
-    /// Writes once of what is held back or was gathered, without waiting for long. Tells whether all is written.
+    /// Writes once of what is held back or was gathered, without waiting for long, unless it rests on what
+    /// isn't durable yet. Tells whether all is written.
     pub(crate) fn send(&mut self, alloc: Global) -> Result<bool, ScriptError> {
         if self.unsent.is_empty() {
             return Ok(true);
+        }
+        if self.withheld.holds() {
+            return Ok(false);
         }
         if self.is_stuck || self.unsent.len() > SMALL {
             self.wait(false)?;

@@ -3,14 +3,17 @@ use denote.RattleType.{RattleType}
 use denote.Struct.Declared.{shape}
 use denote.Param.Send.{IsSend, IsSync, struct_send, struct_sync, sendable}
 use denote.Ref.{NamedLft}
+use Rattle.std.proofs.vec.Vec.TheSendSync as vec
+use Rattle.std.proofs.collections.VecDeque.TheSendSync as deque
 use Rattle.std.proofs.sync.Mutex.TheSendSync as mutex
 use Rattle.std.proofs.alloc.Global.TheSendSync as heap
 use Rattle.std.proofs.Crossing.{crosses, Box-send, Vec-send, Deque-send}
 use Rattle.slab.proofs.Slab.TheSendSync as slab
 use Rattle.std.below.std_heap.proofs.GlobalAllocator.TheSendSync as frees
-use Rattle.cql_sessions.proofs.BenchesCrosses.{answers_row_sync}
+use Rattle.cql_benches.proofs.BenchesCrosses.{answers_row_sync}
 use Rattle.cql_connections.specs.contracts.connection_table.ConnectionTable as connections
 use Rattle.cql_connections.specs.contracts.connection_table.Slot as slot
+use Rattle.cql_connections.specs.contracts.connection_table.Awaiting as awaiting
 use Rattle.cql_connections.specs.contracts.connection_table.Turn as turn
 use Rattle.cql_connections.specs.contracts.scheduler.Scheduler as scheduler
 use Rattle.cql_connections.specs.contracts.poller.Poller as poller
@@ -20,6 +23,9 @@ use Rattle.cql_connections.specs.contracts.run_queue.RunQueue as run_queue
 
 pub places_send : IsSend (places.the_field).row
 places_send = search (crosses, sendable) depth 30
+
+pub awaiting_row_send : IsSend awaiting.the_row
+awaiting_row_send = search (crosses, sendable) depth 30
 
 module _ (T : RattleType) where
   pub turn_send : IsSend T → IsSend (turn.the_field T).row
@@ -52,15 +58,27 @@ module _ (T : RattleType) where
   pub slot_row_send : IsSend T → IsSend (slot.the_row T)
   slot_row_send s = let p = slot_send s in search (sendable, p) depth 20
 
-  pub queues_send : IsSend T → IsSend (queues.the_field T).row
-  queues_send s = struct_send (shape (queues.the_type T)) (Vec-send _ (Deque-send T s), (search (crosses, sendable) depth 30, (search sendable, tt)))
+  pub queues_send : IsSend T → IsSend (queues.the_row T)
+  queues_send s = search (crosses, sendable, vec.the_send, deque.the_send, heap.the_send, frees.the_frees) depth 30
 
   pub run_queue_send : IsSend T → IsSend (run_queue.the_field T).row
   run_queue_send s = struct_send (shape (run_queue.the_type T)) (
-    queues_send s,
+    let q = queues_send s in search (sendable, q) depth 20,
     (
-      queues_send s,
-      (search sendable, (search sendable, (search (crosses, sendable) depth 30, (search (crosses, sendable) depth 30, (search sendable, tt))))),
+      let q = queues_send s in search (sendable, q) depth 20,
+      (
+        search sendable,
+        (
+          search sendable,
+          (
+            search sendable,
+            (
+              search (crosses, sendable) depth 30,
+              (search (crosses, sendable) depth 30, (search (crosses, sendable) depth 30, (search sendable, tt))),
+            ),
+          ),
+        ),
+      ),
     ),
   )
 
@@ -80,7 +98,16 @@ module _ (T D : RattleType) where
               search sendable,
               (
                 search (crosses, sendable) depth 30,
-                (search sendable, (let v = Vec-send D e in search (sendable, v) depth 20, (search sendable, (search sendable, (search sendable, (search sendable, tt)))))),
+                (
+                  search sendable,
+                  (
+                    Deque-send awaiting.the_row awaiting_row_send,
+                    (
+                      search sendable,
+                      (let v = Vec-send D e in search (sendable, v) depth 20, (search sendable, (search sendable, (search sendable, (search sendable, tt))))),
+                    ),
+                  ),
+                ),
               ),
             ),
           ),
@@ -108,7 +135,7 @@ module _ (a : NamedLft) (T D : RattleType) where
               search (crosses, sendable) depth 30,
               (
                 let l : Unit {0} → IsSend poller.the_row = λ u. search (crosses, sendable) depth 40 in search (sendable, mutex.the_sync, l) depth 20,
-                (search (crosses, sendable) depth 30, (search (crosses, sendable) depth 30, (search (crosses, sendable) depth 30, tt))),
+                (search (crosses, sendable) depth 30, (search (crosses, sendable) depth 30, (search (crosses, sendable) depth 30, (search (crosses, sendable) depth 30, tt)))),
               ),
             ),
           ),

@@ -1,1 +1,4 @@
+pub mod Alone
+pub mod Begins
 pub mod Crosses
+pub mod Turns

@@ -11,6 +11,7 @@ use cql_wire::ScriptError;
 use mio::Token;
 use slab::Slab;
 use std::alloc::{AllocError, Global};
+use std::collections::VecDeque;
 use std::time::{Duration, Instant};
 
 // How many bytes replies may weigh that one tenant's callers are told and haven't taken: while there are
@@ -139,9 +140,9 @@ impl<T: Drop> Drop for Slot<T> {
 pub(crate) enum Gone<T> {
     /// Nobody is connected who is told of by that token.
     Nobody,
-    /// It waited for its caller.
+    /// It waited, for its caller or for a worker.
     Waited(Turn<T>),
-    /// It is at a worker or waits for one.
+    /// It is at a worker.
     Served(usize),
 }
 
@@ -158,6 +159,13 @@ pub(crate) enum Next<T> {
     Wait,
 }
 
+// A connection that waits until so many records of a journal's file are durable.
+#[derive(Clone, Copy)]
+struct Awaiting {
+    token: Token,
+    due: u64,
+}
+
 /// The callers who are connected, and what is left of those who were.
 pub struct ConnectionTable<T, D> {
     limits: Limits,
@@ -172,6 +180,9 @@ pub struct ConnectionTable<T, D> {
     held: Vec<usize>,
     // where the look round goes on
     looked: usize,
+    // who waits until so many records of a journal's file are durable, and how many that are
+    awaiting: VecDeque<Awaiting>,
+    durable: u64,
     ends: Vec<D>,
     is_whole: bool,
     // whether an answer waits that may be begun since less is held now
@@ -193,6 +204,8 @@ impl<T: Drop, D: Drop> Drop for ConnectionTable<T, D> {
             taken: _,
             held: _,
             looked: _,
+            awaiting: _,
+            durable: _,
             ends: _,
             is_whole: _,
             is_freed: _,
@@ -203,15 +216,16 @@ impl<T: Drop, D: Drop> Drop for ConnectionTable<T, D> {
 }
 
 impl<T: Connected<End = D>, D: Drop> ConnectionTable<T, D> {
-    /// Nobody is connected. Owners are numbers below the given one. There is room for so many ends.
+    /// Nobody is connected. Owners are numbers below the given one. So many threads compute answers. There
+    /// is room for so many ends.
     pub fn new(
         alloc: Global,
         limits: Limits,
         owners: usize,
-        workers: usize,
+        threads: usize,
         room: usize,
     ) -> Result<ConnectionTable<T, D>, AllocError> {
-        let run_queue = RunQueue::new(alloc, owners, workers)?;
+        let run_queue = RunQueue::new(alloc, owners, threads)?;
         let held = vec![in alloc; 0; owners]?;
         let ends = Vec::with_capacity(alloc, room)?;
         let tenants = owners.saturating_sub(1);
@@ -225,6 +239,8 @@ impl<T: Connected<End = D>, D: Drop> ConnectionTable<T, D> {
             taken: 0,
             held,
             looked: 0,
+            awaiting: VecDeque::new(alloc),
+            durable: 0,
             ends,
             is_whole: true,
             is_freed: false,
@@ -248,7 +264,7 @@ impl<T: Connected<End = D>, D: Drop> ConnectionTable<T, D> {
         self.places.is_crowded()
     }
 
-    /// How much waits that a worker could do now. To look who has sent is such.
+    /// How much waits that a thread could do now. To look who has sent is such.
     pub(crate) fn waiting(&self) -> usize {
         let look = usize::from(!self.is_looked);
         self.run_queue.waiting().saturating_add(look)
@@ -296,6 +312,8 @@ impl<T: Connected<End = D>, D: Drop> ConnectionTable<T, D> {
             taken: _,
             held: _,
             looked: _,
+            awaiting: _,
+            durable: _,
             ends,
             is_whole,
             is_freed: _,
@@ -440,8 +458,8 @@ impl<T: Connected<End = D>, D: Drop> ConnectionTable<T, D> {
         }
     }
 
-    /// The caller of a token has gone. The connection comes back if it waits for him; else the key,
-    /// of a connection at a worker or who waits for one.
+    /// The caller of a token has gone. The connection comes back if it waits, for him or for a worker;
+    /// else the key, of a connection at a worker.
     pub(crate) fn go(&mut self, token: Token) -> Gone<T> {
         let Some(key) = self.key_now(token) else {
             return Gone::Nobody;
@@ -449,18 +467,15 @@ impl<T: Connected<End = D>, D: Drop> ConnectionTable<T, D> {
         if let Some(turn) = self.leave_slot(key) {
             return Gone::Waited(turn);
         }
-        if let Some(slot) = self.slots.get_mut(key) {
-            slot.is_gone = true;
+        let Some(slot) = self.slots.get_mut(key) else {
+            return Gone::Nobody;
+        };
+        slot.is_gone = true;
+        let is_it = |turn: &Turn<T>| turn.key == key;
+        match self.run_queue.remove(slot.place, is_it) {
+            Some(turn) => Gone::Waited(turn),
+            None => Gone::Served(key),
         }
-        Gone::Served(key)
-    }
-
-    /// Takes out the connections that wait for a worker and whose callers have gone, as far as there
-    /// is memory for them.
-    pub(crate) fn take_gone(&mut self, gone: &mut Vec<Turn<T>>) {
-        let slots = &self.slots;
-        let is_gone = |turn: &Turn<T>| slots.get(turn.key).is_some_and(|slot| slot.is_gone);
-        self.run_queue.take_out(is_gone, gone);
     }
 
     // Whether the caller of a key has gone.
@@ -480,7 +495,7 @@ impl<T: Connected<End = D>, D: Drop> ConnectionTable<T, D> {
             return Err(turn);
         }
         self.count(turn.key, turn.connection.held());
-        self.run_queue.push_short(turn.owner(), turn)
+        self.run_queue.push_short(turn.place, turn)
     }
 
     /// A connection waits for a worker who may compute an answer. Without memory it comes back, and
@@ -492,12 +507,12 @@ impl<T: Connected<End = D>, D: Drop> ConnectionTable<T, D> {
             return Err(turn);
         }
         self.count(turn.key, turn.connection.held());
-        self.run_queue.push_answer(turn.owner(), turn)
+        self.run_queue.push_answer(turn.place, turn)
     }
 
-    /// Whether an answer has to wait for others.
-    pub(crate) fn has_answers(&self) -> bool {
-        self.run_queue.has_answers()
+    /// Whether an answer for a connection has to wait for others.
+    pub(crate) fn has_to_wait(&self, turn: &Turn<T>) -> bool {
+        self.run_queue.has_to_wait(turn.place)
     }
 
     /// Begins an answer for a connection, if it needn't wait and its caller hasn't gone. It has to
@@ -508,9 +523,9 @@ impl<T: Connected<End = D>, D: Drop> ConnectionTable<T, D> {
         !self.is_gone(turn.key) && self.run_queue.begin_answer(turn.owner())
     }
 
-    /// An answer for the owner has ended.
-    pub(crate) fn end_answer(&mut self, owner: usize) {
-        self.run_queue.end_answer(owner);
+    /// An answer for the owner has ended, and took so many nanoseconds.
+    pub(crate) fn end_answer(&mut self, owner: usize, nanos: u64) {
+        self.run_queue.end_answer(owner, nanos);
     }
 
     /// A connection that waits for its caller from now on; who waits for a worker where something has
@@ -545,6 +560,39 @@ impl<T: Connected<End = D>, D: Drop> ConnectionTable<T, D> {
         slot.is_listed = turn.is_listed;
         slot.connection = Some(turn.connection);
         Ok(())
+    }
+
+    /// A connection that waits until what its replies rest on is durable; for a worker, where that is so by
+    /// now or there is no memory. It comes back where its caller has gone.
+    pub(crate) fn keep_until_durable(
+        &mut self,
+        turn: Turn<T>,
+        now: Option<Instant>,
+    ) -> Result<(), Turn<T>> {
+        let awaiting = Awaiting {
+            token: turn.token,
+            due: turn.connection.due(),
+        };
+        if awaiting.due <= self.durable || self.awaiting.push_back(awaiting).is_err() {
+            return self.push(turn);
+        }
+        self.keep(turn, now)
+    }
+
+    /// So many records of a journal's file are durable from now on.
+    pub(crate) fn set_durable(&mut self, durable: u64) {
+        self.durable = durable;
+    }
+
+    /// Takes one off those who wait for records, where what it waits for is durable.
+    pub(crate) fn take_durable(&mut self) -> Option<Token> {
+        let first = self.awaiting.front()?;
+        if first.due > self.durable {
+            return None;
+        }
+        let token = first.token;
+        let _ = self.awaiting.pop_front();
+        Some(token)
     }
 
     /// As long as too much is held for the owner's callers beside the connection of this turn, takes
@@ -603,8 +651,10 @@ impl<T: Connected<End = D>, D: Drop> ConnectionTable<T, D> {
     }
 
     /// Connections whose time has passed by now, of some callers in a row. It goes on with those the
-    /// next time. Where others wait for their places, those who haven't logged in have little time.
+    /// next time. Where others wait for their places, those who haven't logged in have little time. Some of
+    /// what answers took no longer counts: it is called ten times a second.
     pub(crate) fn take_late(&mut self, now: Instant, is_crowded: bool, late: &mut Vec<Turn<T>>) {
+        self.run_queue.forgive();
         let first = self.looked;
         let end = self.slots.capacity();
         let last = end.min(first.saturating_add(AT_ONCE));

@@ -5,15 +5,16 @@ use crate::connection_table::{ConnectionTable, Gone, Next, Turn};
 use crate::driver::Driver;
 use crate::poller::Poller;
 use crate::run_queue::Task;
+use cql_benches::Answers;
 use cql_hall::{EndReason, Gate, Point};
-use cql_sessions::{Answers, Connected, Permit, WaitsFor};
+use cql_sessions::{Connected, Permit, WaitsFor};
 use cql_wire::ScriptError;
 use mio::unix::SourceFd;
 use mio::{Interest, Registry, Token, Waker};
 use std::alloc::{AllocError, Global};
 use std::io;
 use std::net::TcpStream;
-use std::sync::atomic::{AtomicUsize, Ordering};
+use std::sync::atomic::{AtomicBool, AtomicUsize, Ordering};
 use std::sync::{Condvar, Mutex, MutexGuard, Wait};
 use std::time::{Clock, Instant};
 
@@ -36,6 +37,8 @@ pub struct Scheduler<'a, T, D> {
     poll_waker: Waker,
     // wakes the accepting thread
     waker: Waker,
+    // whether the accepting thread is to end
+    is_given_up: AtomicBool,
 }
 
 impl<T: Drop, D: Drop> Drop for Scheduler<'_, T, D> {
@@ -51,6 +54,7 @@ impl<T: Drop, D: Drop> Drop for Scheduler<'_, T, D> {
             registry: _,
             poll_waker: _,
             waker: _,
+            is_given_up: _,
         } = self;
     }
 }
@@ -81,6 +85,7 @@ impl<'a, T: Connected<End = D>, D: Drop> Scheduler<'a, T, D> {
             registry,
             poll_waker,
             waker,
+            is_given_up: AtomicBool::new(false),
         }
     }
 
@@ -97,6 +102,7 @@ impl<'a, T: Connected<End = D>, D: Drop> Scheduler<'a, T, D> {
             registry: _,
             poll_waker: _,
             waker: _,
+            is_given_up: _,
         } = self;
         connections.into_inner().into_ends()
     }
@@ -126,6 +132,42 @@ impl<'a, T: Connected<End = D>, D: Drop> Scheduler<'a, T, D> {
         self.connections.lock(rt).is_closed = true;
         self.called.notify_all();
         let _ = self.poll_waker.wake();
+    }
+
+    /// The accepting thread is to end, and no further session is served.
+    pub fn give_up(&self) {
+        self.is_given_up.store(true, Ordering::SeqCst);
+        let _ = self.waker.wake();
+    }
+
+    /// Whether the accepting thread is to end.
+    pub fn is_given_up(&self) -> bool {
+        self.is_given_up.load(Ordering::SeqCst)
+    }
+
+    /// So many records of a journal's file are durable from now on: whose replies rest on these waits for a
+    /// worker.
+    pub fn make_durable<R: Wait, G: Gate>(&self, rt: &R, gate: &G, durable: u64) {
+        let mut connections = self.connections.lock(rt);
+        connections.set_durable(durable);
+        for _ in rt.forever() {
+            let Some(token) = connections.take_durable() else {
+                break;
+            };
+            if let Err(turn) = connections.call(token) {
+                drop(connections);
+                self.end_gone(rt, gate, turn);
+                connections = self.connections.lock(rt);
+            }
+        }
+        self.waiting.store(connections.waiting(), Ordering::SeqCst);
+        let is_looked = connections.is_looked;
+        drop(connections);
+        self.called.notify_one();
+        if is_looked {
+            // who looks may be the only one who is free
+            let _ = self.poll_waker.wake();
+        }
     }
 
     /// Lets a caller in, and waits for its first bytes.
@@ -201,7 +243,6 @@ impl<'a, T: Connected<End = D>, D: Drop> Scheduler<'a, T, D> {
     ) -> MutexGuard<'_, ConnectionTable<T, D>> {
         let mut poller = self.poller.lock(rt);
         poller.look(rt, may_wait);
-        let mut left = Vec::new(self.alloc);
         let mut connections = self.connections.lock(rt);
         for event in &poller.events {
             let token = event.token();
@@ -216,16 +257,8 @@ impl<'a, T: Connected<End = D>, D: Drop> Scheduler<'a, T, D> {
                 connections = self.connections.lock(rt);
             }
         }
-        connections.take_gone(&mut left);
         connections.is_looked = false;
-        if left.is_empty() {
-            return connections;
-        }
-        drop(connections);
-        for turn in left {
-            self.end_gone(rt, gate, turn);
-        }
-        self.connections.lock(rt)
+        connections
     }
 
     // Ends the session of a caller who has gone, or for whom there is no memory.
@@ -235,8 +268,8 @@ impl<'a, T: Connected<End = D>, D: Drop> Scheduler<'a, T, D> {
         self.end(rt, gate, turn, fault, reason);
     }
 
-    // The caller of a token has gone. A connection that waits for him comes back; an answer that is
-    // computed for him is given up.
+    // The caller of a token has gone. A connection that waits comes back; an answer that is computed for
+    // him is given up.
     fn let_go<R: Wait>(
         &self,
         rt: &R,
@@ -271,7 +304,7 @@ impl<'a, T: Connected<End = D>, D: Drop> Scheduler<'a, T, D> {
         ensures short { IfSome result (λ permit. permit.fetch ≡ false → (needs ≡ WaitsFor.Worker) ⊎ (needs ≡ WaitsFor.Bytes)) }
     {
         if last.fetch {
-            self.end_answer(rt, turn.owner(), thread);
+            self.end_answer(rt, turn, thread);
         }
         if turn.wants_place() && !matches!(needs, WaitsFor::End(_)) {
             self.connections.lock(rt).seat(turn);
@@ -316,11 +349,12 @@ impl<'a, T: Connected<End = D>, D: Drop> Scheduler<'a, T, D> {
         has_begun
     }
 
-    // An answer for the owner by the thread of this index has ended.
-    fn end_answer<R: Wait>(&self, rt: &R, owner: usize, thread: usize) {
+    // An answer for the connection by the thread of this index has ended.
+    fn end_answer<R: Wait>(&self, rt: &R, turn: &Turn<T>, thread: usize) {
         self.answers.leave(rt, thread);
+        let took = turn.connection.socket().took();
         let mut connections = self.connections.lock(rt);
-        connections.end_answer(owner);
+        connections.end_answer(turn.owner(), took);
         self.waiting.store(connections.waiting(), Ordering::SeqCst);
     }
 
@@ -378,7 +412,9 @@ impl<'a, T: Connected<End = D>, D: Drop> Scheduler<'a, T, D> {
                 self.push(rt, turn)
             }
             WaitsFor::Answer => self.push_answer(rt, turn),
-            WaitsFor::Bytes | WaitsFor::Room => self.keep(rt, gate, turn, needs),
+            WaitsFor::Bytes | WaitsFor::Room | WaitsFor::Durable => {
+                self.keep(rt, gate, turn, needs)
+            }
         };
         if let Err(turn) = refused {
             self.end_gone(rt, gate, turn);
@@ -405,7 +441,7 @@ impl<'a, T: Connected<End = D>, D: Drop> Scheduler<'a, T, D> {
     fn push_answer<R: Wait>(&self, rt: &R, turn: Turn<T>) -> Result<(), Turn<T>> {
         let mut turn = turn;
         let mut connections = self.connections.lock(rt);
-        if connections.has_answers() {
+        if connections.has_to_wait(&turn) {
             drop(connections);
             turn.connection.settle(self.alloc, false);
             connections = self.connections.lock(rt);
@@ -440,7 +476,11 @@ impl<'a, T: Connected<End = D>, D: Drop> Scheduler<'a, T, D> {
             self.end_deaf(rt, gate, &turn);
         }
         let mut connections = self.connections.lock(rt);
-        let kept = connections.keep(turn, now);
+        let kept = if needs == WaitsFor::Durable {
+            connections.keep_until_durable(turn, now)
+        } else {
+            connections.keep(turn, now)
+        };
         self.call_freed(&mut connections);
         kept
     }
@@ -488,7 +528,7 @@ impl<'a, T: Connected<End = D>, D: Drop> Scheduler<'a, T, D> {
         let _ = self.waker.wake();
     }
 
-    /// Ends the sessions of some of those whose time has passed. Where others wait for their places,
+    /// Ends the sessions of some of those whose time has passed: it is called ten times a second. Where others wait for their places,
     /// those who haven't logged in have little time. Where answers of a tenant wait since too much is held
     /// for its callers, the session ends of the one who has taken nothing for the longest.
     pub fn look_round<R: Wait + Clock, G: Gate>(&self, rt: &R, gate: &G, is_crowded: bool) {

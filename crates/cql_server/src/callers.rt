@@ -1,24 +1,29 @@
 // Sessions of a listener's callers.
-ghost use Rattle.std.specs.Prelude.{◌≡◌, All, IfErr, true, false, Err};
+ghost use Rattle.std.specs.Prelude.{◌≡◌, ◌⊎◌, All, IfErr, true, false, Err};
 ghost use Rattle.cql_ops.specs.Bench.{IsBench};
 ghost use Rattle.cql_server.specs.declared.failure.Failure.TheVariants as failure;
+ghost use Rattle.cql_server.specs.declared.journal_file.JournalFault.TheVariants as fault;
 
 use crate::auditing::{Audited, audit_sessions};
 use crate::failure::Failure;
+use crate::journal_file::{JournalFault, Opened};
+use crate::journal_writer::{JournalWriter, start_journal_writer};
 use crate::listener::Listener;
 use crate::sweeper::start_sweeper;
 use crate::workers::start_all;
+use cql_benches::{Answers, Rooms, SharedPool};
 use cql_connections::{ConnectionTable, Limits, Scheduler};
 use cql_core::{BenchOf, Operator, TenantTable};
 use cql_hall::{Bare, Gate, Hall, Kept};
-use cql_sessions::{Answers, Callable, Connection, Ending, Rooms, Service, SharedPool};
+use cql_sessions::{Callable, Connection, Ending, Service};
 use crossbeam_channel::Receiver;
 use std::alloc::Global;
 use std::io::Write;
 use std::sync::Wait;
+use std::sync::atomic::{AtomicBool, Ordering};
 use std::thread;
 use std::thread::Threads;
-use std::time::Clock;
+use std::time::{Clock, Duration};
 
 /// The benches of a server: one for each thread, and those that all threads borrow, of which each
 /// goes on with the query that it answered last; and how much they may keep, and an answer may weigh.
@@ -35,7 +40,7 @@ pub struct Benches<O: Operator> {
 /// each bench of its own gives one caller after another a turn, as does one more that computes no
 /// answers. Callers are tenants of the table, over one core. An answer is made by a shared bench, or
 /// where all are lent by the thread's own; what a shared one keeps of a query is let go of once
-/// nobody has used it for a minute, a second after the query was dropped, where there is no room for it,
+/// nobody has used it for 40 seconds, a second after the query was dropped, where there is no room for it,
 /// and where a request for memory is refused.
 ///
 /// A session ends, as at a read or write that fails, where its caller takes longer than the limits
@@ -93,6 +98,56 @@ where
     }
 }
 
+/// Serves the callers of a listener without an end, over a core that a journal's file leads to. What changes
+/// it is written to that file, and no reply goes that rests on what isn't durable there; changes are gathered
+/// for so long. Else it is as `serve` without an audit.
+///
+/// Where a write or a sync of the file fails, no more is served (`Journal`, 9).
+pub(crate) fn serve_filing<R, G, O>(
+    rt: &R,
+    alloc: Global,
+    bound: Listener<'_>,
+    limits: Limits,
+    table: &TenantTable,
+    benches: Benches<O>,
+    opened: Opened,
+    gather: Duration,
+    gate: &G,
+) -> Result<(), Failure>
+where
+    R: Threads + Wait + Clock + Sync,
+    G: Gate + Sync,
+    O: Operator + Send,
+    requires own { All (IsBench O.model_of) benches.own.items }
+    requires shared { All (IsBench O.model_of) benches.shared.items }
+    ensures { IfErr result (λ f. (f ≡ failure.NoMemory) ⊎ (f ≡ failure.Journal fault.Writing)) }
+{
+    let Benches { own, shared, rooms } = benches;
+    let answers = Answers::new(alloc, limits.answer, own.len())?;
+    let pool = SharedPool::new(rt, alloc, shared, answers, rooms)?;
+    let copy = table.try_clone(alloc)?;
+    let Opened { core, file } = opened;
+    let hall: Hall<Bare> = Hall::filing(alloc, copy, core);
+    let has_failed = AtomicBool::new(false);
+    let service = Service {
+        rt,
+        alloc,
+        hall: &hall,
+        table,
+        gate,
+    };
+    let writer = JournalWriter {
+        file,
+        gather,
+        has_failed: &has_failed,
+    };
+    serve_hall(&service, bound, limits, own, &pool, 0, false, Some(writer))?;
+    if has_failed.load(Ordering::SeqCst) {
+        return Err(Failure::from(JournalFault::Writing));
+    }
+    Ok(())
+}
+
 fn serve_bare<R, G, O>(
     rt: &R,
     alloc: Global,
@@ -120,7 +175,7 @@ where
         table,
         gate,
     };
-    serve_hall(&service, bound, limits, own, pool, sessions, false)?;
+    serve_hall(&service, bound, limits, own, pool, sessions, false, None)?;
     Ok(())
 }
 
@@ -152,7 +207,7 @@ where
         table,
         gate,
     };
-    let ends = serve_hall(&service, bound, limits, own, pool, sessions, true)?;
+    let ends = serve_hall(&service, bound, limits, own, pool, sessions, true, None)?;
     tell_audited(out, audit_sessions(alloc, table, hall, ends)?)
 }
 
@@ -167,7 +222,8 @@ fn tell_audited<W: Write>(out: &mut W, audited: Audited) -> Result<(), Failure> 
 }
 
 // Serves the sessions by a thread for each bench while this one lets callers in. Gives their ends once
-// all have left, for which there is room where calls are kept.
+// all have left, for which there is room where calls are kept. Where there is a writer, a thread writes what
+// changes.
 fn serve_hall<R, C, G, O>(
     service: &Service<'_, R, C, G>,
     bound: Listener<'_>,
@@ -176,6 +232,7 @@ fn serve_hall<R, C, G, O>(
     pool: &SharedPool<O>,
     sessions: u16,
     is_kept: bool,
+    writer: Option<JournalWriter<'_>>,
 ) -> Result<Vec<Ending>, Failure>
 where
     R: Threads + Wait + Clock + Sync,
@@ -208,7 +265,11 @@ where
             ensures { IfErr result (λ f. f ≡ failure.NoMemory) }
         {
             start_sweeper(scope, service, pool, stopped)?;
-            if let Err(failure) = start_all(scope, service, shared, own, pool) {
+            if let Err(_error) = start_all(scope, service, shared, own, pool) {
+                shared.close(rt);
+                return Err(Failure::NoMemory);
+            }
+            if let Err(failure) = start_journal_writer(scope, service, shared, writer) {
                 shared.close(rt);
                 return Err(failure);
             }
@@ -217,6 +278,7 @@ where
             } else {
                 shared.close(rt);
             }
+            service.hall.end_taking(rt);
             drop(stop);
             Ok(())
         },

@@ -2,24 +2,26 @@
 ghost use Rattle.std.specs.Prelude.{All};
 ghost use Rattle.cql_ops.specs.Bench.{IsBench};
 
-use crate::callers::{Benches, serve};
+use crate::callers::{Benches, serve, serve_filing};
 use crate::failure::Failure;
 use crate::files::callers_with_files;
 use crate::forms::{keyed_lists, plain_lists};
+use crate::journal_file::{Opened, open_journal};
 use crate::listener::Listener;
 use crate::log::{LogLines, Stamp};
 use crate::watch::Watch;
+use cql_benches::{Rooms, benches_of};
 use cql_connections::Limits;
 use cql_core::{Operator, TenantTable};
 use cql_hall::Gate;
-use cql_sessions::{Rooms, benches_of};
 use cql_wire::{Config, JoinForm, NoConfig, TableFault, Watched, config_of, given_table};
 use std::alloc::Global;
 use std::env::Env;
+use std::fs::{File, Files};
 use std::net::{Ipv4Addr, Net, TcpListener, TcpStream};
 use std::sync::Wait;
 use std::thread::{Builder, Scope, Threads};
-use std::time::Clock;
+use std::time::{Clock, Duration};
 use std::{io, thread};
 
 /// The program `cqld`: reads its words, and the tenants line on standard input; and tells that this is
@@ -35,6 +37,7 @@ where
         + Wait
         + Clock
         + Net<Listener = TcpListener, Stream = TcpStream>
+        + Files<File = File>
         + Input
         + Print
         + Eprint
@@ -64,6 +67,7 @@ where
         + Wait
         + Clock
         + Net<Listener = TcpListener, Stream = TcpStream>
+        + Files<File = File>
         + Input
         + Print
         + Eprint
@@ -94,27 +98,29 @@ fn tell_checked(rt: &impl Print, given: Result<TenantTable, TableFault>) -> Resu
     Ok(())
 }
 
-// Makes the operators of a bench for each worker and of those that they borrow, and serves by them.
+// Makes the operators of a bench for each worker, of one for answers that take little, and of those that all
+// borrow, and serves by them.
 fn outcome<R>(rt: &R, alloc: Global, config: Config, table: &TenantTable) -> Result<(), Failure>
 where
     R: Threads
         + Wait
         + Clock
         + Net<Listener = TcpListener, Stream = TcpStream>
+        + Files<File = File>
         + Print
         + Eprint
         + Sync,
 {
-    let workers = u16::from(config.workers);
+    let threads = u16::from(config.workers) + 1;
     // Operators of the caller's own may stand in the place of these.
     match config.join {
         JoinForm::Plain => {
-            let own = plain_lists(alloc, workers)?;
+            let own = plain_lists(alloc, threads)?;
             let shared = plain_lists(alloc, config.warm)?;
             listen(rt, alloc, config, table, own, shared)
         }
         JoinForm::Keyed => {
-            let own = keyed_lists(alloc, workers)?;
+            let own = keyed_lists(alloc, threads)?;
             let shared = keyed_lists(alloc, config.warm)?;
             listen(rt, alloc, config, table, own, shared)
         }
@@ -142,6 +148,22 @@ fn warn_of_keys(rt: &impl Eprint, listen: Ipv4Addr) {
     }
 }
 
+// What the journal leads to that the words name, if they name one.
+fn opened_journal<R>(
+    rt: &R,
+    alloc: Global,
+    config: &Config,
+    table: &TenantTable,
+) -> Result<Option<Opened>, Failure>
+where
+    R: Files<File = File> + Clock + Eprint,
+{
+    match &config.journal {
+        Some(path) => Ok(Some(open_journal(rt, alloc, table, path.as_str())?)),
+        None => Ok(None),
+    }
+}
+
 // Makes a bench of each list of operators, and serves at the port. Tells where fewer callers than were
 // asked for have files.
 fn listen<R, O>(
@@ -158,10 +180,12 @@ where
         + Wait
         + Clock
         + Net<Listener = TcpListener, Stream = TcpStream>
+        + Files<File = File>
         + Print
         + Eprint
         + Sync,
 {
+    let opened = opened_journal(rt, alloc, &config, table)?;
     let own = benches_of(alloc, own)?;
     let shared = benches_of(alloc, shared)?;
     let rooms = Rooms {
@@ -189,7 +213,9 @@ where
     };
     let callers = callers_with_files(rt, config.callers.max(1));
     let config = Config { callers, ..config };
-    attend(rt, alloc, bound, config, table, benches, &log, &watch)?;
+    attend(
+        rt, alloc, bound, config, table, benches, opened, &log, &watch,
+    )?;
     if watch.has_opened() {
         Ok(())
     } else {
@@ -206,6 +232,7 @@ fn attend<R, G, O>(
     config: Config,
     table: &TenantTable,
     benches: Benches<O>,
+    opened: Option<Opened>,
     log: &LogLines,
     gate: &G,
 ) -> Result<(), Failure>
@@ -227,18 +254,24 @@ where
             requires shared { All (IsBench O.model_of) benches.shared.items }
         {
             start_writer(scope, rt, log, config.log > 0)?;
-            let served = serve(
-                rt,
-                alloc,
-                bound,
-                limits,
-                &mut io::writer(rt),
-                table,
-                benches,
-                config.sessions,
-                config.audit,
-                gate,
-            );
+            let gather = Duration::from_millis(u64::from(config.sync));
+            let served = match opened {
+                Some(opened) => serve_filing(
+                    rt, alloc, bound, limits, table, benches, opened, gather, gate,
+                ),
+                None => serve(
+                    rt,
+                    alloc,
+                    bound,
+                    limits,
+                    &mut io::writer(rt),
+                    table,
+                    benches,
+                    config.sessions,
+                    config.audit,
+                    gate,
+                ),
+            };
             log.close(rt);
             served
         },

@@ -7,9 +7,9 @@ use std::sync::Wait;
 pub(crate) fn tell_standing<R: Wait, C: Callable<R, G>, G: Gate>(service: &Service<'_, R, C, G>) {
     for tenant in service.table.tenants() {
         if let Some(id) = service.table.find(tenant.name.as_str())
-            && let Ok(streams) = service.hall.held_streams(service.rt, id)
+            && let Ok(standing) = service.hall.standing(service.rt, id)
         {
-            service.gate.standing(id, streams.as_slice());
+            service.gate.standing(id, &standing);
         }
     }
 }

@@ -4,9 +4,10 @@ ghost use Rattle.cql_server.specs.declared.failure.Failure.TheVariants as failur
 
 use crate::failure::Failure;
 use crate::standing::tell_standing;
+use cql_benches::SharedPool;
 use cql_core::Operator;
 use cql_hall::{Gate, Point};
-use cql_sessions::{Callable, Service, SharedPool};
+use cql_sessions::{Callable, Service};
 use crossbeam_channel::{Receiver, RecvTimeoutError};
 use std::sync::Wait;
 use std::thread::{Builder, Scope};

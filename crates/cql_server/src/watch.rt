@@ -1,7 +1,7 @@
 // What a server did of late, and who came and left.
 
 use crate::log::LogLines;
-use cql_core::{HeldStream, TenantId, TenantTable};
+use cql_core::{HeldStream, Standing, TenantId, TenantTable};
 use cql_hall::{EndReason, Gate, Kind, Point};
 use std::alloc::{AllocError, Global};
 use std::fmt;
@@ -20,9 +20,10 @@ const STRANGERS: u64 = 20;
 /// refused and each session that has ended, as it comes; and every so many seconds how many sessions
 /// are open and fetches under way, what was called and refused since the line before, how many answers
 /// went on or began anew, and of these calls the longest time that one had the lock and that a fetch
-/// took, in microseconds. Behind that it tells of each tenant of which of his streams rows are held;
-/// and, where he called or was refused something since then, what that was, and how many of his
-/// fetches were given up. Of tenants it tells these names, and nothing of what they send or are told.
+/// took, in microseconds. Behind that it tells of each tenant of which of his streams rows are held, and what they take;
+/// and, where he called or was refused something since then, what that was, how many of his fetches
+/// were given up, and how far his query is behind that is the furthest. Of tenants it tells these names,
+/// and nothing of what they send or are told.
 /// Of callers who haven't logged in it tells so many lines a second, and how many more there were.
 pub(crate) struct Watch<'a, R> {
     rt: &'a R,
@@ -316,8 +317,9 @@ impl<'a, R: Wait + Clock> Watch<'a, R> {
         self.log.tell(self.rt, members);
     }
 
-    // Tells what a tenant called since that was told last, where there is something to tell.
-    fn tell_tenant(&self, tenant: TenantId) {
+    // Tells what a tenant called since that was told last, and how far the query of its own is behind that
+    // is the furthest, where there is something to tell.
+    fn tell_tenant(&self, tenant: TenantId, lag: u64) {
         let Ok((calls, commands)) = self.commands(tenant.index()) else {
             return;
         };
@@ -325,17 +327,17 @@ impl<'a, R: Wait + Clock> Watch<'a, R> {
             return;
         };
         let given_up = taken_at(self.given_up.as_slice(), tenant.index());
-        if calls == 0 && refused.is_empty() {
+        if calls == 0 && refused.is_empty() && lag == 0 {
             return;
         }
         if let Ok(more) = format!(in self.alloc;
-            ",\"commands\":{{{commands}}},\"refused\":{{{refused}}},\"given_up\":{given_up}"
+            ",\"commands\":{{{commands}}},\"refused\":{{{refused}}},\"given_up\":{given_up},\"lag\":{lag}"
         ) {
             self.tell("tenant", Some(tenant), more.as_str());
         }
     }
 
-    // Tells of which streams of a tenant rows are held, where of some.
+    // Tells what is held of the streams of a tenant, where rows of some are.
     fn tell_held(&self, owner: TenantId, streams: &[HeldStream]) {
         if !streams.is_empty()
             && let Ok(rows) = held_of(self.alloc, streams)
@@ -414,13 +416,15 @@ fn push_member<K: fmt::Display + Drop>(
     write!(members, "{comma}\"{key}\":{count}")
 }
 
-// The rows held of streams by their names.
+// The rows held of streams by their names, and about how many bytes these take.
 fn held_of(alloc: Global, streams: &[HeldStream]) -> Result<String, AllocError> {
-    let mut members = String::new(alloc);
+    let mut rows = String::new(alloc);
+    let mut bytes = String::new(alloc);
     for stream in streams {
-        push_member(&mut members, stream.name.as_str(), stream.rows)?;
+        push_member(&mut rows, stream.name.as_str(), stream.rows)?;
+        push_member(&mut bytes, stream.name.as_str(), stream.bytes)?;
     }
-    format!(in alloc; ",\"held\":{{{members}}}")
+    format!(in alloc; ",\"held\":{{{rows}}},\"bytes\":{{{bytes}}}")
 }
 
 impl<'a, R: Wait + Clock + Print + Sync> Gate for Watch<'a, R> {
@@ -474,8 +478,8 @@ impl<'a, R: Wait + Clock + Print + Sync> Gate for Watch<'a, R> {
         self.wants.swap(0, Ordering::SeqCst) == 1
     }
 
-    fn standing(&self, tenant: TenantId, streams: &[HeldStream]) {
-        self.tell_held(tenant, streams);
-        self.tell_tenant(tenant);
+    fn standing(&self, tenant: TenantId, standing: &Standing) {
+        self.tell_held(tenant, standing.held.as_slice());
+        self.tell_tenant(tenant, standing.lag);
     }
 }

@@ -25,8 +25,8 @@ fn gives(run_queue: &mut RunQueue<u32>, wanted: &[u32]) -> bool {
     run_queue.take(true).is_none()
 }
 
-fn three_owners(alloc: Global, workers: usize) -> Result<RunQueue<u32>, AllocError> {
-    RunQueue::new(alloc, 3, workers)
+fn three_owners(alloc: Global, threads: usize) -> Result<RunQueue<u32>, AllocError> {
+    RunQueue::new(alloc, 3, threads)
 }
 
 #[test]
@@ -66,10 +66,10 @@ fn answers_are_not_starved(rt: HostRuntime) -> Result<(), Fail> {
     Ok(())
 }
 
-// Both workers compute answers, and no more are computed.
+// Of three threads two compute answers of one owner, and no more are computed.
 #[test]
 fn workers_compute_answers(rt: HostRuntime) -> Result<(), Fail> {
-    let mut run_queue = three_owners(rt.alloc(), 2)?;
+    let mut run_queue = three_owners(rt.alloc(), 3)?;
     for item in [1, 2, 3] {
         answer(&mut run_queue, 0, item)?;
     }
@@ -79,7 +79,7 @@ fn workers_compute_answers(rt: HostRuntime) -> Result<(), Fail> {
         0,
         "what can't be done now doesn't count"
     );
-    run_queue.end_answer(0);
+    run_queue.end_answer(0, 0);
     assert_eq!(rt; run_queue.waiting(), 1);
     assert!(rt; gives(&mut run_queue, &[3]));
     Ok(())
@@ -106,22 +106,44 @@ fn short_turns_alone(rt: HostRuntime) -> Result<(), Fail> {
 }
 
 #[test]
-fn one_worker_does_both(rt: HostRuntime) -> Result<(), Fail> {
+fn one_thread_does_both(rt: HostRuntime) -> Result<(), Fail> {
     let mut run_queue = three_owners(rt.alloc(), 1)?;
     answer(&mut run_queue, 0, 1)?;
     answer(&mut run_queue, 0, 2)?;
     short(&mut run_queue, 0, 3)?;
     assert!(rt; gives(&mut run_queue, &[3, 1]));
-    run_queue.end_answer(0);
+    run_queue.end_answer(0, 0);
     assert!(rt; gives(&mut run_queue, &[2]));
     Ok(())
 }
 
-// One owner has all four workers while nobody else waits; once another one waits it gets none before
-// it holds less than two.
+// The last thread begins an answer of an owner of whom none is computed, and whose answers took little.
+#[test]
+fn one_thread_is_left(rt: HostRuntime) -> Result<(), Fail> {
+    let mut run_queue = three_owners(rt.alloc(), 3)?;
+    for item in [1, 2, 3] {
+        answer(&mut run_queue, 0, item)?;
+    }
+    assert!(rt; gives(&mut run_queue, &[1, 2]));
+    answer(&mut run_queue, 1, 4)?;
+    answer(&mut run_queue, 1, 5)?;
+    assert!(rt; gives(&mut run_queue, &[4]), "the last one is his");
+    run_queue.end_answer(1, 49_999_999);
+    assert!(rt; gives(&mut run_queue, &[5]));
+    run_queue.end_answer(1, 1);
+    answer(&mut run_queue, 1, 6)?;
+    assert!(rt; gives(&mut run_queue, &[]), "his took 50 milliseconds");
+    run_queue.end_answer(0, 1_000_000_000);
+    assert!(rt; gives(&mut run_queue, &[6]), "what all share");
+    Ok(())
+}
+
+// One owner has all four threads that are shared while nobody else waits; once another one waits it gets none
+// before it holds less than two.
 #[test]
 fn half_is_left_to_others(rt: HostRuntime) -> Result<(), Fail> {
-    let mut run_queue = three_owners(rt.alloc(), 4)?;
+    let mut run_queue = three_owners(rt.alloc(), 5)?;
+    run_queue.end_answer(1, 60_000_000);
     for item in [1, 2, 3, 4, 5, 6] {
         answer(&mut run_queue, 0, item)?;
     }
@@ -129,10 +151,10 @@ fn half_is_left_to_others(rt: HostRuntime) -> Result<(), Fail> {
     for item in [7, 8, 9] {
         answer(&mut run_queue, 1, item)?;
     }
-    run_queue.end_answer(0);
-    run_queue.end_answer(0);
+    run_queue.end_answer(0, 0);
+    run_queue.end_answer(0, 0);
     assert!(rt; gives(&mut run_queue, &[7, 8]));
-    run_queue.end_answer(0);
+    run_queue.end_answer(0, 0);
     assert!(rt;
         gives(&mut run_queue, &[5]),
         "each holds two of four by then"
@@ -143,12 +165,15 @@ fn half_is_left_to_others(rt: HostRuntime) -> Result<(), Fail> {
 // An answer that needn't wait begins at once, and else it has to.
 #[test]
 fn answers_begin_at_once(rt: HostRuntime) -> Result<(), Fail> {
-    let mut run_queue = three_owners(rt.alloc(), 2)?;
+    let mut run_queue = three_owners(rt.alloc(), 3)?;
     assert!(rt; run_queue.begin_answer(0));
     assert!(rt; run_queue.begin_answer(0));
-    assert!(rt; !run_queue.begin_answer(1), "two are computed");
+    assert!(rt; !run_queue.begin_answer(0), "two are computed");
+    assert!(rt; run_queue.begin_answer(1), "it is his only one");
+    assert!(rt; !run_queue.begin_answer(1), "three are computed");
     answer(&mut run_queue, 1, 1)?;
-    run_queue.end_answer(0);
+    run_queue.end_answer(0, 0);
+    run_queue.end_answer(0, 0);
     assert!(rt; !run_queue.begin_answer(0), "another one waits");
     assert!(rt; gives(&mut run_queue, &[1]));
     Ok(())
@@ -169,7 +194,7 @@ fn as_many_wait_as_come(rt: HostRuntime) -> Result<(), Fail> {
     }
     for item in 0..2_000 {
         let next = run_queue.take(true).map(|task| task.item);
-        run_queue.end_answer(2);
+        run_queue.end_answer(2, 0);
         assert_eq!(rt; next, Some(item));
     }
     assert_eq!(rt; run_queue.waiting(), 0);

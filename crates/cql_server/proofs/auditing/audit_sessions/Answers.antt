@@ -7,7 +7,8 @@ pub returns-clause-agreed : goal.returns-clause-agreed
 returns-clause-agreed c =
     let ends = c.args.ends.items in
     let same = ap (map (λ list. list.items)) (c.deref-3.ensures.value ∙ c.in_ok-heard.ensures.lists) ∙ lists_of ends in
-    agreed_once c.args.table.now ends (map (λ list. list.items) c.deref-3.result.now) c.deref-2.result.now c.in_ok-entries.entries same (c.deref-2.ensures.value ∙ c.in_ok-heard.ensures.seats) c.in_ok-entries.ensures.agreed c.in_ok-entries.ensures.counted
+    agreed_once c.args.table.now ends (map (λ list. list.items) c.deref-3.result.now) c.deref-2.result.now c.in_ok-entries.entries same
+    (c.deref-2.ensures.value ∙ c.in_ok-heard.ensures.seats) c.in_ok-entries.ensures.agreed c.in_ok-entries.ensures.counted
 
 pub returns-clause-counted : goal.returns-clause-counted
 returns-clause-counted c =

@@ -3,8 +3,8 @@ use denote.Param.Send.{IsSync, sendable}
 use denote.Ref.{NamedLft}
 use Rattle.std.proofs.Crossing.{crosses}
 use Rattle.cql_sessions.specs.contracts.caller.Service as service_type
-use Rattle.cql_sessions.specs.contracts.shared_pool.SharedPool as pool_type
-use Rattle.cql_sessions.proofs.BenchesCrosses.{pool_sync}
+use Rattle.cql_benches.specs.contracts.shared_pool.SharedPool as pool_type
+use Rattle.cql_benches.proofs.BenchesCrosses.{pool_sync}
 use Rattle.cql_server.proofs.Crosses.{service_sync}
 use Rattle.cql_server.proofs.sweeper.start_sweeper.Goals as goal
 

@@ -1,0 +1,204 @@
+// The journal's file: who has it, what it leads to, and what is written behind that.
+ghost use Rattle.std.specs.Prelude.{◌≡◌, OnOk};
+ghost use Rattle.cql_journal.specs.Waiting.{WritesBatch};
+
+use cql_core::{Core, TenantTable};
+use cql_journal::{
+    Chain, HEADING, Onlooker, RecoveryFault, Unfit, UnfitRecord, recover, write_batch,
+};
+use cql_wire::Watched;
+use std::alloc::Global;
+use std::fs::{File, Files, OpenOptions, TryLockError};
+use std::io::{self, ErrorKind, Seek, SeekFrom, Write};
+use std::time::{Clock, Duration, Instant};
+use thiserror::Error;
+
+// While it is read that is told every so many seconds.
+const TOLD_EVERY: u64 = 1;
+
+/// Why a journal can't be read (8, or 5 without memory), or not be written (9).
+#[derive(Clone, Copy, Debug, Error)]
+pub enum JournalFault {
+    /// Its file can't be opened, locked, read or cut, for this reason.
+    #[error("the journal can't be opened: {0}")]
+    Opening(ErrorKind),
+    /// Another server has it.
+    #[error("the journal is in use")]
+    InUse,
+    /// It isn't one of this format.
+    #[error("the journal is of another format")]
+    OtherFormat,
+    /// Behind so many bytes stands something else, and behind that a whole batch again.
+    #[error("the journal is damaged behind byte {0}")]
+    Damaged(u64),
+    /// A record leads nowhere: its number, of which 1 is the first, and why.
+    #[error("the journal is refused at record {at}: {why}")]
+    Unfit { at: u64, why: &'static str },
+    /// It has 2^64 - 1 bytes.
+    #[error("the journal is too long")]
+    Full,
+    /// A write or a sync failed.
+    #[error("writing the journal failed")]
+    Writing,
+    /// There was no memory to read it.
+    #[error("no memory")]
+    NoMemory,
+}
+
+impl From<io::Error> for JournalFault {
+    fn from(error: io::Error) -> JournalFault {
+        match error.kind() {
+            ErrorKind::OutOfMemory => JournalFault::NoMemory,
+            why => JournalFault::Opening(why),
+        }
+    }
+}
+
+impl From<RecoveryFault> for JournalFault {
+    fn from(fault: RecoveryFault) -> JournalFault {
+        match fault {
+            RecoveryFault::OtherFormat => JournalFault::OtherFormat,
+            RecoveryFault::Damaged(at) => JournalFault::Damaged(at),
+            RecoveryFault::Failed => JournalFault::Opening(ErrorKind::Other),
+            RecoveryFault::TooMany => JournalFault::Full,
+            RecoveryFault::NoMemory => JournalFault::NoMemory,
+            RecoveryFault::Record(
+                UnfitRecord {
+                    at: _,
+                    unfit: Unfit::NoMemory,
+                },
+            ) => JournalFault::NoMemory,
+            RecoveryFault::Record(UnfitRecord { at, unfit }) => JournalFault::Unfit {
+                at: at.saturating_add(1),
+                why: unfit.name(),
+            },
+        }
+    }
+}
+
+// Tells how far the file is read, each second.
+#[derive(Drop)]
+struct Reading<'a, R> {
+    rt: &'a R,
+    told: Option<Instant>,
+    total: u64,
+}
+
+impl<R: Clock + Eprint> Onlooker for Reading<'_, R> {
+    fn tell(&mut self, records: u64, bytes: u64) {
+        let Ok(now) = Instant::now(self.rt) else {
+            return;
+        };
+        let told = *self.told.get_or_insert(now);
+        if now.saturating_duration_since(told) >= Duration::from_secs(TOLD_EVERY) {
+            self.told = Some(now);
+            let total = self.total;
+            let _ = eprintln!(self.rt;
+                "cqld: the journal is read: {records} records, {bytes} of {total} bytes"
+            );
+        }
+    }
+}
+
+/// A journal's file that this program has alone, and behind what the next batch is written.
+#[derive(Drop)]
+pub(crate) struct JournalFile {
+    file: File,
+    chain: Chain,
+    text: Vec<u8>,
+}
+
+impl JournalFile {
+    /// Writes the batch of the records that wait, as they were put there, and returns once the system says
+    /// that it is durable.
+    pub(crate) fn write(&mut self, waiting: &[u8]) -> Result<(), JournalFault>
+        ensures { OnOk result (WritesBatch waiting.now self.old.chain self.new.chain self.new.text.items) }
+    {
+        if write_batch(&mut self.text, &mut self.chain, waiting).is_err() {
+            return Err(JournalFault::Writing);
+        }
+        let written = self.file.write_all(self.text.as_slice());
+        if written.is_ok() && self.file.sync_data().is_ok() {
+            Ok(())
+        } else {
+            Err(JournalFault::Writing)
+        }
+    }
+}
+
+/// What a journal's file leads to: a core, and the file, which goes on behind it.
+#[derive(Drop)]
+pub(crate) struct Opened {
+    pub core: Core,
+    pub file: JournalFile,
+}
+
+/// Opens a journal's file, or makes a new one; has it alone; and gives the core that its whole batches lead
+/// to, from the opening of the table. What isn't a whole batch at its end is cut off, and told.
+pub(crate) fn open_journal<R>(
+    rt: &R,
+    alloc: Global,
+    table: &TenantTable,
+    path: &str,
+) -> Result<Opened, JournalFault>
+where
+    R: Files<File = File> + Clock + Eprint,
+{
+    let file = OpenOptions::new()
+        .read(true)
+        .write(true)
+        .create(true)
+        .open(rt, path)?;
+    match file.try_lock() {
+        Ok(()) => {}
+        Err(TryLockError::WouldBlock) => return Err(JournalFault::InUse),
+        Err(TryLockError::Error(error)) => return Err(JournalFault::from(error)),
+    }
+    let total = file.metadata()?.len();
+    let mut reading = Reading {
+        rt,
+        told: None,
+        total,
+    };
+    let mut reader = Watched::new(&file);
+    let recovered = recover(alloc, table, &mut reader, &mut reading)?;
+    drop(reader);
+    let (core, chain, bytes) = recovered.into_parts();
+    cut(rt, &file, bytes, total)?;
+    sync_folder(rt, path)?;
+    Ok(Opened {
+        core,
+        file: JournalFile {
+            file,
+            chain,
+            text: Vec::new(alloc),
+        },
+    })
+}
+
+// Cuts a file of so many bytes off behind its whole batches, begins it where there is no first line, and
+// goes to its end.
+fn cut<R: Eprint>(rt: &R, mut file: &File, bytes: u64, total: u64) -> io::Result<()> {
+    if bytes < total {
+        let left = total.saturating_sub(bytes);
+        let _ = eprintln!(rt;
+            "cqld: the last {left} bytes of the journal are no whole batch, and are cut off"
+        );
+        file.set_len(bytes)?;
+    }
+    file.seek(SeekFrom::Start(bytes))?;
+    if bytes == 0 {
+        file.write_all(&HEADING)?;
+    }
+    file.sync_all()
+}
+
+// Makes the name of a file durable.
+fn sync_folder<R: Files<File = File>>(rt: &R, path: &str) -> io::Result<()> {
+    let folder = match path.rfind('/') {
+        Some(0) => "/",
+        Some(end) => &path[..end],
+        None => ".",
+    };
+    File::open(rt, folder)?.sync_all()
+}

@@ -152,6 +152,7 @@ bench: build
 	bench/server $(SERVER)
 	bench/hall $(SERVER)
 	bench/callers $(SERVER)
+	bench/journal $(SERVER)
 	bench/replies $(SERVER)
 	bench/memory $(SERVER)
 	bench/neighbours $(SERVER)

@@ -2,6 +2,7 @@
 pairs of a name and of what is wrong, or None. The time limit is a second, and two seconds more are allowed.
 """
 import contextlib
+import statistics
 import time
 
 from served import (
@@ -23,8 +24,11 @@ from spoken import EMPTY, LIST, standing
 LIMIT, MOST = 1, 3
 # So long an answer may take beside which others are looked at, in seconds, and how many such there are at once.
 BESIDE, ROUNDS = 5, 6
+# Short answers beside long ones that are given up, how many callers wait for these for each worker, and the seconds
+# that a short one may mostly take.
+SHORT_ONES, WAITING, SOON = 20, 4, 0.1
 ROWS = 1_000
-TABLE = tenants("ab", hold=ROWS)
+TABLE = tenants("abc", hold=ROWS)
 NO_MEMORY = refused(70, "NoMemory")
 
 # A join of three inputs without equal columns grows with the cube of its rows: of a thousand it takes 20 s
@@ -108,14 +112,16 @@ def to_its_end(program):
 
 
 def lines_go_on(program):
-    """Beside long answers others' lines are answered, by one worker and by many; also where all come at once."""
+    """Beside long answers others' lines are answered, by one worker and by many; also where all come at once, and
+    where none is left that computes: the last long answer is another tenant's."""
     for workers in (1, ROUNDS):
         with Server(program, TABLE, workers=workers, answer=BESIDE) as server, contextlib.ExitStack() as open_ones:
-            with Caller(server, "a") as caller:
-                caller.serve(MADE)
+            for tenant in "ac":
+                with Caller(server, tenant) as caller:
+                    caller.serve(MADE)
             others = [open_ones.enter_context(Caller(server, "b")) for _ in range(3)]
-            for _ in range(workers):
-                late = open_ones.enter_context(Caller(server, "a"))
+            for tenant in "a" * workers + "c":
+                late = open_ones.enter_context(Caller(server, tenant))
                 with standing(server):
                     late.send(FETCH_LONG)
                     for other in others:
@@ -124,6 +130,30 @@ def lines_go_on(program):
                 name = f"beside long answers by {workers} workers"
                 yield f"lists {name}", difference(found, [EMPTY] * 3)
                 yield f"what comes first {name}", None if late.is_silent(0) else "the long answer"
+
+
+def short_ones_go_on(program):
+    """While many long answers of one tenant wait, another one's short ones have a thread, by one worker and by many."""
+    for workers in (1, 4):
+        with Server(program, TABLE, workers=workers, answer=LIMIT) as server, contextlib.ExitStack() as open_ones:
+            with Caller(server, "a") as caller:
+                caller.serve(MADE)
+            other = open_ones.enter_context(Caller(server, "b"))
+            other.serve(MADE)
+            late = [open_ones.enter_context(Caller(server, "a")) for _ in range(WAITING * workers)]
+            for caller in late:
+                caller.send(*[FETCH_LONG] * SHORT_ONES)
+            time.sleep(LIMIT / 4)
+            replies, taken = set(), []
+            for _ in range(SHORT_ONES):
+                start = time.monotonic()
+                replies.add(other.ask(FETCH_SHORT))
+                taken.append(time.monotonic() - start)
+                time.sleep(LIMIT / SHORT_ONES)
+            name = f"short ones beside waiting long ones of {workers} workers"
+            yield name, difference(replies, {SHORT_TOLD})
+            mostly = statistics.median(taken)
+            yield f"the time of {name}", None if mostly <= SOON else f"mostly {mostly:.3f} s"
 
 
 def each_has_its_time(program):
@@ -140,4 +170,4 @@ def each_has_its_time(program):
         yield "a long answer by the bench of the short ones", gives_up(caller)
 
 
-CHECKS = given_up, others_go_on, to_its_end, lines_go_on, each_has_its_time
+CHECKS = given_up, others_go_on, to_its_end, lines_go_on, short_ones_go_on, each_has_its_time

@@ -79,11 +79,11 @@ def parts_of(draw, log, count):
 class Killed:
     """A chain whose parts are killed, each in the midst of what it does."""
 
-    def __init__(self, chain, program, open_ones, until):
+    def __init__(self, chain, program, open_ones, until, **words):
         self.chain = chain
         self.until = until
         self.open_ones = open_ones
-        self.words = {"port": free_port(), "workers": 8}
+        self.words = {"port": free_port(), "workers": 8, **words}
         self.program = program
         self.serve()
         for name in ("feed", "stage", *READ):
@@ -109,12 +109,14 @@ class Killed:
             self.chain.begin(name, self.words["port"], self.until)
 
 
-def chained(program, log, until, draw=None, kills=0):
+def chained(program, log, until, draw=None, kills=0, keeps=False):
     """What a chain prints, with so many kills. Before each the feeder is given more of the log, and something is
-    printed of it; one in four is killed sooner, while what was killed before it begins."""
+    printed of it; one in four is killed sooner, while what was killed before it begins. The server may keep a
+    journal."""
     parts = parts_of(draw, log, kills + 1) if kills else [log]
     with tempfile.TemporaryDirectory() as folder, Chain(folder) as chain, contextlib.ExitStack() as open_ones:
-        killed = Killed(chain, program, open_ones, until)
+        words = {"journal": chain.folder / "journal"} if keeps else {}
+        killed = Killed(chain, program, open_ones, until, **words)
         for kind, lines in zip(order_of(draw, kills) if kills else (), parts):
             killed.go_on(lines, draw.choice((0, 2, 2, 2)))
             time.sleep(draw.uniform(0, 0.1))
@@ -124,7 +126,7 @@ def chained(program, log, until, draw=None, kills=0):
         return chain.printed()
 
 
-def chain_outlives(program, seed, kills):
+def chain_outlives(program, seed, kills, keeps=False):
     """A chain of a drawn log, of which so many kills change no byte of what is printed. That nothing asks for a
     new start of the server is seen by that the feeder and the stage go on to the end."""
     draw = random.Random(seed)
@@ -132,14 +134,16 @@ def chain_outlives(program, seed, kills):
     wanted = chained(program, log, until)
     blocks = sum(text.count(b"\n") for text in wanted.values())
     yield f"{blocks} blocks of a chain", None if min(map(len, wanted.values())) > 500 else "few"
-    found = chained(program, log, until, draw, kills)
+    found = chained(program, log, until, draw, kills, keeps)
     for query in READ:
         yield f"{query} over {kills} kills by {seed}", difference(found[query], wanted[query])
 
 
 def chain_outlives_all(program):
-    """Feeder, stage, consumers and server are killed one behind the other; tests/kills does so with more."""
+    """Feeder, stage, consumers and server are killed one behind the other, also where the server keeps a journal;
+    tests/kills does so with more."""
     yield from chain_outlives(program, 1, 8)
+    yield from chain_outlives(program, 2, 8, keeps=True)
 
 
 CHECKS = (chain_outlives_all,)

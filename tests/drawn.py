@@ -27,6 +27,9 @@ def constant(draw, is_text):
     return str(draw.choice((-1, 0, 1, 2, 3, GREATEST)))
 
 
+SIGNS = "=", "<>", "<", "<=", ">", ">="
+
+
 def comparison(draw, columns):
     """Two columns of one kind, or a column and a constant, compared."""
     name, is_text = draw.choice(columns)
@@ -44,6 +47,39 @@ def condition(draw, columns, depth=0):
         sides = [condition(draw, columns, depth + 1) for _ in range(2)]
         return f"{sides[0]} And {sides[1]}" if kind < 0.7 else f"({sides[0]} Or {sides[1]})"
     return f"Not ({condition(draw, columns, depth + 1)})"
+
+
+def loose_term(draw, columns):
+    """A comparison that sets no columns of two inputs equal: two columns, one with itself, or one with a constant."""
+    name, is_text = draw.choice(columns)
+    kind = draw.random()
+    if kind < 0.3:
+        return f"{name} {draw.choice(SIGNS)} {constant(draw, is_text)}"
+    if kind < 0.45:
+        return f"{name} {draw.choice(SIGNS)} {name}"
+    others = [other for other, of_text in columns if of_text == is_text]
+    return f"{name} {draw.choice(SIGNS[1:])} {draw.choice(others)}"
+
+
+def loose_condition(draw, columns):
+    """Few comparisons, some of them often, under AND, OR and NOT."""
+    terms = [loose_term(draw, columns) for _ in range(draw.randint(1, 4))]
+    # an equality under OR links nothing
+    name, is_text = draw.choice(columns)
+    terms.append(f"{name} = {draw.choice([other for other, of_text in columns if of_text == is_text])}")
+    text = draw.choice(terms[:-1])
+    for _ in range(draw.randint(0, 6)):
+        more = draw.choice(terms)
+        kind = draw.random()
+        if kind < 0.4:
+            text = f"({text} Or {more})" if draw.random() < 0.5 else f"({more} Or {text})"
+        elif kind < 0.8:
+            text = f"{text} And {draw.choice(terms[:-1])}"
+        elif kind < 0.9 or len(text) > 500:
+            text = f"Not ({text} Or {more})"
+        else:
+            text = f"({text} Or {more}) And ({more} Or {text})"
+    return text
 
 
 def numbers_of(columns):
@@ -68,8 +104,8 @@ def items(draw, columns, shape):
     return f"{left}, {right} {draw.choice('+-*')} {draw.choice((right, '1', '2'))}", ""
 
 
-def block(draw, streams, counts=(1, 2, 2, 2, 3, 3)):
-    """A block of two columns, both numbers, with one of these counts of inputs."""
+def block(draw, streams, counts=(1, 2, 2, 2, 3, 3), where=condition):
+    """A block of two columns, both numbers, with one of these counts of inputs and conditions of this kind."""
     inputs = [draw.choice([*streams]) for _ in range(draw.choice(counts))]
     columns = [
         (f"i{place}.{name}", is_text)
@@ -81,8 +117,8 @@ def block(draw, streams, counts=(1, 2, 2, 2, 3, 3)):
         f"{stream} {window(draw, streams[stream])} i{place}" for place, stream in enumerate(inputs)
     )
     distinct = draw.choice(("", "", "Distinct "))
-    where = f" Where {condition(draw, columns)}" if draw.random() < 0.85 else ""
-    return f"Select {distinct}{told} From {named}{where}{behind}"
+    asked = f" Where {where(draw, columns)}" if draw.random() < 0.85 else ""
+    return f"Select {distinct}{told} From {named}{asked}{behind}"
 
 
 def of_kind(draw, text):
@@ -91,8 +127,8 @@ def of_kind(draw, text):
     return f"{kind}({text})" if kind else text
 
 
-def query(draw, streams):
-    text = block(draw, streams)
+def query(draw, streams, where=condition):
+    text = block(draw, streams, where=where)
     if draw.random() < 0.25:
-        text += f" {draw.choice(('Union', 'Except'))} All {block(draw, streams)}"
+        text += f" {draw.choice(('Union', 'Except'))} All {block(draw, streams, where=where)}"
     return of_kind(draw, text)

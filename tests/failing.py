@@ -7,7 +7,8 @@ import subprocess
 import tempfile
 
 # Each fails at every so manyth call, where the word of its name says how many that is. Of epoll_ctl those
-# count that add a file. A recv that finds nothing takes so many microseconds. Each send adds a byte to a file.
+# count that add a file. A recv that finds nothing takes so many microseconds. Each send adds a byte to a file, and
+# takes at most so many bytes.
 SOURCE = r"""
 #define _GNU_SOURCE
 #include <dlfcn.h>
@@ -22,6 +23,7 @@ SOURCE = r"""
 static long send_fails_at;
 static long add_fails_at;
 static long moment;
+static long send_takes;
 static int told = -1;
 static atomic_long sends;
 static atomic_long adds;
@@ -35,6 +37,7 @@ __attribute__((constructor)) static void begin(void) {
     send_fails_at = number_of("SEND_FAILS_AT");
     add_fails_at = number_of("ADD_FAILS_AT");
     moment = number_of("RECV_TAKES");
+    send_takes = number_of("SEND_TAKES");
     if (getenv("SENDS_TOLD")) {
         told = open(getenv("SENDS_TOLD"), O_WRONLY | O_APPEND | O_CREAT, 0600);
     }
@@ -51,7 +54,7 @@ ssize_t send(int file, const void *bytes, size_t count, int flags) {
     if (told >= 0 && write(told, "s", 1) < 0) {
         return -1;
     }
-    return real(file, bytes, count, flags);
+    return real(file, bytes, send_takes && (size_t)send_takes < count ? (size_t)send_takes : count, flags);
 }
 
 ssize_t recv(int file, void *bytes, size_t count, int flags) {
@@ -79,8 +82,8 @@ int epoll_ctl(int poll, int what, int file, struct epoll_event *event) {
 @contextlib.contextmanager
 def under_failing(**words):
     """The words under which a program runs whose calls fail: SEND_FAILS_AT, which then says that nothing can be
-    taken now, and ADD_FAILS_AT, which says that there is no memory; or take long: RECV_TAKES; or are told in a file, a byte for each
-    send: SENDS_TOLD."""
+    taken now, and ADD_FAILS_AT, which says that there is no memory; or take long: RECV_TAKES; or take few bytes:
+    SEND_TAKES; or are told in a file, a byte for each send: SENDS_TOLD."""
     with tempfile.TemporaryDirectory() as folder:
         source, library = (pathlib.Path(folder) / name for name in ("failing.c", "failing.so"))
         source.write_text(SOURCE, encoding="ascii")

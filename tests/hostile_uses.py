@@ -224,5 +224,5 @@ def bounds(drawn, held, room=None):
     """The most that a run may have at its greatest, at the end of its lines, and behind the last drop."""
     rest = at_rest(drawn.quotas, [text_of(it) for it in drawn.texts]) + kept_by_benches(drawn, room)
     greatest = max((of_bench(drawn.quotas, it) for it in drawn.fetched), default=0)
-    told = max((of_reply(it, held.size, held.rows) for it in drawn.fetched), default=0)
+    told = max((of_reply(it, held.rows) for it in drawn.fetched), default=0)
     return rest + greatest + told, rest, left_of(drawn, room)

@@ -79,7 +79,7 @@ def counts_are_told(program):
             yield "calls by kind", difference(dict(kinds), wanted)
             yield "refusals", difference(dict(numbers), {"11": 1, "30": 1, "41": 1})
             yield "nothing else", difference([set(it) for it in counts], [set(nothing)] * len(counts))
-            held = {"owner": "a", "held": {"s": 1}}
+            held = {"owner": "a", "held": {"s": 1}, "bytes": {"s": 112}}
             rest = [it for it in lines[1:] if "sessions" not in it and "tenant" not in it]
             yield "rows held", difference(rest, [held] * len(rest))
         last = [it for it in counts_of(server, 2.5) if "sessions" in it][-1]
@@ -96,7 +96,52 @@ def of_tenants(server, seconds):
             told[it["tenant"]].update(it["commands"])
             told[it["tenant"]].update(it["refused"])
             told[it["tenant"]]["given up"] += it["given_up"]
-    return {name: dict(+sums) for name, sums in told.items()}
+    return {name: dict(+sums) for name, sums in told.items() if +sums}
+
+
+def bytes_are_told(program):
+    """About how many bytes the rows take that are held, and none of those that came before them."""
+    stream = line_of(columns=[["v", "int"], ["t", "text"]], do="stream", name="s")
+    query = line_of(do="query", name="q", text="Select v From s [Rows 130]")
+    with Server(program, tenants("a", hold=400), log=1) as server, Caller(server, "a") as caller:
+        caller.serve([stream, query, *(put(at, at, "x" * at) for at in range(300)), beat(299)])
+        yield "all rows", difference(held_of(server), ({"s": 300}, {"s": 300 * 176 + sum(range(300))}))
+        caller.serve([line_of(do="ack", name="q", to=300)])
+        last = {"s": 130 * 176 + sum(range(170, 300))}
+        yield "those of the window", difference(held_of(server), ({"s": 130}, last))
+
+
+def held_of(server):
+    """What is held of the rows of one tenant, as it was told last."""
+    lines = [it for it in counts_of(server, 1.5) if "owner" in it]
+    return (lines[-1]["held"], lines[-1]["bytes"]) if lines else None
+
+
+def lags_of(server):
+    """How far the query of each tenant is behind that is the furthest, of the last interval that was told whole."""
+    intervals = [{}]
+    for it in counts_of(server, 2.5):
+        if "sessions" in it:
+            intervals.append({})
+        elif it.get("lag"):
+            intervals[-1][it["tenant"]] = it["lag"]
+    return intervals[-2]
+
+
+def lags_are_told(program):
+    """Of each tenant how far the query is behind what its streams have told that is the furthest, also of who
+    calls nothing."""
+    later = line_of(do="query", name="p", text="Select * From a.s [Now]")
+    with Server(program, tenants("abc"), log=1) as server, contextlib.ExitStack() as open_ones:
+        a, b = (open_ones.enter_context(Caller(server, name)) for name in "ab")
+        a.serve([STREAM, QUERY, line_of(do="grant", stream="s", to="b"), put(0, 1), beat(8)])
+        b.serve([later])
+        yield "one that is behind by all", difference(lags_of(server), {"a": 9})
+        yield "where nobody calls", difference(lags_of(server), {"a": 9})
+        a.serve([line_of(do="ack", name="q", to=4), beat(9)])
+        yield "two that are behind", difference(lags_of(server), {"a": 6, "b": 1})
+        a.serve([line_of(do="revoke", stream="s", to="b"), line_of(do="ack", name="q", to=10)])
+        yield "one that is revoked, and one that has it all", difference(lags_of(server), {})
 
 
 def tenants_are_told(program):
@@ -229,6 +274,8 @@ def logins_are_told(program):
 CHECKS = (
     counts_are_told,
     tenants_are_told,
+    bytes_are_told,
+    lags_are_told,
     kept_answers_are_counted,
     logins_are_told,
 )

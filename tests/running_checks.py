@@ -176,18 +176,20 @@ LOG = b"""\
 {"refused_login":null}
 {"ended":"a","why":"caller"}
 {"sessions":2,"calls":10,"fetches":3,"fetching":1,"warm":2,"cold":1,"lock_us":93,"answer_us":20,"commands":{"put":7},"refused":{"41":2}}
-{"owner":"a","held":{"s":12,"u":3}}
+{"owner":"a","held":{"s":12,"u":3},"bytes":{"s":1344,"u":333}}
 {"tenant":"a","commands":{"put":7},"refused":{"41":2},"given_up":0}
-{"tenant":"b","commands":{"fetch":3},"refused":{"70":1},"given_up":1}
+{"tenant":"b","commands":{"fetch":3},"refused":{"70":1},"given_up":1,"lag":60}
 no line of it
 {"sessions":1,"calls":5,"fetches":0,"fetching":0,"warm":0,"cold":0,"lock_us":3,"answer_us":0,"commands":{"put":4},"refused":{}}
-{"owner":"a","held":{"s":9}}
-{"tenant":"b","commands":{"put":4},"refused":{},"given_up":1}
+{"owner":"a","held":{"s":9},"bytes":{"s":1008}}
+{"tenant":"b","commands":{"put":4},"refused":{},"given_up":1,"lag":58}
 """
 EXPORTED = """\
 cqld_calls_total 15
 cqld_commands_total{command="put"} 11
+cqld_held_bytes{tenant="a",stream="s"} 1008
 cqld_held_rows{tenant="a",stream="s"} 9
+cqld_lag_ticks{tenant="b"} 58
 cqld_lines_passed_over_total 1
 cqld_logins_total{tenant="a"} 2
 cqld_refusals_total{number="41"} 2
@@ -208,8 +210,8 @@ def exporter(program):
     ran = subprocess.run([*command, "--once"], input=LOG, **how)
     lines = ran.stdout.decode().splitlines(True)
     missing = [line for line in EXPORTED.splitlines(True) if line not in lines]
-    held = [line for line in lines if "held_rows{" in line]
-    yield "what is exported", difference((ran.returncode, missing, len(held)), (0, [], 1))
+    now = [line for line in lines if "held_rows{" in line or "lag_ticks{" in line]
+    yield "what is exported", difference((ran.returncode, missing, len(now)), (0, [], 2))
     if not are_wanting("what promtool says of what is exported", "promtool"):
         checked = subprocess.run(["promtool", "check", "metrics"], input=ran.stdout, **how)
         yield "what promtool says", difference((checked.returncode, checked.stdout), (0, b""))

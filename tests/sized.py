@@ -34,8 +34,8 @@ QUERY, SAID, STUB = 2_700, 48, 1_000
 # What a bench has for each row of a window, and for each that a block joins or groups; for each column that a
 # comparison or an item names, and for each aggregate.
 HELD, MADE, NAMED, AGGREGATE = 350, 800, 24, 250
-# What a reply's text takes for each byte while it is written.
-REPLY = 3
+# What is buffered of a reply's line, by a worker and for its caller.
+BUFFERED = 2 << 16
 # What the C library and a worker keep.
 ALWAYS = 4 * MIB
 
@@ -75,18 +75,18 @@ def of_bench(quotas, text):
     return held + text.blocks * made * (MADE + NAMED * text.named + AGGREGATE * text.aggregates)
 
 
-def of_reply(text, size, rows):
-    """What a reply of so many bytes and rows takes until it is sent."""
-    return REPLY * size + rows * (MADE + NAMED * text.named)
+def of_reply(text, rows):
+    """What a reply of so many rows takes until it is taken."""
+    return BUFFERED + rows * (MADE + NAMED * text.named)
 
 
 # ---- What a run held.
 
 # The greatest memory, that at the end of the lines, and that behind the last drop, in bytes above the
 # start; the seconds until it was back, the greatest lock in milliseconds as a share of what it may be, and
-# the words of the calls of that interval; how many lines were refused by their numbers, and what the
-# replies to fetches had in bytes and rows at most.
-Held = collections.namedtuple("Held", "peak rest left seconds lock share calls refused size rows")
+# the words of the calls of that interval; how many lines were refused by their numbers, and how many rows the
+# longest reply to a fetch had.
+Held = collections.namedtuple("Held", "peak rest left seconds lock share calls refused rows")
 
 
 class Watch:
@@ -202,4 +202,4 @@ def held(program, table, tenant, steps, drops, under=(), seconds=150, apart=0.0,
             # the last interval's line
             time.sleep(1.1)
         lock, share, calls = watch.worst()
-        return Held(peak, rest, left, passed, lock, share, calls, dict(use.refused), use.size, use.rows)
+        return Held(peak, rest, left, passed, lock, share, calls, dict(use.refused), use.rows)

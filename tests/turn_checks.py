@@ -45,12 +45,14 @@ GAP = 1_000
 # Callers of one tenant who send at once, and how many of them may be answered before another tenant's.
 CROWD, MOST_BEFORE = 300, 100
 # How often a caller leaves and another one has his place, and the longest that this may mostly take, in seconds.
-LEAVES, AT_ONCE = 21, 0.05
+LEAVES, AT_ONCE = 21, 0.025
 # Callers who send a long line and fall silent, and what the server may then keep for each, in bytes.
 TALKERS, MOST_OF_A_TALKER = 100, 16 << 10
 # Rounds of a put, a heartbeat, a fetch and an ack, so many times; and the most sends that one may take where they
 # take the fewest: beside other work a short fetch isn't at times.
 ROUNDS, TIMES, MOST_SENDS = 20, 10, 1.1
+# A send that takes at most so many bytes, and lines whose replies are more, which stand ready together.
+FEW_BYTES, GATHERED = 5_000, 1_000
 # How many long replies one caller takes, of which more than 64 MiB are held back in all.
 LONG_REPLIES = 5
 # Texts of which a query tells each so often: a reply has 10 MB. How many callers don't take it, and the bytes that
@@ -244,6 +246,19 @@ def told_of_repeated():
     return told(len(REPEATED) + 1, *rows)
 
 
+def replies_by_few_bytes(program):
+    """Of what a send takes in part the rest comes, once and in its place."""
+    if are_wanting("replies that are sent by few bytes", "gcc"):
+        return
+    with under_failing(SEND_TAKES=FEW_BYTES) as under:
+        with Server(program, tenants("a", queries=64), under, workers=1) as server:
+            with Caller(server, "a", seconds=FOR_GOOD) as caller:
+                wanted = long_list(caller)
+                caller.send(*[b"{}\n"] * GATHERED, LIST, *[b"{}\n"] * GATHERED)
+                wanted = BAD_COMMAND * GATHERED + wanted + BAD_COMMAND * GATHERED
+                yield "replies that are sent by few bytes", difference(caller.replies.read(len(wanted)), wanted)
+
+
 def replies_taken_late(program):
     """Each of some callers takes his replies late, in another order than they asked: they are whole, and what
     is told of the lines behind a fetch comes behind its reply. So it is too where calls are kept."""
@@ -274,18 +289,33 @@ def replies_that_nobody_takes(program):
         yield "the time of who takes nothing", idleness(server, 1)
 
 
+def long_list(caller):
+    """The reply to a list of many queries of long texts, which it makes."""
+    text = "Select * From s Where " + " Or ".join(["v = 123456789"] * 200)
+    caller.serve([STREAM, *(line_of(do="query", name=f"a_query_of_a_long_name_{at:02}", text=text) for at in range(40))])
+    return caller.ask(LIST)
+
+
+def lists_taken_late(program):
+    """A long list that its caller takes late, in many pieces, comes whole and once, and what is told of the lines
+    behind it behind it. So it is too where calls are kept."""
+    for words in ({}, {"sessions": 2, "audit": True}):
+        with Server(program, tenants("a", queries=64), workers=1, **words) as server:
+            with Caller(server, "a") as maker:
+                wanted = (long_list(maker) + BAD_COMMAND) * 3
+            with Caller(server, "a", window=4096) as late:
+                late.send(*[LIST, b"{}\n"] * 3)
+                yield f"lists that are taken late, {words}", taken_later(late, wanted)
+
+
 def replies_keep_their_order(program):
     """Behind what can't be written nothing else is, though it could."""
     if are_wanting("replies of which some are held back", "gcc"):
         return
-    name = "a_query_of_a_long_name_{0:02}"
     with under_failing(SEND_FAILS_AT=2) as under:
         with Server(program, tenants("a", queries=64), under, workers=1) as server:
             with Caller(server, "a", seconds=FOR_GOOD) as caller:
-                yield "a stream", conversation(caller, (STREAM, DONE))
-                text = "Select * From s Where " + " Or ".join(["v = 123456789"] * 200)
-                caller.serve(line_of(do="query", name=name.format(at), text=text) for at in range(40))
-                wanted = caller.ask(LIST)
+                wanted = long_list(caller)
                 yield "a long list", None if len(wanted) > 1e5 and wanted.endswith(b"}\n") else "it is short"
                 for number in range(12):
                     caller.send(b"{}\n" * number + LIST)
@@ -329,8 +359,10 @@ CHECKS = (
     fetches_among_lines,
     rounds_are_one_send,
     long_replies_in_pieces,
+    replies_by_few_bytes,
     replies_taken_late,
     replies_that_nobody_takes,
+    lists_taken_late,
     replies_keep_their_order,
     quick_and_then_quiet,
     silent_behind_long_lines,

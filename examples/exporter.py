@@ -73,6 +73,8 @@ class Numbers:
             for stream, rows in told.get("held", {}).items():
                 labels = {"tenant": told["owner"], "stream": stream}
                 self._set("held_rows", "Rows that are held.", rows, **labels)
+                weight = told.get("bytes", {}).get(stream, 0)
+                self._set("held_bytes", "About how many bytes held rows take.", weight, **labels)
         elif "tenant" in told:
             self._of_tenant(str(told["tenant"]), told)
         elif "login" in told:
@@ -99,6 +101,8 @@ class Numbers:
             self._add("refusals_total", "Commands that were refused.", count, number=number)
         # a stream that holds no rows any more is in no line behind this one
         self._values.pop("held_rows", None)
+        self._values.pop("held_bytes", None)
+        self._values.pop("lag_ticks", None)
 
     def _of_tenant(self, tenant: str, told: Mapping[str, Any]) -> None:
         """What a line tells of one tenant."""
@@ -107,6 +111,9 @@ class Numbers:
                 self._add(name, text, count, **{"tenant": tenant, label: of})
         name, text = "tenant_answers_given_up_total", "Answers of a tenant that were given up."
         self._add(name, text, told.get("given_up", 0), tenant=tenant)
+        if "lag" in told:
+            text = "How far a tenant's query that is the furthest behind is, in ticks."
+            self._set("lag_ticks", text, told["lag"], tenant=tenant)
 
     def _add(self, name: str, text: str, count: float, **labels: str) -> None:
         values = self._of(name, "counter", text)

@@ -4,10 +4,10 @@
 usage: examples/feed.py --port N --tenant NAME --setup FILE --log FILE --offsets FOLDER
            [--ahead ROWS] [--reach TICKS] [--scale N] [--poll SECONDS]
 
-A cqld keeps nothing when it stops. What lasts stands in front of it, here as two files of commands,
-a line of JSON each, as the server takes them: the setup with streams, grants and queries, and the
-log with puts and heartbeats, in the order of their times. The log may grow; the feeder waits for
-more of it.
+A cqld without a journal keeps nothing when it stops. What lasts stands in front of it, here as two
+files of commands, a line of JSON each, as the server takes them: the setup with streams, grants and
+queries, and the log with puts and heartbeats, in the order of their times. The log may grow; the
+feeder waits for more of it.
 
 Where a connection is lost the feeder connects anew. A server without streams was started anew: it
 is told the setup and then the log from its beginning. With --reach, lines are left out which are
@@ -21,10 +21,11 @@ is final no further. So no query is overrun where the quota `hold` is as large a
 rows and those together: each query needs a consumer, and each stream lines in the log that go on,
 heartbeats if no rows.
 
-A connection may be lost, or the feeder be killed, while the server goes on. Then the times that the
-streams still take say which lines came in. Where a stream has several rows at one instant they don't
-say which of these: the feeder then ends rather than put a row twice or leave one out, and a new start
-of the server sets that right. So let it put at most one row of a stream an instant, by --scale N: the
+A connection may be lost, or the feeder be killed, while the server goes on, or comes back with its
+journal. Then the times that the streams still take say which lines came in. Where a stream has
+several rows at one instant they don't say which of these: the feeder then ends rather than put a row
+twice or leave one out, and a new start of the server, without what it had, sets that right. So let it
+put at most one row of a stream an instant, by --scale N: the
 row that is the i-th of its stream at `at` is put at at * N + i, with i from 1 and below N, and a
 heartbeat of `at` at at * N + N - 1. Lengths in the queries' texts are then N times as long, such as
 [Range 6000] for 60 ticks by --scale 100. With it the feeder goes on after any kill. Before it asks for

@@ -3,7 +3,7 @@
 _romburik() {
     local current="${COMP_WORDS[COMP_CWORD]}" before="${COMP_WORDS[COMP_CWORD - 1]}"
     case "$before" in
-    --file | --script | --key-file | --token-file | --ca | --cert | --cert-key | --csv)
+    --file | --script | --key-file | --token-file | --ca | --cert | --cert-key | --csv | --journal)
         mapfile -t COMPREPLY < <(compgen -f -- "$current")
         return
         ;;

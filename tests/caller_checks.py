@@ -15,6 +15,7 @@ from spoken import (
     EMPTY,
     FETCH,
     FETCH_ALL,
+    LENT,
     LIST,
     MOST_KEPT,
     SILENCE,
@@ -242,7 +243,7 @@ def callers_who_do_not_read(program):
                 yield "files of those who don't read", difference(files_of(server), files)
             sizes.append(server.memory())
         # the C library keeps the room of one long reply for good, from the first or the second time on
-        yield "memory behind them", growth(sizes[1], sizes[-1])
+        yield "memory behind them", growth(sizes[1], sizes[-1], MOST_KEPT + LENT)
 
 
 def files_at_rest(server):
@@ -315,7 +316,7 @@ def resets_in_mid_reply(program):
     with Server(program, WIDE, workers=2) as server:
         yield "rows for those who break off", filled(server)
         files, memory = files_at_rest(server), None
-        for turn in range(3):
+        for turn in range(12):
             callers = [Caller(server, "a", window=4096) for _ in range(20)]
             for caller in callers:
                 caller.send(FETCH * 40)
@@ -328,7 +329,9 @@ def resets_in_mid_reply(program):
                     caller.__exit__()
             yield f"a caller behind {turn + 1} times 20 that broke off", served_in(server, 5 * TICK, "b")
             settle(server, files)
-            memory = memory or server.memory()
+            if turn == 5:
+                # by then each thread has the room that it lends
+                memory = server.memory()
         yield "memory behind those who broke off", growth(memory, server.memory(), 4 * MOST_KEPT)
         yield "files behind those who broke off", difference(files_of(server), files)
 

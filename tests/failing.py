@@ -8,7 +8,8 @@ import tempfile
 
 # Each fails at every so manyth call, where the word of its name says how many that is. Of epoll_ctl those
 # count that add a file. A recv that finds nothing takes so many microseconds. Each send adds a byte to a file, and
-# takes at most so many bytes.
+# takes at most so many bytes. A file of eight bytes has the number of the next request for memory that is refused,
+# or 0.
 SOURCE = r"""
 #define _GNU_SOURCE
 #include <dlfcn.h>
@@ -17,6 +18,7 @@ SOURCE = r"""
 #include <stdatomic.h>
 #include <stdlib.h>
 #include <sys/epoll.h>
+#include <sys/mman.h>
 #include <sys/socket.h>
 #include <unistd.h>
 
@@ -24,6 +26,7 @@ static long send_fails_at;
 static long add_fails_at;
 static long moment;
 static long send_takes;
+static atomic_long *refused;
 static int told = -1;
 static atomic_long sends;
 static atomic_long adds;
@@ -41,7 +44,20 @@ __attribute__((constructor)) static void begin(void) {
     if (getenv("SENDS_TOLD")) {
         told = open(getenv("SENDS_TOLD"), O_WRONLY | O_APPEND | O_CREAT, 0600);
     }
+    if (getenv("REFUSED_IN")) {
+        void *at = mmap(NULL, sizeof *refused, PROT_READ | PROT_WRITE, MAP_SHARED, open(getenv("REFUSED_IN"), O_RDWR), 0);
+        refused = at == MAP_FAILED ? NULL : at;
+    }
 }
+
+static int is_refused(void) { return refused && *refused > 0 && atomic_fetch_sub(refused, 1) == 1; }
+
+extern void *__libc_malloc(size_t);
+extern void *__libc_realloc(void *, size_t);
+
+void *malloc(size_t size) { return is_refused() ? NULL : __libc_malloc(size); }
+
+void *realloc(void *old, size_t size) { return is_refused() ? NULL : __libc_realloc(old, size); }
 
 static int fails(atomic_long *calls, long at) { return at && atomic_fetch_add(calls, 1) % at == at - 1; }
 
@@ -83,7 +99,8 @@ int epoll_ctl(int poll, int what, int file, struct epoll_event *event) {
 def under_failing(**words):
     """The words under which a program runs whose calls fail: SEND_FAILS_AT, which then says that nothing can be
     taken now, and ADD_FAILS_AT, which says that there is no memory; or take long: RECV_TAKES; or take few bytes:
-    SEND_TAKES; or are told in a file, a byte for each send: SENDS_TOLD."""
+    SEND_TAKES; or are told in a file, a byte for each send: SENDS_TOLD; or of whose requests for memory one is
+    refused, by its number in a file: REFUSED_IN."""
     with tempfile.TemporaryDirectory() as folder:
         source, library = (pathlib.Path(folder) / name for name in ("failing.c", "failing.so"))
         source.write_text(SOURCE, encoding="ascii")

@@ -24,7 +24,7 @@ from journals import (
     under_wrong_disk,
 )
 from served import DONE, Caller, Ended, Server, beat, block, difference, line_of, login, put, refused, tenants, told
-from spoken import BASE, EMPTY, FETCH, LATE, LIST, QUERY, STREAM, TENANTS, conversation
+from spoken import BASE, EMPTY, FETCH, LATE, LIST, QUERY, STREAM, TENANTS, conversation, well
 
 TOP = pathlib.Path(__file__).resolve().parent.parent
 JUDGE = TOP / "crates/cqlrun/out/cqlrun"
@@ -109,6 +109,29 @@ def copied_under_load(program):
                 opens = {"name": "s", "open": max(0, len(puts) - 1)}
                 yield f"the list of copy {number}", difference(owner.ask(LIST), line_of(queries=[], readable=[], streams=[opens]))
                 killed(server)
+
+
+def audited(program):
+    """Sessions end, and an audit begins at the table's opening: what the file has are calls as others are."""
+    with a_journal() as journal:
+        with Server(program, TENANTS, journal=journal) as server:
+            yield from a_run(server)
+            killed(server)
+        for number in range(2):
+            with Server(program, TENANTS, journal=journal, sessions=2, **({"audit": True} if number else {})) as server:
+                for name, fault in goes_on(server):
+                    yield f"{name} of run {number}", fault
+                yield f"the end of run {number}", difference(server.end(), well(len(CHANGES) + 4 if number else None))
+        with Server(program, TENANTS, journal=journal, sessions=1, audit=True) as server:
+            with Caller(server, "a") as owner:
+                yield "a further call", conversation(owner, (put(11, 3), DONE))
+            yield "the audit behind it", difference(server.end(), well(len(CHANGES) + 1))
+        with Server(program, TENANTS, journal=journal, sessions=1, audit=True) as server:
+            with Caller(server, "a") as owner:
+                yield "calls behind that", conversation(owner, (beat(12), DONE), (FETCH, told(13, block(9, 9, 2), block(11, 11, 3))))
+            yield "the audit behind them", difference(server.end(), well(len(CHANGES) + 3))
+        wanted = [Record(tenant, line.rstrip(b"\n")) for tenant, line in (*CHANGES, ("a", put(11, 3)), ("a", beat(12)))]
+        yield "the records of all", difference(records_of(journal), wanted)
 
 
 def without_a_journal(program):
@@ -329,7 +352,8 @@ def changes_of(lines, replies):
 
 
 def lasting(program, judge, seed, seconds, together=20, table=tenants("abcd", streams=64, queries=16, hold=10_000, result=10_000), under=(), rounds=3, **words):
-    """Kills a server under load, again and again, and looks after each kill whether all that was told lasts."""
+    """Kills a server under load, again and again, and looks after each kill whether all that was told lasts; and at the
+    end has all of it audited."""
     names = "abcd"
     with a_journal() as journal:
         drawn = [Drawn(name, f"{seed} {name}") for name in names]
@@ -360,6 +384,12 @@ def lasting(program, judge, seed, seconds, together=20, table=tenants("abcd", st
                 count = max(len(one.told), line_behind(one.sent, replies, len(had)))
                 one.sent = one.sent[:count]
                 one.told = replies[:count]
+        with Server(program, table, journal=journal, sessions=1, audit=True) as server:
+            with Caller(server, "a") as caller:
+                caller.ask(LIST)
+            ended = server.end()
+            # how far the start was may have been said
+            yield f"the audit of seed {seed}", difference(ended._replace(said=b""), well(len(records) + 1))
 
 
 def line_behind(lines, replies, count):
@@ -384,6 +414,7 @@ def killed_under_load(program):
 CHECKS = (
     killed_and_begun_again,
     copied_under_load,
+    audited,
     without_a_journal,
     cut_off,
     refused_at_start,

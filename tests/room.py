@@ -1,6 +1,7 @@
 """Checks of tests/memory over the built cqld: that no want of memory is told of many rows, how many requests
 for memory a row makes, how many bytes an answer has at once for each, that a login which finds none is told so,
-and that what an answer took is given back to the system.
+that none is asked for behind an answer which its caller takes late, and that what an answer took is given back
+to the system.
 """
 import collections
 import concurrent.futures
@@ -229,6 +230,89 @@ def logins(program, library):
         told_them = set(pool.map(lambda it: login_without(program, library, it), numbers))
     right = NO_MEMORY in told_them and told_them <= {DONE, NO_MEMORY, b""}
     yield "logins without one request", None if right else f"{told_them}"
+
+
+# ---- Replies that are taken late.
+
+# So many rows of a text of few or many bytes, and how often a reply has each. The longer reply has some 440 pieces
+# of 64 KiB, the shorter one five: one request a piece more would be seen.
+LATE_ROWS, FEW_BYTES, MANY_BYTES, LATE_TIMES, MOST_MORE = 24, 8, 1_000, 1_200, 100
+# The replies to which each request is refused in turn have so many copies of each text.
+FEWER_TIMES = 100
+# So many queries whose texts name a column so often stand in a list of some 390 KB.
+LISTED, LISTED_TIMES = 64, 2_030
+# What a caller has the system hold for him, and for how long he takes nothing.
+WINDOW, LATE = 4096, 0.1
+
+
+def late_text(at, size):
+    return f"{at:0{size}}"
+
+
+def late_fetch(size, times):
+    """The lines of a query that tells each row's text so often, a fetch of it, and the fetch's reply."""
+    rows = [(at, late_text(at, size)) for at in range(LATE_ROWS)]
+    lines = [
+        line_of(columns=[["t", "text"]], do="stream", name="s"),
+        query(f"Istream(Select {','.join(['t'] * times)} From s)"),
+        *(line_of(at=at, do="put", row=[text], stream="s") for at, text in rows),
+        line_of(at=LATE_ROWS - 1, do="beat", stream="s"),
+    ]
+    blocks = [{"from": at, "rows": [[text] * times], "to": at} for at, text in rows]
+    return lines, FETCH, line_of(blocks=blocks, next=LATE_ROWS)
+
+
+def late_list():
+    """The lines of queries of long texts, a list of them, and its reply."""
+    columns, names = ["a"] * LISTED_TIMES, [f"q{it}" for it in range(LISTED)]
+    text = f"Istream(Select {','.join(columns)} From s)"
+    lines = [line_of(columns=[["a", "int"]], do="stream", name="s"), *(query(text, name) for name in names)]
+    told_text = f"ISTREAM(SELECT {', '.join(columns)} FROM s [RANGE UNBOUNDED])"
+    queries = [{"base": 0, "name": name, "next": 0, "text": told_text} for name in names]
+    reply = line_of(queries=queries, readable=[], streams=[{"name": "s", "open": 0}])
+    return lines, line_of(do="list"), reply
+
+
+def taken_late(program, library, lines, last, number=0):
+    """The reply to the last line of a caller who begins late to take it, and how many requests were made in
+    all, of which one may be refused. Nothing where the server doesn't begin, or the session ends before."""
+    under = "env", f"LD_PRELOAD={library}", f"REFUSED={number}"
+    with contextlib.suppress(OSError):
+        with Server(program, TABLE, under, workers=1, sessions=1) as server:
+            with Caller(server, "a", window=WINDOW) as caller:
+                caller.serve(lines)
+                caller.send(last)
+                time.sleep(LATE)
+                reply = caller.replies.readline()
+                caller.rest()
+            said = server.end().said
+        return reply, int(re.findall(rb"^requests (\d+)$", said, re.MULTILINE)[-1])
+    return b"", 0
+
+
+def replies_taken_late(program, library):
+    """Behind an answer that was made no memory is asked for, however long its caller lets it wait: whichever one
+    request is refused, he is told the whole of it, or 70 in its place."""
+    found = []
+    for size in (FEW_BYTES, MANY_BYTES):
+        lines, last, wanted = late_fetch(size, LATE_TIMES)
+        reply, requests = taken_late(program, library, lines, last)
+        yield f"a reply of {len(wanted)} bytes that is taken late", None if reply == wanted else f"{len(reply)} bytes"
+        found.append(requests)
+    few, many = found
+    same = many - few <= MOST_MORE
+    yield "requests of a short and of a long reply that are taken late", None if same else f"{few} and {many}"
+    for name, (lines, last, wanted) in (
+        ("a fetch", late_fetch(MANY_BYTES, FEWER_TIMES)),
+        ("a list", late_list()),
+    ):
+        reply, requests = taken_late(program, library, lines, last)
+        yield f"{name} that is taken late", None if reply == wanted else f"{reply[:200]!r}"
+        numbers = range(max(1, requests - LAST), requests + 1)
+        with concurrent.futures.ThreadPoolExecutor(os.cpu_count()) as pool:
+            ends = pool.map(lambda it: taken_late(program, library, lines, last, it)[0], numbers)
+            wrong = [it for it, reply in zip(numbers, ends) if reply not in (wanted, NO_MEMORY, b"")]
+        yield f"{name} that is taken late without one request", None if not wrong else f"without request {wrong}"
 
 
 # ---- What is given back.

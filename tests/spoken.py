@@ -51,6 +51,8 @@ SILENCE = 0.3
 MOST_BUSY = 0.1
 # How much more memory the server may have behind many callers than behind few.
 MOST_KEPT = 512 << 10
+# Of the room that threads lend, what three of them touch at their first long turns.
+LENT = 3 * 192 << 10
 
 
 def stream_open_at(instant):

@@ -5,6 +5,8 @@ import collections
 import contextlib
 import heapq
 import itertools
+import json
+import mmap
 import pathlib
 import random
 import select
@@ -51,6 +53,8 @@ TALKERS, MOST_OF_A_TALKER = 100, 16 << 10
 # Rounds of a put, a heartbeat, a fetch and an ack, so many times; and the most sends that one may take where they
 # take the fewest: beside other work a short fetch isn't at times.
 ROUNDS, TIMES, MOST_SENDS = 20, 10, 1.1
+# Of a caller who sends rounds and then puts in one write, so many requests for memory are refused, one in each session.
+REFUSALS, FEW_ROUNDS, PUTS = 150, 4, 40
 # A send that takes at most so many bytes, and lines whose replies are more, which stand ready together.
 FEW_BYTES, GATHERED = 5_000, 1_000
 # How many long replies one caller takes, of which more than 64 MiB are held back in all.
@@ -351,6 +355,57 @@ def silent_behind_long_lines(program):
         yield "what is kept behind long lines", None if each <= MOST_OF_A_TALKER else f"{each} bytes of each"
 
 
+# ---- Want of memory.
+
+
+def of_rounds(first):
+    """Lines of rounds and of puts, each put at an instant of its own."""
+    for at in range(first, first + FEW_ROUNDS):
+        yield from (put(at, at), beat(at), FETCH)
+    yield from (put(at, at) for at in range(first + FEW_ROUNDS, first + FEW_ROUNDS + PUTS))
+
+
+def replies_until_the_end(caller):
+    """The lines that come until the connection ends, in whatever way."""
+    told = b""
+    with contextlib.suppress(ConnectionResetError):
+        while piece := caller.socket.recv(1 << 16):
+            told += piece
+    return told.splitlines(keepends=True)
+
+
+def nothing_done_is_lost(program):
+    """Where a request for memory is refused, whichever it is, each line that was done is told so."""
+    if are_wanting("replies where memory is refused", "gcc"):
+        return
+    with tempfile.NamedTemporaryFile() as file:
+        file.write(bytes(8))
+        file.flush()
+        lost, refused = [], mmap.mmap(file.fileno(), 8)
+        table = tenants("a", hold=1000)
+        with under_failing(REFUSED_IN=file.name) as under, Server(program, table, under, workers=1) as server:
+            with Caller(server, "a") as maker:
+                maker.serve([STREAM, QUERY, line_of(do="query", name="seen", text="Select Istream(v) From s [Now]")])
+                for number in range(1, REFUSALS + 1):
+                    first = number * (FEW_ROUNDS + PUTS)
+                    lines = list(of_rounds(first))
+                    with Caller(server, "a") as caller:
+                        refused[:] = number.to_bytes(8, "little")
+                        with contextlib.suppress(OSError):
+                            caller.send(*lines)
+                            caller.socket.shutdown(socket.SHUT_WR)
+                        told_all = replies_until_the_end(caller)
+                        refused[:] = bytes(8)
+                    told_ones = [at for at, (line, reply) in enumerate(zip(lines, told_all)) if b'"put"' in line and reply == DONE]
+                    maker.serve([beat(first + FEW_ROUNDS + PUTS - 1)])
+                    seen = json.loads(maker.ask(line_of(do="fetch", name="seen")))
+                    done = sum(len(it["rows"]) for it in seen["blocks"])
+                    maker.serve(line_of(do="ack", name=name, to=seen["next"]) for name in ("q", "seen"))
+                    if done != len(told_ones):
+                        lost.append(f"{done} puts are done and {len(told_ones)} told without request {number}")
+        yield "replies where memory is refused", lost[0] if lost else None
+
+
 CHECKS = (
     nobody_is_forgotten,
     tenants_take_turns,
@@ -366,4 +421,5 @@ CHECKS = (
     replies_keep_their_order,
     quick_and_then_quiet,
     silent_behind_long_lines,
+    nothing_done_is_lost,
 )

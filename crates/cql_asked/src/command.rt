@@ -1,16 +1,18 @@
 //! The command of a line.
-ghost use Rattle.std.specs.Prelude.{◌≡◌, map, Some, IfOk, ok_or, codes};
+ghost use Rattle.std.specs.Arc.{arc_value};
+ghost use Rattle.std.specs.Prelude.{◌≡◌, map, Some, IfOk, IfErr, Ok, Err, ok_or, codes};
 ghost use Rattle.cql_lines.specs.View.{view, items_view};
 ghost use Rattle.serde_json.specs.Find.{as_str};
 ghost use Rattle.serde_json.specs.Read.{read};
 ghost use Rattle.cql_lines.specs.Tree.{text_at, optional_text, all_of};
-ghost use Rattle.cql_asked.specs.Command.{verb_of, keys_of, value_of, column_of, stream_of, named_columns_of, grant_of, revoke_of, put_of, beat_of, query_of, fetch_of, ack_of, drop_of, of_verb, of_keys, of_data, command_of};
+ghost use Rattle.cql_asked.specs.Command.{verb_of, keys_of, value_of, column_of, stream_of, named_columns_of, grant_of, revoke_of, put_of, beat_of, query_of, fetch_of, ack_of, drop_of, of_verb, of_keys, of_data, command_of, own_command};
 ghost use Rattle.cql_asked.specs.Fault.{Means};
 
 use crate::fault::LineFault;
+use crate::kind::Kind;
 use crate::named::Named;
 use crate::put::{NoPut, read_put};
-use cql_core::{ColumnText, Command};
+use cql_core::{ColumnText, Command, Prepared, prepare};
 use cql_lines::reading::{line_text, read_tree};
 use cql_lines::tree::{
     Tree, array_at, has_only, optional_array, optional_text, optional_whole, text_at, whole_at,
@@ -18,6 +20,7 @@ use cql_lines::tree::{
 use cql_value::{Items, Row, Text, Value};
 use json::Scratch;
 use std::alloc::Global;
+use std::sync::Arc;
 
 /// The word of a command: what stands at the key `do`.
 #[derive(Clone, Copy)]
@@ -373,4 +376,33 @@ pub fn read_command(
         }
         Err(fault) => Err(fault),
     }
+}
+
+/// What a line asks that may name no tenant (`BadKey`, 12), prepared for a call, with its kind; else its fault is
+/// that of `read_command`. Sessions and journals share this function, so what reads a line is there once, and
+/// has what it calls in itself.
+#[inline(never)]
+pub fn read_call(
+    alloc: Global,
+    line: &[u8],
+    scratch: &mut Scratch,
+) -> Result<(Kind, Arc<Prepared>), LineFault>
+    ensures ok { IfOk result (λ call. own_command (command_of line.now) ≡ Ok (arc_value call.1)) }
+    ensures err { IfErr result (λ fault. Means (own_command (command_of line.now)) (Err fault)) }
+{
+    let command = own_command(alloc, line, scratch)?;
+    let kind = Kind::of(&command);
+    let prepared = prepare(alloc, command)?;
+    Ok((kind, prepared))
+}
+
+// The command of a line that may name no tenant.
+fn own_command(alloc: Global, line: &[u8], scratch: &mut Scratch) -> Result<Command, LineFault>
+    ensures { Means (own_command (command_of line.now)) result }
+{
+    let (tenant, command) = read_command(alloc, line, scratch)?;
+    if tenant.is_some() {
+        return Err(LineFault::BadKey);
+    }
+    Ok(command)
 }

@@ -3,15 +3,17 @@
 
 mod command;
 mod fault;
+mod kind;
 mod login;
 mod named;
 mod put;
 mod rules;
 mod tenants;
 
-pub use command::{read_addressed, read_command};
+pub use command::{read_addressed, read_call, read_command};
 pub use fault::LineFault;
 pub use json::Scratch;
+pub use kind::Kind;
 pub use login::{named_tenant, read_login};
 pub use named::Named;
 pub use rules::{BrokenRule, TenantKey, TenantRule};

@@ -8,4 +8,5 @@ mod Beginning
 mod Leaving
 mod Stepping
 mod Recovering
+mod Restarting
 mod Instances

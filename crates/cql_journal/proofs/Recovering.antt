@@ -181,9 +181,9 @@ whole (Some t) (Some xs) None left chain batches h a c p k n m = absurd p
 whole (Some t) (Some xs) (Some ys) None chain batches h a c p k n m = absurd k
 whole (Some t) (Some xs) (Some ys) (Some zs) chain batches h a c p k n m = (ys, (xs, h, record { text_is = p; are = a; none = subst (λ x. NoBatch x ys) c (subst (NoBatch chain) k n) }), subst HidesNone k m)
 
-pub recovered : (table : List Tenant) (file before come left : Option (List ℕ)) (number : ℕ) (old : State) (from : Place) (r : Recovered) → Consumes file before heading → Recovering table before come number old from → Keeps come left
-    → IfSome left (λ text. NoBatch from.chain text) → IfSome left HidesNone → r.core ≡ old → r.chain ≡ from.chain → r.batches ≡ number → r.count ≡ from.count → r.bytes ≡ from.bytes → Recovers table file r
-recovered table file before come left number old from r h s k n m core chain batches count bytes = record {
+pub recovered : (table : List Tenant) (file before come left : Option (List ℕ)) (number : ℕ) (old : State) (from : Place) (state : State) (r : Recovered) → Consumes file before heading → Recovering table before come number old from → Keeps come left
+    → IfSome left (λ text. NoBatch from.chain text) → IfSome left HidesNone → state ≡ old → r.chain ≡ from.chain → r.batches ≡ number → r.count ≡ from.count → r.bytes ≡ from.bytes → Recovers table file state r
+recovered table file before come left number old from state r h s k n m core chain batches count bytes = record {
   batches = s.batches;
   whole = whole file before come left from.chain s.batches h s.are s.chain_is s.consumed k n m;
   chain_is = chain ∙ s.chain_is;
@@ -297,9 +297,9 @@ of_file None left held Part none b = tt
 of_file None left held Other none b = tt
 of_file (Some x) left held begin none b = subst (λ h. Begins (Some (h ++ x)) left begin) none b
 
-pub opens : (table : List Tenant) (file : Option (List ℕ)) (r : Recovered) → IfSome file IsNew → r.core ≡ opening table → r.chain ≡ first_chain → r.batches ≡ 0 → r.count ≡ 0 → r.bytes ≡ 0 → Opens table file r
-opens table file r new core chain batches count bytes = record { new = new; chain_is = chain; state_is = core; none = (batches, count, bytes) }
+pub opens : (table : List Tenant) (file : Option (List ℕ)) (state : State) (r : Recovered) → IfSome file IsNew → state ≡ opening table → r.chain ≡ first_chain → r.batches ≡ 0 → r.count ≡ 0 → r.bytes ≡ 0 → Opens table file state r
+opens table file state r new core chain batches count bytes = record { new = new; chain_is = chain; state_is = core; none = (batches, count, bytes) }
 
-pub or_opens : (table : List Tenant) (file : Option (List ℕ)) (r : Result Recovered RecoveryFault) → IfOk r (λ x. Recovers table file x) → IfOk r (λ x. Recovers table file x ⊎ Opens table file x)
-or_opens table file (Ok x) h = inl h
-or_opens table file (Err e) h = tt
+pub or_opens : (table : List Tenant) (file : Option (List ℕ)) (state : State) (r : Result Recovered RecoveryFault) → IfOk r (λ x. Recovers table file state x) → IfOk r (λ x. Recovers table file state x ⊎ Opens table file state x)
+or_opens table file state (Ok x) h = inl h
+or_opens table file state (Err e) h = tt

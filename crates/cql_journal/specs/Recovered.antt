@@ -99,20 +99,20 @@ abbrev pub IsWhole : List ℕ → List (List Entry) → Type 0
 IsWhole text batches = (rest : List ℕ) × IsFile text batches rest × HidesNone rest
 
 -- The state is the machine's, run from the opening of the table over the commands of the records of these batches, each of which changed it in its turn. They are the whole batches of the file, which ends behind them if it is cut off there.
-pub record Recovers (table : List Tenant) (file : Option (List ℕ)) (r : Recovered) : Type 0 where
+pub record Recovers (table : List Tenant) (file : Option (List ℕ)) (state : State) (r : Recovered) : Type 0 where
   pub batches : List (List Entry)
   pub whole : IfSome file (λ text. IsWhole text batches)
   pub chain_is : r.chain ≡ chain_behind first_chain batches
-  pub replayed : Replayed table (all_entries batches) (opening table) r.core
+  pub replayed : Replayed table (all_entries batches) (opening table) state
   pub number_is : r.batches ≡ length batches
   pub count_is : r.count ≡ counted (length (all_entries batches))
   pub bytes_are : r.bytes ≡ length (file_of batches)
 
 -- The file has no whole first line, and nothing was told: the state is that of the table.
-pub record Opens (table : List Tenant) (file : Option (List ℕ)) (r : Recovered) : Type 0 where
+pub record Opens (table : List Tenant) (file : Option (List ℕ)) (state : State) (r : Recovered) : Type 0 where
   pub new : IfSome file IsNew
   pub chain_is : r.chain ≡ first_chain
-  pub state_is : r.core ≡ opening table
+  pub state_is : state ≡ opening table
   pub none : (r.batches ≡ 0) × (r.count ≡ 0) × (r.bytes ≡ 0)
 
 -- The records before this one are replayed, and this one, of a whole batch, leads nowhere.

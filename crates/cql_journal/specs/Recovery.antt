@@ -1,6 +1,7 @@
 -- The state that the records of a journal lead to.
-use Rattle.std.specs.Prelude.{⊤, ◌≡◌, ◌≢◌, ◌⊎◌, ◌+◌, ◌-◌, ◌^◌, ℕ, Bool, true, false, List, [], ◌∷◌, ◌++◌, length, map, min, Option, Some, None, option_map, option_and_then, Result, Ok, Err, codes}
+use Rattle.std.specs.Prelude.{⊤, ◌≡◌, ◌≢◌, ◌⊎◌, ◌+◌, ◌-◌, ◌^◌, ℕ, Bool, true, false, List, [], ◌∷◌, ◌++◌, length, map, min, Option, Some, None, option_map, option_and_then, codes}
 use Rattle.std.specs.Str.{IsUtf8}
+use Rattle.std.specs.Result.{result_ok}
 use Rattle.std.specs.List.{AllByRecursion}
 use Rattle.cql_tenants.specs.declared.tenants.Tenant.{Tenant}
 use Rattle.cql_tenants.specs.Tenants.{index_of}
@@ -10,8 +11,7 @@ use Rattle.cql_core.specs.Machine.{State, reply_to, state_after, step_of, Steppe
 use Rattle.cql_core.specs.Law.{state_from}
 use Rattle.cql_core.specs.Refusal.{name_of}
 use Rattle.cql_core.specs.Cql.{cql}
-use Rattle.cql_asked.specs.declared.fault.LineFault.{LineFault}
-use Rattle.cql_asked.specs.Command.{command_of}
+use Rattle.cql_asked.specs.Command.{command_of, own_command}
 use Rattle.cql_journal.specs.Record.{Entry, Fits, record_lines}
 use Rattle.cql_journal.specs.declared.replaying.Unfit.{Unfit}
 use Rattle.cql_journal.specs.declared.replaying.Unfit.TheVariants.{UnknownTenant, NoCommand, Refused, Unchanged, NoMemory}
@@ -19,15 +19,9 @@ use Rattle.cql_core.specs.declared.refusal.Refusal.TheVariants.{NoMemory as no_r
 
 -- ---- what a record means
 
--- the command of a line that names no tenant
-abbrev pub unaddressed : Result (Option (List ℕ) × Command) LineFault → Option Command
-unaddressed (Ok (None, command)) = Some command
-unaddressed (Ok (Some name, command)) = None
-unaddressed (Err fault) = None
-
 -- the command that a line says, where it is one and names no tenant
 unfoldable pub said_by : List ℕ → Option Command
-said_by line = unaddressed (command_of line)
+said_by line = result_ok (own_command (command_of line))
 
 -- what a record means: the command of its line, by the tenant of its name
 unfoldable pub call_of : List Tenant → Entry → Option (ℕ × Command)

@@ -1,8 +1,8 @@
 //! The laws of a journal: functions that do nothing, whose contracts are the laws.
-ghost use Rattle.cql_journal.specs.Law.{IsRecordedLaw};
+ghost use Rattle.cql_journal.specs.Law.{IsRecordedLaw, IsRestartLaw};
 ghost use Rattle.cql_journal.specs.Splits.{IsAppendLaw, IsFrontLaw, IsOneReadingLaw, IsRoundTripLaw};
 
-use cql_core::law::{fetch_law, refusal_law};
+use cql_core::law::{fetch_law, refusal_law, solo_law};
 
 /// A text has one list of whole batches, and one rest behind them.
 pub fn one_reading_law()
@@ -30,4 +30,13 @@ pub fn recorded_law()
 {
     refusal_law();
     fetch_law();
+}
+
+/// Whatever is called of servers of which each begins at what the journal leads to that those before it
+/// have left, each tenant is told what its view of all their calls means: as if the first had never ended.
+pub fn restart_law()
+    ensures { IsRestartLaw }
+{
+    solo_law();
+    recorded_law();
 }

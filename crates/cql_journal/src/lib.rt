@@ -9,6 +9,7 @@ mod recovery;
 mod replaying;
 mod searching;
 mod starting;
+mod state_machine;
 mod writing;
 
 pub use reading::MAX_BATCH;
@@ -16,4 +17,5 @@ pub use record::{CHAIN, Chain, FIRST, Record};
 pub use recovery::{Onlooker, Recovered, RecoveryFault, Untold, recover};
 pub use replaying::{Unfit, UnfitRecord};
 pub use starting::HEADING;
+pub use state_machine::StateMachine;
 pub use writing::{BatchFault, append_waiting, reserve_waiting, write_batch};

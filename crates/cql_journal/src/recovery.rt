@@ -1,4 +1,4 @@
-//! The core that the records of a journal lead to.
+//! The state that the records of a journal lead to.
 ghost use Rattle.std.specs.Prelude.{List, ℕ, Option, ◌≡◌, ◌⊎◌, ◌+◌, ◌^◌, ◌≤◌, length, take, true, false, IfErr, IfOk, OnOk, IfSome, IfNone};
 ghost use Rattle.std.specs.Io.KnownBytes.{Consumes, prepend_known};
 ghost use Rattle.cql_lines.specs.Watched.{inner_of, has_failed};
@@ -12,13 +12,14 @@ use crate::record::{CHAIN, COMMIT, Chain, FIRST};
 use crate::replaying::{UnfitRecord, replay_lines};
 use crate::searching::hides_batch;
 use crate::starting::{Begin, HEADING, take_heading};
+use crate::state_machine::StateMachine;
 use cql_asked::Scratch;
-use cql_core::{Core, TenantTable};
+use cql_core::TenantTable;
 use cql_lines::Watched;
 use std::alloc::{AllocError, Global};
 use std::io::Read;
 
-/// Why a journal gives no core.
+/// Why a journal leads to no state.
 #[derive(Clone, Copy, PartialEq, Eq)]
 pub enum RecoveryFault {
     /// The first line is another one: this is no journal of this format.
@@ -70,9 +71,9 @@ impl Onlooker for Untold {
     fn tell(&mut self, _count: u64, _bytes: u64) {}
 }
 
-/// A core that the whole batches of a journal lead to.
+/// How far the whole batches of a journal go.
+#[derive(Clone, Copy)]
 pub struct Recovered {
-    pub core: Core,
     /// The chain of the last batch: the next one is written behind it.
     pub chain: Chain,
     /// How many whole batches there are.
@@ -82,34 +83,6 @@ pub struct Recovered {
     /// How many bytes the first line and the whole batches have. The file is to be cut off there, and
     /// the next batch written there. None where the first line isn't whole.
     pub bytes: u64,
-}
-
-impl Recovered {
-    /// The core, the chain of the last batch, and how many bytes the file is to keep.
-    pub fn into_parts(self) -> (Core, Chain, u64)
-        ensures { (result.0 ≡ self.core) × (result.1 ≡ self.chain) × (result.2 ≡ self.bytes) }
-    {
-        let Recovered {
-            core,
-            chain,
-            batches: _,
-            count: _,
-            bytes,
-        } = self;
-        (core, chain, bytes)
-    }
-}
-
-impl Drop for Recovered {
-    fn drop(self) {
-        let Recovered {
-            core: _,
-            chain: _,
-            batches: _,
-            count: _,
-            bytes: _,
-        } = self;
-    }
 }
 
 /// Where a recovery is.
@@ -147,20 +120,20 @@ fn place_behind(place: &Place, count: u64, size: usize, rest: &[u8]) -> Option<P
     })
 }
 
-// One batch more, where a whole one stands there. After an `Err` the core is of no use.
-fn take_batch<R: Read>(
+// One batch more, where a whole one stands there. After an `Err` the machine is of no use.
+fn take_batch<R: Read, M: StateMachine>(
     alloc: Global,
     table: &TenantTable,
-    core: &mut Core,
+    machine: &mut M,
     place: &mut Place,
     scratch: &mut Scratch,
     ahead: &mut ReadAhead,
     reader: &mut Watched<R>,
 ) -> Result<bool, RecoveryFault>
     requires { IsChain place.old.chain }
-    ensures more { IfOk result (λ more. more ≡ true → TakesBatch table.now (prepend_known ahead.old (R.remaining (inner_of reader.old))) (prepend_known ahead.new (R.remaining (inner_of reader.new))) core.old core.new place.old place.new) }
-    ensures over { IfOk result (λ more. more ≡ false → NothingLeft (prepend_known ahead.old (R.remaining (inner_of reader.old))) (prepend_known ahead.new (R.remaining (inner_of reader.new))) core.old core.new place.old place.new) }
-    ensures err { IfErr result (λ fault. StopsIn table.now (prepend_known ahead.old (R.remaining (inner_of reader.old))) core.old place.old (has_failed reader.new) fault) }
+    ensures more { IfOk result (λ more. more ≡ true → TakesBatch table.now (prepend_known ahead.old (R.remaining (inner_of reader.old))) (prepend_known ahead.new (R.remaining (inner_of reader.new))) (M.state machine.old) (M.state machine.new) place.old place.new) }
+    ensures over { IfOk result (λ more. more ≡ false → NothingLeft (prepend_known ahead.old (R.remaining (inner_of reader.old))) (prepend_known ahead.new (R.remaining (inner_of reader.new))) (M.state machine.old) (M.state machine.new) place.old place.new) }
+    ensures err { IfErr result (λ fault. StopsIn table.now (prepend_known ahead.old (R.remaining (inner_of reader.old))) (M.state machine.old) place.old (has_failed reader.new) fault) }
 {
     let front = match front_at(ahead, reader, &place.chain) {
         Ok(front) => front,
@@ -173,7 +146,7 @@ fn take_batch<R: Read>(
     match replay_lines(
         alloc,
         table,
-        core,
+        machine,
         &place.chain,
         lines,
         place.count,
@@ -207,27 +180,26 @@ fn end_of<R: Read>(
     }
 }
 
-// The core that the whole batches behind the first line lead to.
-fn recover_batches<R: Read, P: Onlooker>(
+// Steps the records of the whole batches behind the first line.
+fn recover_batches<R: Read, M: StateMachine, P: Onlooker>(
     alloc: Global,
     table: &TenantTable,
-    core: Core,
+    machine: &mut M,
     ahead: &mut ReadAhead,
     reader: &mut Watched<R>,
     onlooker: &mut P,
 ) -> Result<Recovered, RecoveryFault>
-    requires { core ≡ opening table.now }
-    ensures ok { (file : Option (List ℕ)) → Consumes file (prepend_known ahead.old (R.remaining (inner_of reader.old))) heading → IfOk result (λ r. Recovers table.now file r) }
+    requires { M.state machine.old ≡ opening table.now }
+    ensures ok { (file : Option (List ℕ)) → Consumes file (prepend_known ahead.old (R.remaining (inner_of reader.old))) heading → IfOk result (λ r. Recovers table.now file (M.state machine.new) r) }
     ensures err { (file : Option (List ℕ)) → Consumes file (prepend_known ahead.old (R.remaining (inner_of reader.old))) heading → IfErr result (λ fault. Fails table.now file (has_failed reader.new) fault) }
 {
-    let mut core = core;
     let mut scratch = Scratch::new(alloc);
     let mut place = first_place();
     for batches in 0..u64::MAX {
         match take_batch(
             alloc,
             table,
-            &mut core,
+            machine,
             &mut place,
             &mut scratch,
             ahead,
@@ -235,47 +207,46 @@ fn recover_batches<R: Read, P: Onlooker>(
         ) {
             Err(fault) => return Err(fault),
             Ok(true) => onlooker.tell(place.count, place.bytes),
-            Ok(false) => {
-                return match end_of(ahead, reader, place.bytes) {
-                    Err(fault) => Err(fault),
-                    Ok(()) => Ok(Recovered {
-                        core,
+            Ok(false) => match end_of(ahead, reader, place.bytes) {
+                Err(fault) => return Err(fault),
+                Ok(()) => {
+                    return Ok(Recovered {
                         chain: place.chain,
                         batches,
                         count: place.count,
                         bytes: place.bytes,
-                    }),
-                };
-            }
+                    });
+                }
+            },
         }
     }
     Err(RecoveryFault::TooMany)
 }
 
-/// The core that the whole batches of a journal lead to, from a new core of the table. The reader stands
-/// at the file's beginning. Where a batch isn't whole, the journal ends in front of it; but where a whole
-/// one stands behind that, it is damaged.
-pub fn recover<R: Read, P: Onlooker>(
+/// Steps the records of the whole batches of a journal on a machine that is as the table opens, and tells how
+/// far they go. The reader stands at the file's beginning. Where a batch isn't whole, the journal ends in front
+/// of it; but where a whole one stands behind that, it is damaged. After an `Err` the machine is of no use.
+pub fn recover<R: Read, M: StateMachine, P: Onlooker>(
     alloc: Global,
     table: &TenantTable,
+    machine: &mut M,
     reader: &mut Watched<R>,
     onlooker: &mut P,
 ) -> Result<Recovered, RecoveryFault>
-    ensures ok { IfOk result (λ r. Recovers table.now (R.remaining (inner_of reader.old)) r ⊎ Opens table.now (R.remaining (inner_of reader.old)) r) }
+    requires { M.state machine.old ≡ opening table.now }
+    ensures ok { IfOk result (λ r. Recovers table.now (R.remaining (inner_of reader.old)) (M.state machine.new) r ⊎ Opens table.now (R.remaining (inner_of reader.old)) (M.state machine.new) r) }
     ensures err { IfErr result (λ fault. Fails table.now (R.remaining (inner_of reader.old)) (has_failed reader.new) fault) }
 {
-    let core = Core::new(alloc, table)?;
     let mut ahead = ReadAhead::new(alloc)?;
     match take_heading(&mut ahead, reader) {
         Err(stop) => Err(fault_of(stop)),
         Ok(Begin::Other) => Err(RecoveryFault::OtherFormat),
         Ok(Begin::Part) => Ok(Recovered {
-            core,
             chain: FIRST,
             batches: 0,
             count: 0,
             bytes: 0,
         }),
-        Ok(Begin::Whole) => recover_batches(alloc, table, core, &mut ahead, reader, onlooker),
+        Ok(Begin::Whole) => recover_batches(alloc, table, machine, &mut ahead, reader, onlooker),
     }
 }

@@ -1,5 +1,6 @@
-//! Records that are stepped on a core.
+//! Records that are stepped on a machine.
 ghost use Rattle.std.specs.Prelude.{◌≡◌, ◌⊎◌, OnOk, IfOk, IfErr, IfSome, IfNone, Some, None, true};
+ghost use Rattle.std.specs.Arc.{arc_value};
 ghost use Rattle.std.specs.Str.{IsUtf8};
 ghost use Rattle.cql_journal.specs.Record.{IsChain};
 ghost use Rattle.cql_journal.specs.Taken.{entry_of};
@@ -8,9 +9,11 @@ ghost use Rattle.cql_tenants.specs.Tenants.{index_of};
 ghost use Rattle.cql_core.specs.Steps.{stepped_of};
 
 use crate::record::{Chain, Record, record_in, split_line};
-use cql_asked::{LineFault, Scratch, read_command};
-use cql_core::{Command, Core, Prepared, Refusal, Reply, Step, TenantId, TenantTable, prepare};
-use std::alloc::{AllocError, Global};
+use crate::state_machine::StateMachine;
+use cql_asked::{LineFault, Scratch, read_call};
+use cql_core::{Prepared, Refusal, Reply, Step, TenantId, TenantTable};
+use std::alloc::Global;
+use std::sync::Arc;
 
 /// Why a record leads nowhere.
 #[derive(Clone, Copy, PartialEq, Eq)]
@@ -51,15 +54,14 @@ pub struct UnfitRecord {
     pub unfit: Unfit,
 }
 
-// The command of a record's line.
+// What a record's line asks, prepared.
 #[tactic(auto, unfolding(crate::specs::Recovery::said_by))]
-fn command_in(alloc: Global, line: &[u8], scratch: &mut Scratch) -> Result<Command, Unfit>
-    ensures ok { IfOk result (λ command. said_by line.now ≡ Some command) }
+fn prepared_in(alloc: Global, line: &[u8], scratch: &mut Scratch) -> Result<Arc<Prepared>, Unfit>
+    ensures ok { IfOk result (λ prepared. said_by line.now ≡ Some (arc_value prepared)) }
     ensures err { IfErr result (λ e. (e ≡ Unfit.NoMemory) ⊎ ((e ≡ Unfit.NoCommand) × (said_by line.now ≡ None))) }
 {
-    match read_command(alloc, line, scratch) {
-        Ok((None, command)) => Ok(command),
-        Ok(_) => Err(Unfit::NoCommand),
+    match read_call(alloc, line, scratch) {
+        Ok((_kind, prepared)) => Ok(prepared),
         Err(LineFault::NoMemory) => Err(Unfit::NoMemory),
         Err(_) => Err(Unfit::NoCommand),
     }
@@ -91,60 +93,44 @@ fn outcome_of(step: &Step) -> Result<(), Unfit>
 }
 
 // Steps a command that has to change the core.
-fn step_record(
+fn step_record<M: StateMachine>(
     alloc: Global,
-    core: &mut Core,
+    machine: &mut M,
     tenant: TenantId,
-    prepared: &Prepared,
+    prepared: &Arc<Prepared>,
 ) -> Result<(), Unfit>
-    ensures ok { OnOk result (Changed core.old tenant prepared.now core.new) }
-    ensures err { IfErr result (λ e. Stands core.old tenant prepared.now e) }
+    ensures ok { OnOk result (Changed (M.state machine.old) tenant (arc_value prepared.now) (M.state machine.new)) }
+    ensures err { IfErr result (λ e. Stands (M.state machine.old) tenant (arc_value prepared.now) e) }
 {
-    let step = core.step(alloc, tenant, prepared);
+    let step = machine.step(alloc, tenant, prepared);
     outcome_of(&step)
 }
 
-// Prepares and steps a command that has to change the core.
-fn replay_command(
-    alloc: Global,
-    core: &mut Core,
-    tenant: TenantId,
-    command: Command,
-) -> Result<(), Unfit>
-    ensures ok { OnOk result (Changed core.old tenant command core.new) }
-    ensures err { IfErr result (λ e. Stands core.old tenant command e) }
-{
-    match prepare(alloc, command) {
-        Ok(prepared) => step_record(alloc, core, tenant, &prepared),
-        Err(_) => Err(Unfit::NoMemory),
-    }
-}
-
 // One record more.
-fn replay_record(
+fn replay_record<M: StateMachine>(
     alloc: Global,
     table: &TenantTable,
-    core: &mut Core,
+    machine: &mut M,
     given: Record<'_>,
     scratch: &mut Scratch,
 ) -> Result<(), Unfit>
-    ensures ok { OnOk result (Replays table.now core.old (entry_of given.entry) core.new) }
-    ensures err { IfErr result (λ e. Misfits table.now core.old (entry_of given.entry) e) }
+    ensures ok { OnOk result (Replays table.now (M.state machine.old) (entry_of given.entry) (M.state machine.new)) }
+    ensures err { IfErr result (λ e. Misfits table.now (M.state machine.old) (entry_of given.entry) e) }
 {
     let Some(tenant) = tenant_in(table, given.tenant) else {
         return Err(Unfit::UnknownTenant);
     };
-    match command_in(alloc, given.line, scratch) {
-        Ok(command) => replay_command(alloc, core, tenant, command),
+    match prepared_in(alloc, given.line, scratch) {
+        Ok(prepared) => step_record(alloc, machine, tenant, &prepared),
         Err(unfit) => Err(unfit),
     }
 }
 
-/// Steps the records of a batch behind a chain, and gives how many there are with those before. After an `Err` the core is of no use.
-pub(crate) fn replay_lines(
+/// Steps the records of a batch behind a chain, and gives how many there are with those before. After an `Err` the machine is of no use.
+pub(crate) fn replay_lines<M: StateMachine>(
     alloc: Global,
     table: &TenantTable,
-    core: &mut Core,
+    machine: &mut M,
     chain: &Chain,
     lines: &[u8],
     count: u64,
@@ -152,8 +138,8 @@ pub(crate) fn replay_lines(
 ) -> Result<u64, UnfitRecord>
     requires chain { IsChain chain.now }
     requires lines { AreLines chain.now lines.now }
-    ensures ok { IfOk result (λ counts. ReplaysLines table.now chain.now lines.now core.old core.new count counts) }
-    ensures err { IfErr result (λ stop. StopsInLines table.now chain.now lines.now core.old count stop.at stop.unfit) }
+    ensures ok { IfOk result (λ counts. ReplaysLines table.now chain.now lines.now (M.state machine.old) (M.state machine.new) count counts) }
+    ensures err { IfErr result (λ stop. StopsInLines table.now chain.now lines.now (M.state machine.old) count stop.at stop.unfit) }
 {
     let mut rest = lines;
     let mut counts = count;
@@ -161,7 +147,7 @@ pub(crate) fn replay_lines(
         let Some(given) = record_in(chain, line) else {
             return Ok(counts);
         };
-        if let Err(unfit) = replay_record(alloc, table, core, given, scratch) {
+        if let Err(unfit) = replay_record(alloc, table, machine, given, scratch) {
             return Err(UnfitRecord { at: counts, unfit });
         }
         counts = counts.saturating_add(1);

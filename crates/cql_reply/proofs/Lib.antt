@@ -1,4 +1,5 @@
 pub mod Buffering
 mod Escaping
+pub mod Pieces
 mod Plain
 pub mod Telling

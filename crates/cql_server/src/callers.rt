@@ -1,12 +1,10 @@
 // Sessions of a listener's callers.
-ghost use Rattle.std.specs.Prelude.{◌≡◌, ◌⊎◌, All, IfErr, true, false, Err};
+ghost use Rattle.std.specs.Prelude.{◌≡◌, All, IfErr, true, false, Err};
 ghost use Rattle.cql_ops.specs.Bench.{IsBench};
 ghost use Rattle.cql_server.specs.declared.failure.Failure.TheVariants as failure;
-ghost use Rattle.cql_server.specs.declared.journal_file.JournalFault.TheVariants as fault;
 
 use crate::auditing::{Audited, audit_sessions};
 use crate::failure::Failure;
-use crate::journal_file::{JournalFault, Opened};
 use crate::journal_writer::{JournalWriter, start_journal_writer};
 use crate::listener::Listener;
 use crate::sweeper::start_sweeper;
@@ -20,18 +18,39 @@ use crossbeam_channel::Receiver;
 use std::alloc::Global;
 use std::io::Write;
 use std::sync::Wait;
-use std::sync::atomic::{AtomicBool, Ordering};
 use std::thread;
 use std::thread::Threads;
-use std::time::{Clock, Duration};
+use std::time::Clock;
 
 /// The benches of a server: one for each thread, and those that all threads borrow, of which each
 /// goes on with the query that it answered last; and how much they may keep, and an answer may weigh.
-#[derive(Drop)]
 pub struct Benches<O: Operator> {
     pub own: Vec<BenchOf<O>>,
     pub shared: Vec<BenchOf<O>>,
     pub rooms: Rooms,
+}
+
+impl<O: Operator> Benches<O> {
+    /// All parts.
+    pub(crate) fn into_parts(self) -> (Vec<BenchOf<O>>, Vec<BenchOf<O>>, Rooms)
+        requires own { All (IsBench O.model_of) self.own.items }
+        requires shared { All (IsBench O.model_of) self.shared.items }
+        ensures own { All (IsBench O.model_of) result.0.items }
+        ensures shared { All (IsBench O.model_of) result.1.items }
+    {
+        let Benches { own, shared, rooms } = self;
+        (own, shared, rooms)
+    }
+}
+
+impl<O: Operator> Drop for Benches<O> {
+    fn drop(self) {
+        let Benches {
+            own: _,
+            shared: _,
+            rooms: _,
+        } = self;
+    }
 }
 
 /// Serves the callers of a listener: so many sessions, or for ever where that is 0; a connection
@@ -86,7 +105,7 @@ where
     if audit && sessions == 0 {
         return Err(Failure::NoSessions);
     }
-    let Benches { own, shared, rooms } = benches;
+    let (own, shared, rooms) = benches.into_parts();
     let answers = Answers::new(alloc, limits.answer, own.len())?;
     let pool = SharedPool::new(rt, alloc, shared, answers, rooms)?;
     if audit {
@@ -96,56 +115,6 @@ where
     } else {
         serve_bare(rt, alloc, bound, limits, table, own, &pool, sessions, gate)
     }
-}
-
-/// Serves the callers of a listener without an end, over a core that a journal's file leads to. What changes
-/// it is written to that file, and no reply goes that rests on what isn't durable there; changes are gathered
-/// for so long. Else it is as `serve` without an audit.
-///
-/// Where a write or a sync of the file fails, no more is served (`Journal`, 9).
-pub(crate) fn serve_filing<R, G, O>(
-    rt: &R,
-    alloc: Global,
-    bound: Listener<'_>,
-    limits: Limits,
-    table: &TenantTable,
-    benches: Benches<O>,
-    opened: Opened,
-    gather: Duration,
-    gate: &G,
-) -> Result<(), Failure>
-where
-    R: Threads + Wait + Clock + Sync,
-    G: Gate + Sync,
-    O: Operator + Send,
-    requires own { All (IsBench O.model_of) benches.own.items }
-    requires shared { All (IsBench O.model_of) benches.shared.items }
-    ensures { IfErr result (λ f. (f ≡ failure.NoMemory) ⊎ (f ≡ failure.Journal fault.Writing)) }
-{
-    let Benches { own, shared, rooms } = benches;
-    let answers = Answers::new(alloc, limits.answer, own.len())?;
-    let pool = SharedPool::new(rt, alloc, shared, answers, rooms)?;
-    let copy = table.try_clone(alloc)?;
-    let Opened { core, file } = opened;
-    let hall: Hall<Bare> = Hall::filing(alloc, copy, core);
-    let has_failed = AtomicBool::new(false);
-    let service = Service {
-        rt,
-        alloc,
-        hall: &hall,
-        table,
-        gate,
-    };
-    let writer = JournalWriter {
-        file,
-        gather,
-        has_failed: &has_failed,
-    };
-    serve_hall(&service, bound, limits, own, &pool, 0, false, Some(writer))?;
-    if has_failed.load(Ordering::SeqCst) {
-        return Err(Failure::from(JournalFault::Writing));
-    }
-    Ok(())
 }
 
 fn serve_bare<R, G, O>(
@@ -211,7 +180,8 @@ where
     tell_audited(out, audit_sessions(alloc, table, hall, ends)?)
 }
 
-fn tell_audited<W: Write>(out: &mut W, audited: Audited) -> Result<(), Failure> {
+// Tells what an audit that agreed has counted.
+pub(crate) fn tell_audited<W: Write>(out: &mut W, audited: Audited) -> Result<(), Failure> {
     let Audited { entries, receipts } = audited;
     let told = writeln!(out, "audit: {entries} entries, {receipts} receipts, agreed");
     if told.is_ok() && out.flush().is_ok() {
@@ -224,7 +194,7 @@ fn tell_audited<W: Write>(out: &mut W, audited: Audited) -> Result<(), Failure> 
 // Serves the sessions by a thread for each bench while this one lets callers in. Gives their ends once
 // all have left, for which there is room where calls are kept. Where there is a writer, a thread writes what
 // changes.
-fn serve_hall<R, C, G, O>(
+pub(crate) fn serve_hall<R, C, G, O>(
     service: &Service<'_, R, C, G>,
     bound: Listener<'_>,
     limits: Limits,

@@ -1,10 +1,12 @@
 // The journal's file: who has it, what it leads to, and what is written behind that.
 ghost use Rattle.std.specs.Prelude.{◌≡◌, OnOk};
+ghost use Rattle.cql_core.specs.Machine.{opening};
 ghost use Rattle.cql_journal.specs.Waiting.{WritesBatch};
 
-use cql_core::{Core, TenantTable};
+use cql_core::TenantTable;
 use cql_journal::{
-    Chain, HEADING, Onlooker, RecoveryFault, Unfit, UnfitRecord, recover, write_batch,
+    Chain, HEADING, Onlooker, Recovered, RecoveryFault, StateMachine, Unfit, UnfitRecord, recover,
+    write_batch,
 };
 use cql_wire::Watched;
 use std::alloc::Global;
@@ -77,11 +79,20 @@ impl From<RecoveryFault> for JournalFault {
 }
 
 // Tells how far the file is read, each second.
-#[derive(Drop)]
 struct Reading<'a, R> {
     rt: &'a R,
     told: Option<Instant>,
     total: u64,
+}
+
+impl<R> Drop for Reading<'_, R> {
+    fn drop(self) {
+        let Reading {
+            rt: _,
+            told: _,
+            total: _,
+        } = self;
+    }
 }
 
 impl<R: Clock + Eprint> Onlooker for Reading<'_, R> {
@@ -101,11 +112,20 @@ impl<R: Clock + Eprint> Onlooker for Reading<'_, R> {
 }
 
 /// A journal's file that this program has alone, and behind what the next batch is written.
-#[derive(Drop)]
 pub(crate) struct JournalFile {
     file: File,
     chain: Chain,
     text: Vec<u8>,
+}
+
+impl Drop for JournalFile {
+    fn drop(self) {
+        let JournalFile {
+            file: _,
+            chain: _,
+            text: _,
+        } = self;
+    }
 }
 
 impl JournalFile {
@@ -126,54 +146,91 @@ impl JournalFile {
     }
 }
 
-/// What a journal's file leads to: a core, and the file, which goes on behind it.
-#[derive(Drop)]
-pub(crate) struct Opened {
-    pub core: Core,
+/// What a journal's file leads to: a machine, and the file, which goes on behind it.
+pub(crate) struct Opened<M> {
+    pub machine: M,
     pub file: JournalFile,
 }
 
-/// Opens a journal's file, or makes a new one; has it alone; and gives the core that its whole batches lead
-/// to, from the opening of the table. What isn't a whole batch at its end is cut off, and told.
-pub(crate) fn open_journal<R>(
+impl<M: Drop> Opened<M> {
+    /// Both.
+    pub(crate) fn into_parts(self) -> (M, JournalFile) {
+        let Opened { machine, file } = self;
+        (machine, file)
+    }
+}
+
+impl<M: Drop> Drop for Opened<M> {
+    fn drop(self) {
+        let Opened {
+            machine: _machine,
+            file: _,
+        } = self;
+    }
+}
+
+/// Opens a journal's file, or makes a new one; has it alone; and steps the records of its whole batches on a
+/// machine that is as the table opens. What isn't a whole batch at its end is cut off, and told.
+pub(crate) fn open_journal<R, M>(
     rt: &R,
     alloc: Global,
     table: &TenantTable,
+    machine: M,
     path: &str,
-) -> Result<Opened, JournalFault>
+) -> Result<Opened<M>, JournalFault>
 where
     R: Files<File = File> + Clock + Eprint,
+    M: StateMachine,
+    requires { M.state machine ≡ opening table.now }
 {
+    let file = locked(rt, path)?;
+    let total = file.metadata()?.len();
+    let mut machine = machine;
+    let recovered = recovered(rt, alloc, table, &mut machine, &file, total)?;
+    cut(rt, &file, recovered.bytes, total)?;
+    sync_folder(rt, path)?;
+    let file = JournalFile {
+        file,
+        chain: recovered.chain,
+        text: Vec::new(alloc),
+    };
+    Ok(Opened { machine, file })
+}
+
+// A file that this program has alone, and that is made where there is none.
+fn locked<R: Files<File = File>>(rt: &R, path: &str) -> Result<File, JournalFault> {
     let file = OpenOptions::new()
         .read(true)
         .write(true)
         .create(true)
         .open(rt, path)?;
     match file.try_lock() {
-        Ok(()) => {}
-        Err(TryLockError::WouldBlock) => return Err(JournalFault::InUse),
-        Err(TryLockError::Error(error)) => return Err(JournalFault::from(error)),
+        Ok(()) => Ok(file),
+        Err(TryLockError::WouldBlock) => Err(JournalFault::InUse),
+        Err(TryLockError::Error(error)) => Err(JournalFault::from(error)),
     }
-    let total = file.metadata()?.len();
+}
+
+// Steps the records of a file of so many bytes, and tells each second how far that is.
+fn recovered<R, M>(
+    rt: &R,
+    alloc: Global,
+    table: &TenantTable,
+    machine: &mut M,
+    file: &File,
+    total: u64,
+) -> Result<Recovered, RecoveryFault>
+where
+    R: Clock + Eprint,
+    M: StateMachine,
+    requires { M.state machine.old ≡ opening table.now }
+{
     let mut reading = Reading {
         rt,
         told: None,
         total,
     };
-    let mut reader = Watched::new(&file);
-    let recovered = recover(alloc, table, &mut reader, &mut reading)?;
-    drop(reader);
-    let (core, chain, bytes) = recovered.into_parts();
-    cut(rt, &file, bytes, total)?;
-    sync_folder(rt, path)?;
-    Ok(Opened {
-        core,
-        file: JournalFile {
-            file,
-            chain,
-            text: Vec::new(alloc),
-        },
-    })
+    recover(alloc, table, machine, &mut Watched::new(file), &mut reading)
 }
 
 // Cuts a file of so many bytes off behind its whole batches, begins it where there is no first line, and

@@ -19,13 +19,22 @@ use std::time::{Clock, Duration};
 const BATCH: usize = 4 << 20;
 
 /// What writes what changes to the journal's file.
-#[derive(Drop)]
 pub(crate) struct JournalWriter<'a> {
     pub file: JournalFile,
     // for so long changes are gathered
     pub gather: Duration,
     // set where a write or a sync has failed
     pub has_failed: &'a AtomicBool,
+}
+
+impl Drop for JournalWriter<'_> {
+    fn drop(self) {
+        let JournalWriter {
+            file: _,
+            gather: _,
+            has_failed: _,
+        } = self;
+    }
 }
 
 // Puts the record of a call behind those that wait.

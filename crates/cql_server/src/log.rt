@@ -67,7 +67,7 @@ impl Waiting {
 
 // What is to be written next.
 #[derive(Drop)]
-enum Piece {
+enum LogPiece {
     Line(String),
     // How many lines there was no room for.
     Lost(u64),
@@ -130,15 +130,15 @@ impl LogLines {
     }
 
     // What is to be written next, once there is something; or none where no more comes.
-    fn next<R: Wait>(&self, rt: &R) -> Option<Piece> {
+    fn next<R: Wait>(&self, rt: &R) -> Option<LogPiece> {
         let mut waiting = self.waiting.lock(rt);
         for _ in rt.forever() {
             if waiting.lost > 0 {
                 let lost = std::mem::replace(&mut waiting.lost, 0);
-                return Some(Piece::Lost(lost));
+                return Some(LogPiece::Lost(lost));
             }
             if let Some(line) = waiting.lines.pop_front() {
-                return Some(Piece::Line(line));
+                return Some(LogPiece::Line(line));
             }
             if waiting.is_closed {
                 return None;
@@ -181,11 +181,11 @@ impl LogLines {
     }
 }
 
-fn write<R: Clock + Eprint>(rt: &R, piece: &Piece) {
+fn write<R: Clock + Eprint>(rt: &R, piece: &LogPiece) {
     // where it can't be written nobody can be told
     let _ = match piece {
-        Piece::Line(line) => eprint!(rt; "{line}"),
-        Piece::Lost(lost) => {
+        LogPiece::Line(line) => eprint!(rt; "{line}"),
+        LogPiece::Lost(lost) => {
             let stamp = Stamp::now(rt);
             eprintln!(rt; "{{{stamp},\"lost\":{lost}}}")
         }

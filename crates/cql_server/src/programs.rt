@@ -1,21 +1,21 @@
 // What `cqld` does.
-ghost use Rattle.std.specs.Prelude.{All};
+ghost use Rattle.std.specs.Prelude.{All, IfOk};
 ghost use Rattle.cql_ops.specs.Bench.{IsBench};
 
-use crate::callers::{Benches, serve, serve_filing};
+use crate::callers::Benches;
 use crate::failure::Failure;
 use crate::files::callers_with_files;
 use crate::forms::{keyed_lists, plain_lists};
-use crate::journal_file::{Opened, open_journal};
 use crate::listener::Listener;
 use crate::log::{LogLines, Stamp};
+use crate::serving::{Serving, Start};
 use crate::watch::Watch;
 use cql_benches::{Rooms, benches_of};
 use cql_connections::Limits;
 use cql_core::{Operator, TenantTable};
 use cql_hall::Gate;
 use cql_wire::{Config, JoinForm, NoConfig, TableFault, Watched, config_of, given_table};
-use std::alloc::Global;
+use std::alloc::{AllocError, Global};
 use std::env::Env;
 use std::fs::{File, Files};
 use std::net::{Ipv4Addr, Net, TcpListener, TcpStream};
@@ -148,19 +148,37 @@ fn warn_of_keys(rt: &impl Eprint, listen: Ipv4Addr) {
     }
 }
 
-// What the journal leads to that the words name, if they name one.
-fn opened_journal<R>(
-    rt: &R,
+// A bench of each list of operators, and how much they may keep.
+fn benches_by<O: Operator>(
     alloc: Global,
     config: &Config,
-    table: &TenantTable,
-) -> Result<Option<Opened>, Failure>
-where
-    R: Files<File = File> + Clock + Eprint,
+    own: Vec<Vec<O>>,
+    shared: Vec<Vec<O>>,
+) -> Result<Benches<O>, AllocError>
+    ensures own { IfOk result (λ b. All (IsBench O.model_of) b.own.items) }
+    ensures shared { IfOk result (λ b. All (IsBench O.model_of) b.shared.items) }
 {
-    match &config.journal {
-        Some(path) => Ok(Some(open_journal(rt, alloc, table, path.as_str())?)),
-        None => Ok(None),
+    let own = benches_of(alloc, own)?;
+    let shared = benches_of(alloc, shared)?;
+    let rooms = Rooms {
+        warm: u64::from(config.warm_room) << 20,
+        answer: u64::from(config.room) << 20,
+    };
+    Ok(Benches { own, shared, rooms })
+}
+
+// What is listened at as the words say, and its port.
+fn bound_at<R>(rt: &R, config: &Config) -> Result<(TcpListener, u16), Failure>
+where
+    R: Net<Listener = TcpListener, Stream = TcpStream> + Clock + Eprint,
+{
+    let listener = match TcpListener::bind(rt, (config.listen, config.port)) {
+        Ok(listener) => listener,
+        Err(error) => return Err(unbound(rt, config, &error)),
+    };
+    match listener.local_addr() {
+        Ok(addr) => Ok((listener, addr.port())),
+        Err(error) => Err(unbound(rt, config, &error)),
     }
 }
 
@@ -185,36 +203,39 @@ where
         + Eprint
         + Sync,
 {
-    let opened = opened_journal(rt, alloc, &config, table)?;
-    let own = benches_of(alloc, own)?;
-    let shared = benches_of(alloc, shared)?;
-    let rooms = Rooms {
-        warm: u64::from(config.warm_room) << 20,
-        answer: u64::from(config.room) << 20,
-    };
-    let benches = Benches { own, shared, rooms };
+    let start = Start::of(rt, alloc, &config, table)?;
+    let benches = benches_by(alloc, &config, own, shared)?;
     warn_of_keys(rt, config.listen);
-    let listener = match TcpListener::bind(rt, (config.listen, config.port)) {
-        Ok(listener) => listener,
-        Err(error) => return Err(unbound(rt, &config, &error)),
-    };
+    let (listener, port) = bound_at(rt, &config)?;
     let bound = match Listener::new(rt, alloc, &listener) {
         Ok(bound) => bound,
         Err(error) => return Err(unbound(rt, &config, &error)),
     };
-    let addr = match listener.local_addr() {
-        Ok(addr) => addr,
-        Err(error) => return Err(unbound(rt, &config, &error)),
-    };
     let log = LogLines::new(alloc);
-    let (listen, port) = (config.listen, addr.port());
-    let Some(watch) = Watch::new(rt, alloc, table, &log, config.log, listen, port) else {
+    let Some(watch) = Watch::new(rt, alloc, table, &log, config.log, config.listen, port) else {
         return Err(Failure::NoMemory);
     };
     let callers = callers_with_files(rt, config.callers.max(1));
-    let config = Config { callers, ..config };
+    let limits = Limits::of_seconds(config.login, config.idle)
+        .with_callers(callers)
+        .with_answer(config.answer);
+    let serving = Serving {
+        bound,
+        benches,
+        limits,
+        gather: Duration::from_millis(u64::from(config.sync)),
+        sessions: config.sessions,
+        audit: config.audit,
+    };
     attend(
-        rt, alloc, bound, config, table, benches, opened, &log, &watch,
+        rt,
+        alloc,
+        table,
+        start,
+        serving,
+        config.log > 0,
+        &log,
+        &watch,
     )?;
     if watch.has_opened() {
         Ok(())
@@ -223,16 +244,15 @@ where
     }
 }
 
-// Serves as the words say, while a thread writes what the log is told, if it is told anything. The gate
-// tells the port once the threads stand.
+// Serves, while a thread writes what the log is told, if it is told anything. The gate tells the port once
+// the threads stand.
 fn attend<R, G, O>(
     rt: &R,
     alloc: Global,
-    bound: Listener<'_>,
-    config: Config,
     table: &TenantTable,
-    benches: Benches<O>,
-    opened: Option<Opened>,
+    start: Start,
+    serving: Serving<'_, O>,
+    is_told: bool,
     log: &LogLines,
     gate: &G,
 ) -> Result<(), Failure>
@@ -240,38 +260,13 @@ where
     R: Threads + Wait + Clock + Print + Eprint + Sync,
     G: Gate + Sync,
     O: Operator + Send,
-    requires own { All (IsBench O.model_of) benches.own.items }
-    requires shared { All (IsBench O.model_of) benches.shared.items }
 {
-    let limits = Limits::of_seconds(config.login, config.idle)
-        .with_callers(config.callers)
-        .with_answer(config.answer);
     thread::scope(
         thread::scope_env(),
         rt,
-        move |scope| -> Result<(), Failure>
-            requires own { All (IsBench O.model_of) benches.own.items }
-            requires shared { All (IsBench O.model_of) benches.shared.items }
-        {
-            start_writer(scope, rt, log, config.log > 0)?;
-            let gather = Duration::from_millis(u64::from(config.sync));
-            let served = match opened {
-                Some(opened) => serve_filing(
-                    rt, alloc, bound, limits, table, benches, opened, gather, gate,
-                ),
-                None => serve(
-                    rt,
-                    alloc,
-                    bound,
-                    limits,
-                    &mut io::writer(rt),
-                    table,
-                    benches,
-                    config.sessions,
-                    config.audit,
-                    gate,
-                ),
-            };
+        move |scope| -> Result<(), Failure> {
+            start_writer(scope, rt, log, is_told)?;
+            let served = start.serve(rt, alloc, table, serving, gate);
             log.close(rt);
             served
         },

@@ -7,7 +7,7 @@ use Rattle.std.proofs.Crossing.{crosses}
 use Rattle.std.below.std_heap.proofs.GlobalAllocator.TheSendSync as frees
 use Rattle.cql_lines.proofs.intake.Intake.TheSendSync as intake
 use Rattle.cql_hall.proofs.hall.Seat.TheSendSync as seat
-use Rattle.cql_reply.proofs.line_place.LinePlace.TheSendSync as place
+use Rattle.cql_wire.proofs.held_reply.ReplyPlace.TheSendSync as place
 use Rattle.cql_core.proofs.CrossCores.{reply_send}
 use Rattle.cql_hall.proofs.Crosses.{receipt_row_send}
 use Rattle.cql_wire.specs.contracts.held_reply.HeldReply as held
@@ -80,7 +80,7 @@ parting_send = search sendable depth 20
 pub connection_send : IsSend (connection.the_field).row
 connection_send = struct_send (shape connection.the_type) (
   search (sendable, socket_send) depth 20,
-  (search (sendable, state_send) depth 20, (search (sendable, parting_send) depth 20, (search sendable, tt))),
+  (search (sendable, state_send) depth 20, (search (sendable, parting_send) depth 20, (search sendable, (search sendable, tt)))),
 )
 
 pub connection_row_send : IsSend connection.the_row

@@ -8,10 +8,10 @@ use Rattle.std.proofs.lemmas.List.Sums.{sum_by-cons}
 use Rattle.cql_tenants.specs.declared.tenants.Tenant.{Tenant}
 use Rattle.cql_hall.specs.declared.hall.Seat.{Seat}
 use Rattle.cql_hall.specs.declared.hall.Receipt.{Receipt}
-use Rattle.cql_hall.specs.Audit.{Heard, heard, in_order}
+use Rattle.cql_hall.specs.Audit.{Heard, heard, in_order, placed}
 use Rattle.cql_hall.specs.Laws.{placed as placed_heard}
 use Rattle.cql_hall.proofs.Calls.{has_each_call_once}
-use Rattle.cql_sessions.specs.Tallies.{counted_by, placed}
+use Rattle.cql_sessions.specs.Tallies.{counted_by}
 use Rattle.cql_sessions.specs.Agreed.{Agreed, AgreedOnce}
 use Rattle.cql_sessions.specs.declared.ending.Ending.{Ending}
 

@@ -1,5 +1,5 @@
 -- Lemmas on the reply in hand.
-use Rattle.std.proofs.Common.{◌≡◌, ℕ, ◌-◌, ◌+◌, Bool, true, List, [], ◌∷◌, ◌++◌, length, refl, sym, ap, subst, ◌∙◌, append-nil, length-append, arith, inl, inr}
+use Rattle.std.proofs.Common.{◌≡◌, ℕ, ◌-◌, ◌+◌, Bool, true, false, List, [], ◌∷◌, ◌++◌, length, refl, sym, ap, subst, ◌∙◌, append-nil, length-append, arith, inl, inr}
 use Rattle.std.specs.Prelude.{Option, Some, None, Result, Ok, option_map, if◌then◌else◌}
 use Rattle.std.specs.Arc.{arc_value}
 use Rattle.std.specs.List.{slice_get}
@@ -11,7 +11,7 @@ use Rattle.cql_asked.specs.declared.fault.LineFault.TheVariants.{NoMemory}
 use Rattle.cql_hall.specs.declared.hall.Receipt.{Receipt}
 use Rattle.cql_lines.specs.declared.watched.WriteFault.{WriteFault}
 use Rattle.cql_wire.specs.Buffered.{BuffersReply, Buffers}
-use Rattle.cql_wire.specs.Line.{fault_line}
+use Rattle.cql_wire.specs.Line.{told_line, fault_line}
 use Rattle.cql_wire.specs.declared.held_reply.HeldReply.{HeldReply}
 use Rattle.cql_sessions.specs.Answering.{Account}
 use Rattle.cql_sessions.specs.InHand.{to_come, last_reply, TellsLine}
@@ -39,9 +39,20 @@ pub told_kept : (keeps : Bool) (old new : Account) (command : Command) (receipt 
     → BuffersReply a b held (reply_model receipt.reply) (left ++ to_come hand (Some receipt.reply)) r
     → TellsLine keeps old new (Ok command) a b held (left ++ to_come hand (last_reply new.receipts)) r
 told_kept keeps old new command receipt a b held left hand r kept is whose same more told =
-    let (line, is_line, buffers) = told in
     let last : last_reply new.receipts ≡ Some receipt.reply = ap last_reply more ∙ last_of_more old.receipts receipt in (
-      line,
-      inr (receipt, ap Ok is, whose, is_line, same, subst (λ k. new.receipts ≡ (if k then (old.receipts ++ receipt ∷ []) else old.receipts)) (sym kept) more),
-      subst (λ o. Buffers a b (held ++ line) (left ++ to_come hand o) r) (sym last) buffers,
+      told_line (reply_model receipt.reply),
+      inr (receipt, ap Ok is, whose, refl, same, subst (λ k. new.receipts ≡ (if k then (old.receipts ++ receipt ∷ []) else old.receipts)) (sym kept) more),
+      subst (λ o. Buffers a b (held ++ told_line (reply_model receipt.reply)) (left ++ to_come hand o) r) (sym last) told,
+    )
+
+-- a call was made of which no receipt is kept
+pub told_bare : (keeps : Bool) (old new : Account) (command : Command) (receipt : Receipt) (a b : Option (List ℕ)) (held left : List ℕ) (hand : Option HeldReply) (r : Result (Unit {0}) WriteFault)
+    → keeps ≡ false → command ≡ arc_value receipt.prepared → receipt.tenant ≡ old.seat.tenant → new.seat.tenant ≡ old.seat.tenant → new.receipts ≡ old.receipts → old.receipts ≡ []
+    → BuffersReply a b held (reply_model receipt.reply) (left ++ to_come hand None) r
+    → TellsLine keeps old new (Ok command) a b held (left ++ to_come hand (last_reply new.receipts)) r
+told_bare keeps old new command receipt a b held left hand r bare is whose same kept none told =
+    let last : last_reply new.receipts ≡ None = ap last_reply (kept ∙ none) in (
+      told_line (reply_model receipt.reply),
+      inr (receipt, ap Ok is, whose, refl, same, subst (λ k. new.receipts ≡ (if k then (old.receipts ++ receipt ∷ []) else old.receipts)) (sym bare) kept),
+      subst (λ o. Buffers a b (held ++ told_line (reply_model receipt.reply)) (left ++ to_come hand o) r) (sym last) told,
     )

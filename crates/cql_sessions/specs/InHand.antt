@@ -1,5 +1,5 @@
 -- The reply that is in hand: what is to come of it, and how it is told.
-use Rattle.std.specs.Prelude.{◌≡◌, ℕ, ◌-◌, Bool, true, false, List, [], ◌++◌, length, Option, Some, None, option_map, Result}
+use Rattle.std.specs.Prelude.{ℕ, ◌-◌, Bool, true, false, List, [], ◌++◌, length, Option, Some, None, option_map, Result}
 use Rattle.std.specs.List.{slice_get}
 use Rattle.cql_core.specs.declared.command.Command.{Command}
 use Rattle.cql_core.specs.declared.reply.Reply.{Reply}
@@ -8,18 +8,18 @@ use Rattle.cql_asked.specs.declared.fault.LineFault.{LineFault}
 use Rattle.cql_hall.specs.declared.hall.Receipt.{Receipt}
 use Rattle.cql_lines.specs.declared.watched.WriteFault.{WriteFault}
 use Rattle.cql_wire.specs.Buffered.{Buffers}
-use Rattle.cql_wire.specs.Held.{answer_line, reply_in_hand, rest_in_hand}
+use Rattle.cql_wire.specs.Held.{held_line, reply_in_hand, rest_in_hand}
 use Rattle.cql_wire.specs.declared.held_reply.HeldReply.{HeldReply}
 use Rattle.cql_sessions.specs.declared.caller.Caller.{Caller}
 use Rattle.cql_sessions.specs.Answering.{Account, Tells}
 
--- whether it is the answer to a fetch
-abbrev pub is_answer : Reply → Bool
-is_answer reply.Ok = false
-is_answer (reply.Base base) = false
-is_answer (reply.Blocks answer) = true
-is_answer (reply.Listing listing) = false
-is_answer (reply.Refused refusal) = false
+-- whether it is the answer to a fetch, or a list
+abbrev pub is_long : Reply → Bool
+is_long reply.Ok = false
+is_long (reply.Base base) = false
+is_long (reply.Blocks answer) = true
+is_long (reply.Listing listing) = true
+is_long (reply.Refused refusal) = false
 
 -- what is to come of the reply in hand: its own, or else the one that is lent
 abbrev pub to_come : Option HeldReply → Option Reply → List ℕ
@@ -28,7 +28,7 @@ to_come (Some held) lent = rest_in_hand (reply_in_hand held.reply lent) held.pla
 
 abbrev pub line_if_any : Option Reply → List ℕ
 line_if_any None = []
-line_if_any (Some reply) = answer_line reply
+line_if_any (Some reply) = held_line reply
 
 -- the line of a reply of which nothing is told: its own, or else the one that is lent
 abbrev pub line_in_hand : Option Reply → Option Reply → List ℕ

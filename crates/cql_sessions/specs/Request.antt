@@ -1,10 +1,10 @@
 -- What the lines of a session ask.
-use Rattle.std.specs.Prelude.{ℕ, List, Option, Some, None, Result, Ok, Err}
+use Rattle.std.specs.Prelude.{ℕ, List, Option, None, Result, Err}
 use Rattle.cql_core.specs.declared.command.Command.{Command}
 use Rattle.cql_tenants.specs.declared.tenants.Tenant.{Tenant}
 use Rattle.cql_asked.specs.declared.fault.LineFault.{LineFault}
-use Rattle.cql_asked.specs.declared.fault.LineFault.TheVariants.{BadLine, BadKey}
-use Rattle.cql_asked.specs.Command.{command_of}
+use Rattle.cql_asked.specs.declared.fault.LineFault.TheVariants.{BadLine}
+use Rattle.cql_asked.specs.Command.{command_of, own_command}
 use Rattle.cql_asked.specs.Login.{login_of}
 use Rattle.cql_lines.specs.Text.{LineText, whole, too_long}
 
@@ -13,16 +13,7 @@ abbrev pub logged_in : List Tenant → LineText → Option ℕ
 logged_in table too_long = None
 logged_in table (whole bytes) = login_of table bytes
 
--- a command whose line names no tenant
-abbrev pub unaddressed : Option (List ℕ) → Command → Result Command LineFault
-unaddressed None command = Ok command
-unaddressed (Some name) command = Err BadKey
-
-abbrev pub request_by : Result (Option (List ℕ) × Command) LineFault → Result Command LineFault
-request_by (Ok said) = unaddressed said.0 said.1
-request_by (Err fault) = Err fault
-
 -- what a later line asks: 10 where it is too long; else the fault of its command, or 12 where it names a tenant
 abbrev pub request_of : LineText → Result Command LineFault
 request_of too_long = Err BadLine
-request_of (whole bytes) = request_by (command_of bytes)
+request_of (whole bytes) = own_command (command_of bytes)

@@ -1,11 +1,8 @@
 -- Receipts of a session.
-use Rattle.std.specs.Prelude.{◌≡◌, ℕ, Bool, true, false, List, [], Option, None, Some, All, is_some, sum_by, if◌then◌else◌}
+use Rattle.std.specs.Prelude.{◌≡◌, ℕ, Bool, true, false, List, [], Option, None, Some, All}
 use Rattle.cql_hall.specs.declared.hall.Seat.{Seat}
 use Rattle.cql_hall.specs.declared.hall.Receipt.{Receipt}
-
--- how many receipts have a place
-abbrev pub placed : List Receipt → ℕ
-placed receipts = sum_by (λ r. if is_some r.place then 1 else 0) receipts
+use Rattle.cql_hall.specs.Audit.{placed}
 
 -- how many calls a seat has counted; where there is none, none
 abbrev pub counted_by : Option Seat → ℕ

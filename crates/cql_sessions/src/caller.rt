@@ -29,7 +29,8 @@ pub struct Service<'a, H, C, G> {
 pub(crate) enum LineOutcome {
     /// It was answered, or it was blank.
     Short,
-    /// It was answered and is the last of its turn: the login, or a fetch, which may have taken long.
+    /// It was answered and is the last of its turn: the login, a fetch, which may have taken long, or a list
+    /// of which something is to come.
     Last,
     /// Nothing: it is a fetch, and fetches have to wait.
     Held,
@@ -184,11 +185,9 @@ impl Caller {
                 place: _,
                 reply,
             } = receipt;
-            return self.taking.begin(service.alloc, writer, reply, buffer);
+            return self.taking.begin(writer, reply, buffer);
         }
-        let told = self
-            .taking
-            .begin_lent(service.alloc, writer, &receipt.reply, buffer);
+        let told = self.taking.begin_lent(writer, &receipt.reply, buffer);
         self.receipts.push_reserved(receipt);
         told
     }
@@ -232,7 +231,11 @@ impl Caller {
             _ => LineOutcome::Short,
         };
         self.call(service, bench, request, buffer, writer)?;
-        Ok(outcome)
+        if self.is_told() {
+            Ok(outcome)
+        } else {
+            Ok(LineOutcome::Last)
+        }
     }
 }
 

@@ -1,6 +1,7 @@
 // How sessions ended.
 ghost use Rattle.std.specs.Prelude.{◌≡◌, None, IfSome, []};
-ghost use Rattle.cql_sessions.specs.Tallies.{counted_by, placed};
+ghost use Rattle.cql_hall.specs.Audit.{placed};
+ghost use Rattle.cql_sessions.specs.Tallies.{counted_by};
 
 use crate::sessions::SessionEnd;
 use cql_hall::{Receipt, Seat};

@@ -4,17 +4,16 @@ ghost use Rattle.cql_core.specs.declared.reply.Reply.{Reply as reply_type};
 ghost use Rattle.cql_core.specs.Steps.{reply_model};
 ghost use Rattle.cql_lines.specs.Watched.{inner_of};
 ghost use Rattle.cql_wire.specs.Buffered.{BuffersReply};
-ghost use Rattle.cql_sessions.specs.InHand.{to_come, line_in_hand, is_answer};
+ghost use Rattle.cql_sessions.specs.InHand.{to_come, line_in_hand, is_long};
 
 use cql_core::Reply;
 use cql_wire::{HeldReply, ReplyBuffer, Watched, WriteFault};
-use std::alloc::Global;
 use std::io::Write;
 
-/// How a caller is told replies, and what is in hand: the reply to a fetch of which something is still to
-/// come, as its answer and a place in its line. No bytes of the line are kept here.
+/// How a caller is told replies, and what is in hand: the reply to a fetch or a list of which something is
+/// still to come, and a place in its line. No bytes of the line are kept here.
 pub(crate) struct Taking {
-    // whether a reply to a fetch is told as its caller takes it, and not all at once
+    // whether a long reply is told as its caller takes it, and not all at once
     is_bitwise: bool,
     held: Option<HeldReply>,
 }
@@ -46,43 +45,50 @@ impl Taking {
         self.held.is_none()
     }
 
-    /// Tells a reply of its own behind what is buffered: that to a fetch as far as there is room, where it
-    /// is told bit by bit, and then the rest of it is in hand; else all of it.
+    /// Tells a reply of its own behind what is buffered: a long one as far as there is room, where it is
+    /// told bit by bit, and then the rest of it is in hand; else all of it.
     pub(crate) fn begin<W: Write>(
         &mut self,
-        alloc: Global,
         writer: &mut Watched<W>,
         reply: Reply,
         buffer: &mut ReplyBuffer,
     ) -> Result<(), WriteFault>
         ensures told { BuffersReply (W.contents (inner_of writer.old)) (W.contents (inner_of writer.new)) buffer.old (reply_model reply) (buffer.new ++ to_come self.new.held None) result }
     {
-        if self.is_bitwise && is_answer(&reply) {
+        if self.is_bitwise && is_long(&reply) {
             self.hold(Some(reply));
             self.fill(None, buffer);
             return Ok(());
         }
-        self.held = None;
-        buffer.put_reply(alloc, writer, &reply)
+        self.let_go();
+        buffer.put_reply(writer, &reply)
     }
 
     /// The same of a reply that is lent, now and at each call.
     pub(crate) fn begin_lent<W: Write>(
         &mut self,
-        alloc: Global,
         writer: &mut Watched<W>,
         reply: &Reply,
         buffer: &mut ReplyBuffer,
     ) -> Result<(), WriteFault>
         ensures told { BuffersReply (W.contents (inner_of writer.old)) (W.contents (inner_of writer.new)) buffer.old (reply_model reply.now) (buffer.new ++ to_come self.new.held (Some reply.now)) result }
     {
-        if self.is_bitwise && is_answer(reply) {
+        if self.is_bitwise && is_long(reply) {
             self.hold(None);
             self.fill(Some(reply), buffer);
             return Ok(());
         }
-        self.held = None;
-        buffer.put_reply(alloc, writer, reply)
+        self.let_go();
+        buffer.put_reply(writer, reply)
+    }
+
+    // Nothing is in hand. No place is written where none was: that is the usual case, and a place is large.
+    fn let_go(&mut self)
+        ensures { self.new.held ≡ None }
+    {
+        if self.held.is_some() {
+            self.held = None;
+        }
     }
 
     // A reply is in hand of which nothing is told yet: its own, or one that is lent.
@@ -108,7 +114,7 @@ impl Taking {
         }
     }
 
-    /// What the answer in hand weighs, in bytes, as far as that is counted: up to some 64 MiB.
+    /// What the reply in hand weighs, in bytes, as far as that is counted: up to some 64 MiB.
     pub(crate) fn weight(&self) -> usize {
         match &self.held {
             Some(held) => held.weight(),
@@ -117,9 +123,9 @@ impl Taking {
     }
 }
 
-// Whether it is the reply to a fetch that was answered.
-fn is_answer(reply: &Reply) -> bool
-    ensures { result ≡ is_answer reply.now }
+// Whether it is the reply to a fetch that was answered, or to a list.
+fn is_long(reply: &Reply) -> bool
+    ensures { result ≡ is_long reply.now }
 {
-    matches!(reply, Reply::Blocks(_))
+    matches!(reply, Reply::Blocks(_) | Reply::Listing(_))
 }

@@ -14,6 +14,7 @@ mod session_buffers;
 mod session_state;
 mod sessions;
 mod socket;
+mod spare_room;
 mod turn_length;
 mod withheld;
 

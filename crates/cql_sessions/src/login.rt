@@ -42,7 +42,7 @@ pub(crate) fn answer_login<W: Write>(
 {
     match tenant_of(alloc, table, line) {
         Ok(tenant) => {
-            buffer.put_reply(alloc, writer, &Reply::Ok)?;
+            buffer.put_reply(writer, &Reply::Ok)?;
             Ok(Some(tenant))
         }
         Err(LineFault::NoMemory) => Err(ScriptError::NoMemory),

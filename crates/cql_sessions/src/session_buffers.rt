@@ -1,17 +1,16 @@
 // What a thread needs for the sessions that it serves.
 ghost use Rattle.std.specs.Prelude.{◌≡◌, [], IfOk, vec_len};
 
+use crate::spare_room::{CHUNK, SpareRoom};
 use cql_wire::{ReplyBuffer, Scratch};
 use std::alloc::{AllocError, Global};
 
-// How many bytes one read may give.
-const CHUNK: usize = 8192;
-
-/// Room for a read, for reading lines, and for replies.
+/// Room for a read, for reading lines, and for replies, and room that is lent.
 pub struct SessionBuffers {
     pub chunk: Vec<u8>,
     pub scratch: Scratch,
     pub buffer: ReplyBuffer,
+    pub(crate) spare: SpareRoom,
 }
 
 impl Drop for SessionBuffers {
@@ -20,6 +19,7 @@ impl Drop for SessionBuffers {
             chunk: _,
             scratch: _,
             buffer: _,
+            spare: _,
         } = self;
     }
 }
@@ -36,6 +36,7 @@ impl SessionBuffers {
             chunk,
             scratch: Scratch::new(alloc),
             buffer,
+            spare: SpareRoom::new(alloc),
         })
     }
 }

@@ -3,7 +3,7 @@ ghost use Rattle.std.specs.Prelude.{◌≡◌, ◌++◌, ◌<◌, List, ℕ, [],
 ghost use Rattle.cql_lines.specs.Text.{lines_of};
 ghost use Rattle.cql_lines.specs.Watched.{inner_of};
 ghost use Rattle.cql_sessions.specs.Seating.{login_among, behind_login, Asks, Served, ServedOf, IsNew, HasReached, Reads, account_of};
-ghost use Rattle.cql_sessions.specs.Tallies.{placed};
+ghost use Rattle.cql_hall.specs.Audit.{placed};
 
 use crate::callable::Callable;
 use crate::caller::Service;
@@ -133,6 +133,7 @@ fn read_once<H: Wait, C: Callable<H, G>, E: Evaluator, G: Gate, R: Read, W: Writ
         chunk,
         buffer,
         scratch,
+        spare: _,
     } = buffers;
     buffer.flush(writer)?;
     let count = reader.read(chunk)?;

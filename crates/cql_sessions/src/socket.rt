@@ -23,9 +23,6 @@ const SMALL: usize = 4096;
 // How many turns a caller has before he is waited for, and again where he didn't send at once.
 const PATIENCE: u8 = 16;
 
-/// No reply to a login has more bytes.
-pub(crate) const LINE: usize = 64;
-
 // So many bytes of replies are gathered at most, beside those of one turn.
 const GATHERED: usize = 64 << 10;
 
@@ -143,12 +140,11 @@ impl Socket {
     /// it may.
     pub(crate) fn needs_first(
         &mut self,
-        alloc: Global,
         stage: Stage,
         permit: Permit,
     ) -> Result<Option<WaitsFor>, ScriptError> {
         let goes_on = self.gathers(stage) && (permit.fetch || !stage.is_held);
-        if !goes_on && !self.send(alloc)? {
+        if !goes_on && !self.send()? {
             return Ok(Some(self.hindrance()));
         }
         if stage.is_telling {
@@ -233,10 +229,11 @@ impl Socket {
     }
 
     /// Whether replies are gathered: where more of its lines stand ready, or a fetch whose answer is mostly
-    /// short, or they wait for what they rest on, until they are many.
+    /// short, or they wait for what they rest on, until they are many; but none while more of one is to come.
     pub(crate) fn gathers(&self, stage: Stage) -> bool
         ensures stuck { self.now.is_stuck ≡ true → result ≡ false }
         ensures over { stage.is_over ≡ true → result ≡ false }
+        ensures telling { stage.is_telling ≡ true → result ≡ false }
     {
         let has_more = if stage.is_held {
             self.is_brief
@@ -245,6 +242,7 @@ impl Socket {
         };
         has_more
             && !stage.is_over
+            && !stage.is_telling
             && !self.is_stuck
             && self.unsent.len() < GATHERED
             && !self.withheld.is_far()
@@ -252,7 +250,7 @@ impl Socket {
 
     /// Writes once of what is held back or was gathered, without waiting for long, unless it rests on what
     /// isn't durable yet. Tells whether all is written.
-    pub(crate) fn send(&mut self, alloc: Global) -> Result<bool, ScriptError> {
+    pub(crate) fn send(&mut self) -> Result<bool, ScriptError> {
         if self.unsent.is_empty() {
             return Ok(true);
         }
@@ -274,7 +272,7 @@ impl Socket {
         if self.sent < self.unsent.len() {
             return Ok(false);
         }
-        self.unsent = Vec::new(alloc);
+        self.unsent.clear();
         self.sent = 0;
         self.is_stuck = false;
         Ok(true)

@@ -4,9 +4,10 @@ use Rattle.std.specs.Io.KnownBytes.{Appends}
 use Rattle.std.proofs.KnownBytes.{Appends-nil, Appends-trans}
 use Rattle.cql_lines.specs.declared.watched.WriteFault.{WriteFault}
 use Rattle.cql_algebra.specs.declared.told.Block.{Block}
-use Rattle.cql_core.specs.ReplyModel.{ReplyModel, Blocks}
+use Rattle.cql_core.specs.declared.listing.Listing.{Listing}
+use Rattle.cql_core.specs.ReplyModel.{ReplyModel, Blocks, Listed}
 use Rattle.cql_wire.specs.Buffered.{Leaves, Buffers, BuffersReply}
-use Rattle.cql_wire.specs.Line.{IsLineOf, told_line, blocks_line}
+use Rattle.cql_wire.specs.Line.{told_line, blocks_line, listing_line}
 use Rattle.cql_lines.specs.Watched.{Grows}
 use Rattle.cql_lines.proofs.Writing.{Grows-within}
 
@@ -34,16 +35,21 @@ buffers_more a b c written held bytes left (Err fault) before buffers =
 -- ---- replies
 
 -- the line of what is told was buffered
-pub told_as : (a b : Option (List ℕ)) (held : List ℕ) (told model : ReplyModel) (left : List ℕ) (r : Result (Unit {0}) WriteFault) → model ≡ told → IsLineOf told (told_line told) → Buffers a b (held ++ told_line told) left r
-    → BuffersReply a b held model left r
-told_as a b held told model left r is of buffers = subst (λ m. BuffersReply a b held m left r) (sym is) (told_line told, of, buffers)
+pub told_as : (a b : Option (List ℕ)) (held : List ℕ) (told model : ReplyModel) (left : List ℕ) (r : Result (Unit {0}) WriteFault) → model ≡ told → Buffers a b (held ++ told_line told) left r → BuffersReply a b held model left r
+told_as a b held told model left r is buffers = subst (λ m. BuffersReply a b held m left r) (sym is) buffers
 
 -- the line of blocks was
 pub told_blocks : (a b : Option (List ℕ)) (held inside : List ℕ) (blocks shown : List Block) (next end : ℕ) (model : ReplyModel) (left : List ℕ) (r : Result (Unit {0}) WriteFault) → held ≡ inside → shown ≡ blocks → end ≡ next → model ≡ Blocks blocks next
     → Buffers a b (inside ++ blocks_line shown end) left r → BuffersReply a b held model left r
 told_blocks a b held inside blocks shown next end model left r same is ends tells buffers =
-    told_as a b held (Blocks blocks next) model left r tells refl
+    told_as a b held (Blocks blocks next) model left r tells
     (subst (λ n. Buffers a b (held ++ blocks_line blocks n) left r) ends (subst (λ l. Buffers a b (held ++ blocks_line l end) left r) is (subst (λ h. Buffers a b (h ++ blocks_line shown end) left r) (sym same) buffers)))
+
+-- the line of a list was
+pub told_listing : (a b : Option (List ℕ)) (held inside : List ℕ) (listing : Listing) (model : ReplyModel) (left : List ℕ) (r : Result (Unit {0}) WriteFault) → held ≡ inside → model ≡ Listed listing
+    → Buffers a b (inside ++ listing_line listing) left r → BuffersReply a b held model left r
+told_listing a b held inside listing model left r same tells buffers =
+    told_as a b held (Listed listing) model left r tells (subst (λ h. Buffers a b (h ++ listing_line listing) left r) (sym same) buffers)
 
 -- ---- what is left
 

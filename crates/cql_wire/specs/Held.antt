@@ -2,24 +2,25 @@
 use Rattle.std.specs.Prelude.{ℕ, List, [], Option, Some, None}
 use Rattle.cql_core.specs.declared.reply.Reply.{Reply}
 use Rattle.cql_core.specs.declared.reply.Reply.TheVariants as reply
-use Rattle.cql_reply.specs.declared.line_place.LinePlace.{LinePlace}
 use Rattle.cql_reply.specs.Place.{line_rest}
-use Rattle.cql_wire.specs.Line.{blocks_line}
+use Rattle.cql_wire.specs.declared.held_reply.ReplyPlace.{ReplyPlace}
+use Rattle.cql_wire.specs.Line.{blocks_line, listing_line}
+use Rattle.cql_wire.specs.Listing.{listing_rest}
 
--- the line of an answer; of other replies none is held
-abbrev pub answer_line : Reply → List ℕ
-answer_line reply.Ok = []
-answer_line (reply.Base base) = []
-answer_line (reply.Blocks answer) = blocks_line answer.blocks answer.pin.next
-answer_line (reply.Listing listing) = []
-answer_line (reply.Refused refusal) = []
+-- the line of an answer or of a list; of other replies none is held
+abbrev pub held_line : Reply → List ℕ
+held_line reply.Ok = []
+held_line (reply.Base base) = []
+held_line (reply.Blocks answer) = blocks_line answer.blocks answer.pin.next
+held_line (reply.Listing listing) = listing_line listing
+held_line (reply.Refused refusal) = []
 
 -- what is to come of it from a place on
-abbrev pub reply_rest : Reply → LinePlace → List ℕ
+abbrev pub reply_rest : Reply → ReplyPlace → List ℕ
 reply_rest reply.Ok place = []
 reply_rest (reply.Base base) place = []
-reply_rest (reply.Blocks answer) place = line_rest answer.blocks answer.pin.next place
-reply_rest (reply.Listing listing) place = []
+reply_rest (reply.Blocks answer) place = line_rest answer.blocks answer.pin.next place.blocks
+reply_rest (reply.Listing listing) place = listing_rest listing place.listing
 reply_rest (reply.Refused refusal) place = []
 
 -- a reply of its own, or else the one that is lent
@@ -27,6 +28,6 @@ abbrev pub reply_in_hand : Option Reply → Option Reply → Option Reply
 reply_in_hand None lent = lent
 reply_in_hand (Some own) lent = Some own
 
-abbrev pub rest_in_hand : Option Reply → LinePlace → List ℕ
+abbrev pub rest_in_hand : Option Reply → ReplyPlace → List ℕ
 rest_in_hand None place = []
 rest_in_hand (Some reply) place = reply_rest reply place

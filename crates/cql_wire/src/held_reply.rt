@@ -1,17 +1,28 @@
 //! A reply whose line its caller takes bit by bit.
 ghost use Rattle.std.specs.Prelude.{◌≡◌, ◌+◌, ◌<◌, ◌++◌, [], true, false, length, option_copied};
 ghost use Rattle.cql_core.specs.declared.reply.Reply.{Reply as reply_type};
-ghost use Rattle.cql_wire.specs.Held.{answer_line, reply_rest, reply_in_hand, rest_in_hand};
+ghost use Rattle.cql_wire.specs.Held.{held_line, reply_rest, reply_in_hand, rest_in_hand};
 
+use crate::listing_place::ListingPlace;
 use crate::reply_buffer::ReplyBuffer;
-use cql_core::Reply;
+use cql_core::{Listing, Reply};
 use cql_reply::{LinePlace, weight_of};
 
-/// The reply to a fetch whose line is told as its caller takes it, and how far it is told. No text of the
-/// line is held. The reply is its own, or somebody else's, who lends it at each call.
+// The bytes of a query or a stream in a list, beside its name and its text.
+const ITEM: usize = 64;
+
+/// A place in the line of a reply: in that of an answer, or in that of a list.
+#[derive(Clone, Copy)]
+pub struct ReplyPlace {
+    blocks: LinePlace,
+    listing: ListingPlace,
+}
+
+/// The reply to a fetch or a list whose line is told as its caller takes it, and how far it is told. No
+/// text of the line is held. The reply is its own, or somebody else's, who lends it at each call.
 pub struct HeldReply {
     reply: Option<Reply>,
-    place: LinePlace,
+    place: ReplyPlace,
     // what it weighs, in bytes, once that was asked
     weight: usize,
 }
@@ -30,17 +41,20 @@ impl HeldReply {
     /// One of which nothing is told yet: its own, or a lent one.
     pub fn new(reply: Option<Reply>) -> HeldReply
         ensures reply { result.reply ≡ reply }
-        ensures begins { (known : reply_type) → reply_rest known result.place ≡ answer_line known }
+        ensures begins { (known : reply_type) → reply_rest known result.place ≡ held_line known }
     {
         HeldReply {
             reply,
-            place: LinePlace::start(),
+            place: ReplyPlace {
+                blocks: LinePlace::start(),
+                listing: ListingPlace::start(),
+            },
             weight: 0,
         }
     }
 
     /// Moves what is to come of the line behind what is buffered, as far as there is room; whether all of
-    /// it has come. Unless all has, less than 64 bytes of room are left. A reply that is no answer has no
+    /// it has come. Unless all has, less than 64 bytes of room are left. A reply of another kind has no
     /// line here. Takes no memory.
     pub fn fill(&mut self, lent: Option<&Reply>, buffer: &mut ReplyBuffer) -> bool
         ensures told { buffer.new ++ rest_in_hand (reply_in_hand self.new.reply (option_copied lent.entry)) self.new.place ≡ buffer.old ++ rest_in_hand (reply_in_hand self.old.reply (option_copied lent.entry)) self.old.place }
@@ -76,14 +90,15 @@ impl HeldReply {
     }
 }
 
-// Moves what is to come of an answer's line behind what is buffered.
-fn fill_reply(reply: &Reply, place: &mut LinePlace, buffer: &mut ReplyBuffer) -> bool
+// Moves what is to come of a reply's line behind what is buffered.
+fn fill_reply(reply: &Reply, place: &mut ReplyPlace, buffer: &mut ReplyBuffer) -> bool
     ensures told { buffer.new ++ reply_rest reply.now place.new ≡ buffer.old ++ reply_rest reply.now place.old }
     ensures done { result ≡ true → reply_rest reply.now place.new ≡ [] }
     ensures full { result ≡ false → 65536 < length buffer.new + 64 }
 {
     match reply {
-        Reply::Blocks(answer) => buffer.fill(answer, place),
+        Reply::Blocks(answer) => buffer.fill(answer, &mut place.blocks),
+        Reply::Listing(listing) => buffer.fill_listing(listing, &mut place.listing),
         _ => true,
     }
 }
@@ -91,6 +106,24 @@ fn fill_reply(reply: &Reply, place: &mut LinePlace, buffer: &mut ReplyBuffer) ->
 fn weight_of_reply(reply: &Reply) -> usize {
     match reply {
         Reply::Blocks(answer) => weight_of(answer.blocks()),
+        Reply::Listing(listing) => weight_of_listing(listing),
         _ => 0,
     }
+}
+
+// What a list keeps: of granted streams it shares the texts with the grants.
+fn weight_of_listing(listing: &Listing) -> usize {
+    let mut weight = listing.readable.as_slice().len().saturating_mul(ITEM);
+    for stream in listing.streams.as_slice() {
+        weight = weight
+            .saturating_add(ITEM)
+            .saturating_add(stream.name.len());
+    }
+    for query in listing.queries.as_slice() {
+        weight = weight
+            .saturating_add(ITEM)
+            .saturating_add(query.name.len())
+            .saturating_add(query.text.len());
+    }
+    weight
 }

@@ -2,14 +2,14 @@
 ghost use Rattle.std.specs.Prelude.{◌≡◌, ◌≢◌, ◌+◌, ◌<◌, ◌≤◌, ◌++◌, ◌||◌, [], true, false, length, is_err, IfOk, OnOk, OnErr};
 ghost use Rattle.std.specs.Io.KnownBytes.{Appends};
 ghost use Rattle.cql_core.specs.Steps.{reply_model};
-ghost use Rattle.cql_core.specs.ReplyModel.{Listed};
 ghost use Rattle.cql_reply.specs.Place.{line_rest};
 ghost use Rattle.cql_wire.specs.Buffered.{Buffers, BuffersReply};
 ghost use Rattle.cql_wire.specs.Line.{fault_line};
+ghost use Rattle.cql_wire.specs.Listing.{listing_rest};
 ghost use Rattle.cql_wire.specs.Short.{short_line};
 ghost use Rattle.cql_lines.specs.Watched.{inner_of, has_failed, Grows};
 
-use crate::reply::listing::listing_line;
+use crate::listing_place::{ListingPlace, put_listing};
 use crate::reply::{ShortReply, write_short};
 use arrayvec::ArrayVec;
 use cql_asked::LineFault;
@@ -103,7 +103,7 @@ impl ReplyBuffer {
     {
         let mut line = Watched::new(ShortLine::new());
         match write_short(&mut line, reply) {
-            Ok(()) => self.put(writer, line.into_inner().as_slice()),
+            Ok(()) => self.put(writer, line.inner().as_slice()),
             // doesn't come, since no such line is longer than `SHORT`; but no clause says so
             Err(_) => {
                 self.flush(writer)?;
@@ -124,29 +124,10 @@ impl ReplyBuffer {
         self.put_short(writer, ShortReply::Fault(*fault))
     }
 
-    // Buffers the line of a list, which takes memory; where there is none for it, the line of
-    // `NoMemory` (70) in its place.
-    fn put_listing<W: Write>(
-        &mut self,
-        alloc: Global,
-        writer: &mut Watched<W>,
-        listing: &Listing,
-    ) -> Result<(), WriteFault>
-        ensures buffers { BuffersReply (W.contents (inner_of writer.old)) (W.contents (inner_of writer.new)) self.old (Listed listing.now) self.new result }
-        ensures failed { has_failed writer.new ≡ (has_failed writer.old || is_err result) }
-    {
-        match listing_line(alloc, listing) {
-            Ok(line) => self.put(writer, line.as_bytes()),
-            Err(_) => self.put_fault(writer, &LineFault::NoMemory),
-        }
-    }
-
-    /// Buffers the line of a reply. That of blocks goes through the buffer as it is written, and is
-    /// nowhere whole. Only that of a list takes memory; where there is none for it, the line of
-    /// `NoMemory` (70) is buffered in its place.
+    /// Buffers the line of a reply. That of blocks or of a list goes through the buffer as it is written,
+    /// and is nowhere whole. Takes no memory.
     pub fn put_reply<W: Write>(
         &mut self,
-        alloc: Global,
         writer: &mut Watched<W>,
         reply: &Reply,
     ) -> Result<(), WriteFault>
@@ -157,7 +138,7 @@ impl ReplyBuffer {
             Reply::Ok => self.put(writer, DONE),
             Reply::Base(base) => self.put_short(writer, ShortReply::Base(*base)),
             Reply::Blocks(answer) => self.room.put_blocks(writer, answer.blocks(), answer.next()),
-            Reply::Listing(listing) => self.put_listing(alloc, writer, listing),
+            Reply::Listing(listing) => put_listing(&mut self.room, writer, listing),
             Reply::Refused(refusal) => self.put_short(writer, ShortReply::Refused(*refusal)),
         }
     }
@@ -172,5 +153,15 @@ impl ReplyBuffer {
         ensures full { result ≡ false → 65536 < length self.new + 64 }
     {
         place.fill(answer.blocks(), answer.next(), &mut self.room)
+    }
+
+    /// The same of a list.
+    pub fn fill_listing(&mut self, listing: &Listing, place: &mut ListingPlace) -> bool
+        ensures told { self.new ++ listing_rest listing.now place.new ≡ self.old ++ listing_rest listing.now place.old }
+        ensures grows { length self.old ≤ length self.new }
+        ensures done { result ≡ true → listing_rest listing.now place.new ≡ [] }
+        ensures full { result ≡ false → 65536 < length self.new + 64 }
+    {
+        place.fill(listing, &mut self.room)
     }
 }

@@ -207,8 +207,8 @@ enum Takes {
     Milliseconds(&'static str, i64),
     // A form of joins.
     Form,
-    // A file, of which none need be given, and none may be beside these words.
-    File(&'static [&'static str]),
+    // A file, of which none need be given.
+    File,
     // An IPv4 address: what it is where none is given.
     Address(&'static str),
     Nothing,
@@ -285,7 +285,7 @@ const WORDS: &[Word] = &[
     ),
     Word(
         "journal",
-        Takes::File(&["audit", "sessions"]),
+        Takes::File,
         "The file that keeps what changes for the next start; without it nothing is kept",
     ),
     Word(
@@ -347,10 +347,9 @@ fn argument<'a>(alloc: Global, word: &'static Word) -> Result<Arg<'a>, AllocErro
         Takes::Milliseconds(default, most) => {
             valued(argument, "MS", default, value_parser!(u32).range(0..=most))
         }
-        Takes::File(others) => argument
+        Takes::File => argument
             .value_name("FILE")
-            .value_parser(ValueParser::string())
-            .conflicts_with_all(others)?,
+            .value_parser(ValueParser::string()),
         Takes::Form => valued(argument, "FORM", "keyed", JOIN_FORMS.into()),
         Takes::Address(default) => valued(argument, "ADDRESS", default, ValueParser::string()),
         Takes::Nothing => argument.action(ArgAction::SetTrue),

@@ -32,7 +32,7 @@ returns-in-Err-end_of-clause-err g c = λ file h.
 pub returns-in-Ok-clause-ok : goal.returns-in-Ok-clause-ok
 returns-in-Ok-clause-ok g c = λ file h.
     let n = c.in-Ok-false.ensures.over (grind arith) in
-    recovered _ file _ _ _ _ _ c.loop-batches.place _ h c.loop-batches.invariant n.kept n.none c.in-Ok.ensures.ok n.state_is (ap (λ (p : Place). p.chain) n.place_is) refl (ap (λ (p : Place). p.count) n.place_is) (ap (λ (p : Place). p.bytes) n.place_is)
+    recovered _ file _ _ _ _ _ c.loop-batches.place _ _ h c.loop-batches.invariant n.kept n.none c.in-Ok.ensures.ok n.state_is (ap (λ (p : Place). p.chain) n.place_is) refl (ap (λ (p : Place). p.count) n.place_is) (ap (λ (p : Place). p.bytes) n.place_is)
 
 pub loop-batches-preserved : goal.loop-batches-preserved
 loop-batches-preserved g c = recovering_more _ _ _ _ _ _ _ _ _ c.loop-batches.invariant (c.in-Ok-true.ensures.more (grind arith))

@@ -4,7 +4,7 @@ use Rattle.cql_journal.specs.Recovery.{Replaying}
 use Rattle.cql_journal.proofs.replaying.replay_lines.Given as goal
 
 abbrev pub invariant-loop-line : goal.invariant-loop-line
-invariant-loop-line l = Replaying l.fn.table l.fn.chain l.fn.lines l.rest l.fn.core l.core l.fn.count l.counts
+invariant-loop-line g l = Replaying l.fn.table l.fn.chain l.fn.lines l.rest (g.M.StateMachine.state l.fn.machine) (g.M.StateMachine.state l.machine) l.fn.count l.counts
 
 abbrev pub decreases-loop-line : goal.decreases-loop-line
-decreases-loop-line l = length l.rest
+decreases-loop-line g l = length l.rest

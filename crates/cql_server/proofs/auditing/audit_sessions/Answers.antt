@@ -1,5 +1,5 @@
 use Rattle.std.proofs.Common.{◌∙◌, ap, sym, map, sum_by}
-use Rattle.cql_sessions.specs.Tallies.{placed}
+use Rattle.cql_hall.specs.Audit.{placed}
 use Rattle.cql_sessions.proofs.Taking.{lists_of, agreed_once, placed_in_lists, placed_as_counted}
 use Rattle.cql_server.proofs.auditing.audit_sessions.Goals as goal
 

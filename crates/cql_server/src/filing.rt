@@ -1,0 +1,166 @@
+// Sessions over what a journal's file leads to.
+ghost use Rattle.std.specs.Prelude.{◌≡◌, ◌⊎◌, All, IfErr};
+ghost use Rattle.cql_ops.specs.Bench.{IsBench};
+ghost use Rattle.cql_server.specs.declared.failure.Failure.TheVariants as failure;
+ghost use Rattle.cql_server.specs.declared.journal_file.JournalFault.TheVariants as fault;
+
+use crate::auditing::audit_sessions;
+use crate::callers::{Benches, serve_hall, tell_audited};
+use crate::failure::Failure;
+use crate::journal_file::{JournalFault, JournalFile, Opened};
+use crate::journal_writer::JournalWriter;
+use crate::listener::Listener;
+use cql_benches::{Answers, SharedPool};
+use cql_connections::Limits;
+use cql_core::{BenchOf, Core, Operator, TenantTable};
+use cql_hall::{Bare, Book, Gate, Hall, Kept, Past, PastCaller};
+use cql_sessions::{Callable, Ending, Service};
+use std::alloc::{AllocError, Global};
+use std::io::Write;
+use std::sync::Wait;
+use std::sync::atomic::{AtomicBool, Ordering};
+use std::thread::Threads;
+use std::time::{Clock, Duration};
+
+/// Serves the callers of a listener over a core that a journal's file leads to: so many sessions, or without an
+/// end where that is 0. What changes it is written to that file, and no reply goes that rests on what isn't
+/// durable there; changes are gathered for so long. Else it is as `serve` without an audit.
+///
+/// Where a write or a sync of the file fails, no more is served (`Journal`, 9).
+pub(crate) fn serve_filing<R, G, O>(
+    rt: &R,
+    alloc: Global,
+    bound: Listener<'_>,
+    limits: Limits,
+    table: &TenantTable,
+    benches: Benches<O>,
+    opened: Opened<Core>,
+    gather: Duration,
+    sessions: u16,
+    gate: &G,
+) -> Result<(), Failure>
+where
+    R: Threads + Wait + Clock + Sync,
+    G: Gate + Sync,
+    O: Operator + Send,
+    requires own { All (IsBench O.model_of) benches.own.items }
+    requires shared { All (IsBench O.model_of) benches.shared.items }
+    ensures { IfErr result (λ f. (f ≡ failure.NoMemory) ⊎ (f ≡ failure.Journal fault.Writing)) }
+{
+    let (own, shared, rooms) = benches.into_parts();
+    let answers = Answers::new(alloc, limits.answer, own.len())?;
+    let pool = SharedPool::new(rt, alloc, shared, answers, rooms)?;
+    let copy = table.try_clone(alloc)?;
+    let (core, file) = opened.into_parts();
+    let hall: Hall<Bare> = Hall::filing(alloc, Book::of_core(alloc, copy, core));
+    let service = Service {
+        rt,
+        alloc,
+        hall: &hall,
+        table,
+        gate,
+    };
+    serve_filed(
+        &service, bound, limits, own, &pool, sessions, false, file, gather,
+    )?;
+    Ok(())
+}
+
+/// As `serve_filing`, and keeps each call with what it was told, also those of the file. At the end all is
+/// checked, as `serve` does under an audit: the journal begins at the table's opening, and its first entries
+/// are the file's.
+pub(crate) fn serve_filing_kept<R, W, G, O>(
+    rt: &R,
+    alloc: Global,
+    bound: Listener<'_>,
+    limits: Limits,
+    out: &mut W,
+    table: &TenantTable,
+    benches: Benches<O>,
+    opened: Opened<Past>,
+    gather: Duration,
+    sessions: u16,
+    gate: &G,
+) -> Result<(), Failure>
+where
+    R: Threads + Wait + Clock + Sync,
+    W: Write,
+    G: Gate + Sync,
+    O: Operator + Send,
+    requires own { All (IsBench O.model_of) benches.own.items }
+    requires shared { All (IsBench O.model_of) benches.shared.items }
+{
+    let (own, shared, rooms) = benches.into_parts();
+    let answers = Answers::new(alloc, limits.answer, own.len())?;
+    let pool = SharedPool::new(rt, alloc, shared, answers, rooms)?;
+    let (past, file) = opened.into_parts();
+    let (book, callers) = past.into_parts();
+    let hall: Hall<Kept> = Hall::filing(alloc, book);
+    let service = Service {
+        rt,
+        alloc,
+        hall: &hall,
+        table,
+        gate,
+    };
+    let ends = serve_filed(
+        &service, bound, limits, own, &pool, sessions, true, file, gather,
+    )?;
+    let ends = with_past(ends, callers)?;
+    tell_audited(out, audit_sessions(alloc, table, hall, ends)?)
+}
+
+// The ends of sessions, and behind them those of the callers of before.
+fn with_past(ends: Vec<Ending>, callers: Vec<PastCaller>) -> Result<Vec<Ending>, AllocError> {
+    let mut ends = ends;
+    for caller in callers {
+        let (seat, receipts) = caller.into_parts();
+        ends.push(Ending {
+            seat: Some(seat),
+            receipts,
+        })?;
+    }
+    Ok(ends)
+}
+
+// Serves sessions, of which a thread writes what changes to the file.
+fn serve_filed<R, C, G, O>(
+    service: &Service<'_, R, C, G>,
+    bound: Listener<'_>,
+    limits: Limits,
+    own: Vec<BenchOf<O>>,
+    pool: &SharedPool<O>,
+    sessions: u16,
+    is_kept: bool,
+    file: JournalFile,
+    gather: Duration,
+) -> Result<Vec<Ending>, Failure>
+where
+    R: Threads + Wait + Clock + Sync,
+    C: Callable<R, G> + Sync,
+    G: Gate + Sync,
+    O: Operator + Send,
+    requires { All (IsBench O.model_of) own.items }
+    ensures { IfErr result (λ f. (f ≡ failure.NoMemory) ⊎ (f ≡ failure.Journal fault.Writing)) }
+{
+    let has_failed = AtomicBool::new(false);
+    let writer = JournalWriter {
+        file,
+        gather,
+        has_failed: &has_failed,
+    };
+    let ends = serve_hall(
+        service,
+        bound,
+        limits,
+        own,
+        pool,
+        sessions,
+        is_kept,
+        Some(writer),
+    )?;
+    if has_failed.load(Ordering::SeqCst) {
+        return Err(Failure::from(JournalFault::Writing));
+    }
+    Ok(ends)
+}

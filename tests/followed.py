@@ -148,11 +148,12 @@ def as_shown(text):
 
 
 def begins(near, text):
-    """As many lines of what a terminal shows as the page does, of lines that go on; the end of a key isn't one."""
+    """As many lines of what a terminal shows as the page does, of lines that go on; the end of a key isn't one. What
+    came with the last of them, such as a word on what isn't installed, is passed over."""
     seen = ""
     while seen.lstrip("\n").count("\n") < text.count("\n"):
         seen += as_shown(shown_until(near, b"\n"))
-    return seen.lstrip("\n")
+    return "".join(seen.lstrip("\n").splitlines(keepends=True)[: text.count("\n")])
 
 
 def all_of(near):

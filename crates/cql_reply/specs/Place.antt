@@ -19,7 +19,7 @@ use Rattle.cql_reply.specs.declared.block_place.BlockPlace.{BlockPlace}
 use Rattle.cql_reply.specs.declared.line_place.LineStage.{LineStage}
 use Rattle.cql_reply.specs.declared.line_place.LineStage.TheVariants.{Beginning, Blocks, Ending, Ended}
 use Rattle.cql_reply.specs.declared.line_place.LinePlace.{LinePlace}
-use Rattle.cql_reply.specs.Line.{items_text, list_text, value_text, row_text, rows_text, block_text, blocks_line}
+use Rattle.cql_reply.specs.Line.{items_text, list_text, value_text, row_text, rows_text, fault_word, block_text, blocks_line}
 
 -- ---- lists
 
@@ -67,6 +67,12 @@ abbrev pub rows_rest : List (List Value) → ListPlace RowPlace → List ℕ
 rows_rest = list_rest row_text row_rest
 
 -- ---- blocks
+
+-- what stands before the first instant
+abbrev pub opening_text : Output → List ℕ
+opening_text (Rows rows) = codes "{\"from\":"
+opening_text (Signed plus minus) = codes "{\"from\":"
+opening_text (Fault fault) = codes "{\"fault\":\"" ++ (fault_word fault ++ codes "\",\"from\":")
 
 -- what stands before the rows is told
 abbrev pub IsHeadTold : BlockStage → Type 0

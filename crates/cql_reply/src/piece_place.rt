@@ -1,10 +1,10 @@
 // A place in a text that is made of pieces, one behind the other.
-ghost use Rattle.std.specs.Prelude.{◌≡◌, ◌+◌, ◌<◌, ◌≤◌, ◌++◌, List, ℕ, [], ◌∷◌, true, false, length, map, drop, decimal};
-ghost use Rattle.json.specs.Print.{quoted};
+ghost use Rattle.std.specs.Prelude.{◌≡◌, ◌+◌, ◌<◌, ◌≤◌, ◌++◌, List, ℕ, [], ◌∷◌, true, false, None, length, map, drop, decimal};
+ghost use Rattle.json.specs.Print.{escape, quoted};
 ghost use Rattle.cql_value.specs.declared.schema.Column.{Column as column};
 ghost use Rattle.cql_reply.specs.declared.piece_place.Piece.{Piece as piece};
 ghost use Rattle.cql_reply.specs.Place.{list_rest};
-ghost use Rattle.cql_reply.specs.Pieces.{PieceText, name_rest, column_text, column_rest, piece_of, piece_text, pieces_text, digits_rest, piece_rest, pieces_from, pieces_rest};
+ghost use Rattle.cql_reply.specs.Pieces.{PieceText, escaped, name_rest, column_text, column_rest, piece_of, piece_text, pieces_text, digits_rest, piece_rest, pieces_from, pieces_rest};
 
 use crate::byte_room::ByteRoom;
 use crate::list_place::ListPlace;
@@ -164,15 +164,80 @@ impl PiecesPlace {
         ensures grows { length room.old.bytes ≤ length room.new.bytes }
         ensures size { room.new.size ≡ room.old.size }
         ensures done { result ≡ true → (later : List PieceText) → room.new.bytes ++ pieces_text later ≡ room.old.bytes ++ pieces_from self.old.inner (piece_of piece.now ∷ later) }
+        ensures none { result ≡ true → self.new.inner ≡ None }
         ensures full { result ≡ false → room.new.size < length room.new.bytes + 64 }
     {
-        let mut inner = match self.inner {
-            Some(inner) => inner,
-            None => PiecePlace::start(),
-        };
-        let is_told = inner.fill(piece, room);
+        match self.inner {
+            Some(inner) => self.go_on(inner, piece, room),
+            None => self.begin(piece, room),
+        }
+    }
+
+    // Tells a piece of which nothing is told. Most fit, and are told without a place in them.
+    fn begin(&mut self, piece: &Piece<'_>, room: &mut ByteRoom) -> bool
+        requires { self.old.inner ≡ None }
+        ensures told { result ≡ false → (later : List PieceText) → room.new.bytes ++ pieces_from self.new.inner (piece_of piece.now ∷ later) ≡ room.old.bytes ++ (piece_text (piece_of piece.now) ++ pieces_text later) }
+        ensures index { self.new.index ≡ self.old.index }
+        ensures grows { length room.old.bytes ≤ length room.new.bytes }
+        ensures size { room.new.size ≡ room.old.size }
+        ensures done { result ≡ true → (later : List PieceText) → room.new.bytes ++ pieces_text later ≡ room.old.bytes ++ (piece_text (piece_of piece.now) ++ pieces_text later) }
+        ensures none { result ≡ true → self.new.inner ≡ None }
+        ensures full { result ≡ false → room.new.size < length room.new.bytes + 64 }
+    {
+        match piece {
+            Piece::Plain(bytes) if bytes.len() <= room.left() => {
+                room.put(bytes);
+                true
+            }
+            Piece::Number(number) if room.has_room() => {
+                room.put_number(*number);
+                true
+            }
+            Piece::Escaped(text) => self.begin_escaped(text, room),
+            _ => self.go_on(PiecePlace::start(), piece, room),
+        }
+    }
+
+    // The same of a text that is escaped.
+    fn begin_escaped(&mut self, text: &[u8], room: &mut ByteRoom) -> bool
+        requires { self.old.inner ≡ None }
+        ensures told { result ≡ false → (later : List PieceText) → room.new.bytes ++ pieces_from self.new.inner (escaped text.now ∷ later) ≡ room.old.bytes ++ (escape text.now ++ pieces_text later) }
+        ensures index { self.new.index ≡ self.old.index }
+        ensures grows { length room.old.bytes ≤ length room.new.bytes }
+        ensures size { room.new.size ≡ room.old.size }
+        ensures done { result ≡ true → (later : List PieceText) → room.new.bytes ++ pieces_text later ≡ room.old.bytes ++ (escape text.now ++ pieces_text later) }
+        ensures none { result ≡ true → self.new.inner ≡ None }
+        ensures full { result ≡ false → room.new.size < length room.new.bytes + 64 }
+    {
+        let at = put_escaped(text, 0, room);
+        if at >= text.len() {
+            return true;
+        }
+        self.inner = Some(PiecePlace {
+            at,
+            names: ListPlace::start(),
+        });
+        false
+    }
+
+    // Tells what is behind a place in the piece.
+    #[inline(never)]
+    fn go_on(&mut self, inner: PiecePlace, piece: &Piece<'_>, room: &mut ByteRoom) -> bool
+        ensures told { result ≡ false → (later : List PieceText) → room.new.bytes ++ pieces_from self.new.inner (piece_of piece.now ∷ later) ≡ room.old.bytes ++ (piece_rest (piece_of piece.now) inner ++ pieces_text later) }
+        ensures index { self.new.index ≡ self.old.index }
+        ensures grows { length room.old.bytes ≤ length room.new.bytes }
+        ensures size { room.new.size ≡ room.old.size }
+        ensures done { result ≡ true → (later : List PieceText) → room.new.bytes ++ pieces_text later ≡ room.old.bytes ++ (piece_rest (piece_of piece.now) inner ++ pieces_text later) }
+        ensures none { result ≡ true → self.new.inner ≡ None }
+        ensures full { result ≡ false → room.new.size < length room.new.bytes + 64 }
+    {
+        let mut inner = inner;
+        if inner.fill(piece, room) {
+            self.inner = None;
+            return true;
+        }
         self.inner = Some(inner);
-        is_told
+        false
     }
 
     /// Tells what is behind the place, as far as there is room for it; whether all is told. Takes no
@@ -189,7 +254,6 @@ impl PiecesPlace {
                 return false;
             }
             self.index += 1;
-            self.inner = None;
         }
         true
     }

@@ -1,4 +1,5 @@
-use Rattle.std.proofs.Common.{arith, true, ◌≡◌, ◌+◌, ◌∷◌, length, drop, refl, sym, ap, ◌∙◌, subst}
+use Rattle.std.proofs.lemmas.Grind.{common_steps}
+use Rattle.std.proofs.Common.{arith, true, ◌≡◌, ◌∷◌, length, drop, refl, sym, ap, ◌∙◌, subst}
 use Rattle.std.proofs.lemmas.List.{drop-set, drop-drop, drop_all, length-set}
 use Rattle.cql_reply.specs.Line.{items_text, value_text}
 use Rattle.cql_reply.proofs.Telling.{opened}
@@ -21,3 +22,15 @@ returns-clause-written c =
     let none : c.loop-left.left ≡ 0 = omega (arith, c.loop-left-test.false) in
     let whole = subst (λ n. drop from text ≡ items_text value_text true (drop n c.args.values.now)) none c.loop-left.invariant.0 in
     drop-set text from 91 (omega arith) ∙ ap (λ l. 91 ∷ l) (sym (drop-drop 1 from text)) ∙ opened c.args.values.now c.requires.0 (drop from text) whole
+
+pub bounds-text-from-in-loop-left : goal.bounds-text-from-in-loop-left
+bounds-text-from-in-loop-left c = omega arith
+
+pub overflow_sub-from-in-loop-left : goal.overflow_sub-from-in-loop-left
+overflow_sub-from-in-loop-left c = omega arith
+
+pub loop-left-smaller : goal.loop-left-smaller
+loop-left-smaller c = grind (arith, common_steps)
+
+pub loop-left-preserved : goal.loop-left-preserved
+loop-left-preserved c = grind (arith, common_steps)

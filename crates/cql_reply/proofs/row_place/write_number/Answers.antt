@@ -1,4 +1,5 @@
-use Rattle.std.proofs.Common.{rules, arith, ◌≡◌, ◌+◌, ◌-◌, ◌++◌, drop, ap, to_z-of_z}
+use Rattle.std.proofs.lemmas.Grind.{common_steps}
+use Rattle.std.proofs.Common.{arith, ◌≡◌, ◌+◌, ◌-◌, ◌++◌, drop, ap, to_z-of_z}
 use Rattle.std.proofs.lemmas.Fmt.{length-decimal-le}
 use Rattle.std.proofs.lemmas.List.{drop-set}
 use Rattle.itoa.proofs.Decimal.{minus_first}
@@ -31,3 +32,9 @@ returns-clause-written c =
     let back = to_z-of_z c.ranges.number in
     rw (drop-set w.new.buf (w.result - 1) 45 (omega (arith, long, w.ensures.start, c.requires.0, c.requires.1)), e, w.ensures.written, c.unsigned_abs.ensures.value, back)
     (ap (λ l. l ++ drop c.args.end c.args.text.now) (minus_first c.args.number (rw back at c.if-number-ge0.false)))
+
+pub returns-clause-same : goal.returns-clause-same
+returns-clause-same c = grind (arith, common_steps)
+
+pub returns-then-number-ge0-clause-written : goal.returns-then-number-ge0-clause-written
+returns-then-number-ge0-clause-written c = grind (arith, common_steps)

@@ -1,5 +1,5 @@
 -- The bytes so far stand behind what was held; there is room for those that are left.
-use Rattle.std.proofs.Common.{◌≡◌, ◌+◌, ◌≤◌, ◌++◌, length, take}
+use Rattle.std.proofs.Common.{◌≡◌, ◌+◌, ◌++◌, length, take}
 use Rattle.cql_reply.proofs.byte_room.ByteRoom.put_few.Given as goal
 
 abbrev pub invariant-loop-byte : goal.invariant-loop-byte

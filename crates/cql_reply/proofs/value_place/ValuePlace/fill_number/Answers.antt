@@ -1,0 +1,15 @@
+use Rattle.std.proofs.lemmas.Grind.{common_steps}
+use Rattle.std.proofs.Common.{arith}
+use Rattle.cql_reply.proofs.value_place.ValuePlace.fill_number.Goals as goal
+
+pub put-requires : goal.put-requires
+put-requires c = omega arith
+
+pub returns-else-not-has_room-clause-full : goal.returns-else-not-has_room-clause-full
+returns-else-not-has_room-clause-full c = λ e. cc
+
+pub returns-else-not-has_room-clause-grows : goal.returns-else-not-has_room-clause-grows
+returns-else-not-has_room-clause-grows c = omega arith
+
+pub returns-then-not-has_room-clause-full : goal.returns-then-not-has_room-clause-full
+returns-then-not-has_room-clause-full c = grind (arith, common_steps)

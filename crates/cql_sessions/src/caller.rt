@@ -176,16 +176,10 @@ impl Caller {
             .hall
             .call(service.rt, gate, &mut self.seat, prepared, line);
         self.due = pending.due().max(self.due);
-        let receipt = pending.finish(service.alloc, bench, gate);
+        let mut receipt = pending.finish(service.alloc, bench, gate);
         tell(gate, tenant, kind, begun, &receipt.reply);
         if !self.is_kept {
-            let Receipt {
-                tenant: _,
-                prepared: _,
-                place: _,
-                reply,
-            } = receipt;
-            return self.taking.begin(writer, reply, buffer);
+            return self.taking.begin(writer, &mut receipt.reply, buffer);
         }
         let told = self.taking.begin_lent(writer, &receipt.reply, buffer);
         self.receipts.push_reserved(receipt);
@@ -245,7 +239,8 @@ fn begin<G: Gate>(gate: &G, tenant: TenantId, kind: Kind) -> u64 {
     if kind == Kind::Fetch { gate.nanos() } else { 0 }
 }
 
-// The reply of a call of a tenant is made.
+// The reply of a call of a tenant is made. Inlined, since of most replies nothing is told.
+#[inline(always)]
 fn tell<G: Gate>(gate: &G, tenant: TenantId, kind: Kind, begun: u64, reply: &Reply) {
     if kind == Kind::Fetch {
         gate.at(Point::Fetched(begun));

@@ -9,6 +9,7 @@ ghost use Rattle.cql_sessions.specs.InHand.{to_come, line_in_hand, is_long};
 use cql_core::Reply;
 use cql_wire::{HeldReply, ReplyBuffer, Watched, WriteFault};
 use std::io::Write;
+use std::mem;
 
 /// How a caller is told replies, and what is in hand: the reply to a fetch or a list of which something is
 /// still to come, and a place in its line. No bytes of the line are kept here.
@@ -45,23 +46,23 @@ impl Taking {
         self.held.is_none()
     }
 
-    /// Tells a reply of its own behind what is buffered: a long one as far as there is room, where it is
-    /// told bit by bit, and then the rest of it is in hand; else all of it.
+    /// Tells a reply behind what is buffered: a long one as far as there is room, where it is told bit by
+    /// bit, and then it is taken, and the rest of it is in hand; else all of it, where it is.
     pub(crate) fn begin<W: Write>(
         &mut self,
         writer: &mut Watched<W>,
-        reply: Reply,
+        reply: &mut Reply,
         buffer: &mut ReplyBuffer,
     ) -> Result<(), WriteFault>
-        ensures told { BuffersReply (W.contents (inner_of writer.old)) (W.contents (inner_of writer.new)) buffer.old (reply_model reply) (buffer.new ++ to_come self.new.held None) result }
+        ensures told { BuffersReply (W.contents (inner_of writer.old)) (W.contents (inner_of writer.new)) buffer.old (reply_model reply.old) (buffer.new ++ to_come self.new.held None) result }
     {
-        if self.is_bitwise && is_long(&reply) {
-            self.hold(Some(reply));
+        if self.is_bitwise && is_long(reply) {
+            self.hold(Some(mem::replace(reply, Reply::Ok)));
             self.fill(None, buffer);
             return Ok(());
         }
         self.let_go();
-        buffer.put_reply(writer, &reply)
+        buffer.put_reply(writer, reply)
     }
 
     /// The same of a reply that is lent, now and at each call.
@@ -91,7 +92,9 @@ impl Taking {
         }
     }
 
-    // A reply is in hand of which nothing is told yet: its own, or one that is lent.
+    // A reply is in hand of which nothing is told yet: its own, or one that is lent. Not inlined: the place
+    // is large, and room for it would be made ready for short replies too.
+    #[inline(never)]
     fn hold(&mut self, own: Option<Reply>)
         ensures begins { (lent : Option reply_type) → to_come self.new.held lent ≡ line_in_hand own lent }
     {

@@ -249,6 +249,25 @@ impl SessionState {
             let outcome = caller.answer(service, bench, line, may_fetch, buffer, scratch, writer)?;
             return Ok(outcome);
         }
+        self.log_in(service, buffer, writer)
+    }
+
+    // Answers the line as the login. One line of a session is, and a caller is large: so the room that one is
+    // made in isn't made ready for each line.
+    #[inline(never)]
+    fn log_in<H: Wait, C: Callable<H, G>, G: Gate, W: Write>(
+        &mut self,
+        service: &Service<'_, H, C, G>,
+        buffer: &mut ReplyBuffer,
+        writer: &mut Watched<W>,
+    ) -> Result<LineOutcome, ScriptError>
+        requires { self.old.caller ≡ None }
+        ensures same { (self.new.is_kept ≡ self.old.is_kept) × (self.new.intake ≡ self.old.intake) × (self.new.is_held ≡ self.old.is_held) × (self.new.is_ended ≡ self.old.is_ended) }
+        ensures answers { IfOk result (λ outcome. (outcome ≢ LineOutcome.Held) × Answers service.now.table.now (shown_line self.old.intake) None (account_of self.new.caller)) }
+        ensures over { OnOk result (self.new.is_over ≡ (is_none self.new.caller || self.old.is_over)) }
+        ensures stops { OnErr result ((account_of self.new.caller ≡ None) ⊎ Answers service.now.table.now (shown_line self.old.intake) None (account_of self.new.caller)) }
+    {
+        let line = self.intake.line();
         let alloc = service.alloc;
         match answer_login(alloc, service.table, line, buffer, writer)? {
             Some(tenant) => {

@@ -282,6 +282,23 @@ def many_at_once(program):
                 yield f"the open of it {words} {under_words}", difference(b'"open":%d' % (many - 1) in found, True)
 
 
+def of_who_has_gone(program):
+    """What callers who are gone have done is in the file within some seconds, though nobody waits for it."""
+    with a_journal() as journal, Server(program, TENANTS, journal=journal) as server:
+        with Caller(server, "a") as caller:
+            caller.serve([STREAM])
+        for turn in range(10):
+            gone = Caller(server, "a")
+            gone.send(*(put(turn, it) for it in range(20_000)))
+            gone.reset()
+        time.sleep(2.5)
+        before = len(records_of(journal))
+        with Caller(server, "a") as caller:
+            caller.ask(LIST)
+        yield "records", difference(len(records_of(journal)), before)
+        yield "some", difference(before > 1, True)
+
+
 # ---- Kills. Callers draw what they send; all that they were told has to be what the file leads to.
 
 
@@ -421,5 +438,6 @@ CHECKS = (
     a_wrong_disk,
     held_back,
     many_at_once,
+    of_who_has_gone,
     killed_under_load,
 )

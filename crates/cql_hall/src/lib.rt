@@ -21,7 +21,7 @@ pub use book::{Book, Entered};
 pub use cql_asked::Kind;
 pub use feed::Filing;
 pub use gate::{EndReason, Gate, OpenGate, Point};
-pub use hall::{Ended, Hall, Pending, Receipt, Seat, SeatsMissing};
+pub use hall::{Ended, Hall, Pending, Queued, Receipt, Seat, SeatsMissing};
 pub use journal::{Bare, Entry, Journal, Kept};
 pub use one_tenant::audit_alone;
 pub use past::{Past, PastCaller};

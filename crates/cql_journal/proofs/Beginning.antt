@@ -35,8 +35,3 @@ other_long come (Some ys) held k l free =
 pub new_file : (come known : Option (List ℕ)) (held lost : List ℕ) → Keeps come (prepend_known held known) → IfSome (prepend_known held known) (λ text. (text ≡ held) × (length text < 17)) → heading ≡ held ++ lost → IfSome come IsNew
 new_file come None held lost k h is = if_kept IsNew come None k tt
 new_file come (Some ys) held lost k h is = if_kept IsNew come (Some (held ++ ys)) k (lost, is ∙ ap (λ t. t ++ lost) (sym h.0), h.1)
-
-pub other_short : (come known : Option (List ℕ)) (held : List ℕ) → Keeps come (prepend_known held known) → IfSome (prepend_known held known) (λ text. (text ≡ held) × (length text < 17)) → ((lost : List ℕ) → heading ≢ held ++ lost) → IfSome come IsOther
-other_short come None held k h free = if_kept IsOther come None k tt
-other_short come (Some ys) held k h free = if_kept IsOther come (Some (held ++ ys)) k
-    ((λ behind is. absurd (let l : length (held ++ ys) ≡ length heading + length behind = ap length is ∙ length-append heading behind in omega (arith, l, its_length, h.1))), (λ lost is. free lost (is ∙ ap (λ t. t ++ lost) h.0)))

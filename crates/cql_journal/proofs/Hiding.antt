@@ -256,12 +256,6 @@ skip_many (Some x) (Some ys) held n m is s = omega (arith, is, s.many, ap length
 
 -- ---- until a chain is there
 
-pub short_at_end : (old new : List ℕ) (before after : Option (List ℕ)) (more : Bool) (n : ℕ) → more ≡ false → length old < n → Fills old new before after more → IfSome (prepend_known new after) (λ text. length text < n)
-short_at_end old new before None more n over s f = tt
-short_at_end old new before (Some ys) more n over s f =
-    let end = f.at_end over in
-    omega (arith, s, length-append new ys, ap length f.grown ∙ length-append old f.piece, ap length end.0, ap length end.1)
-
 -- ---- what a front is
 
 no_entries : (chain : List ℕ) (es : List Entry) → length (record_lines chain es) ≡ 0 → es ≡ []
@@ -393,8 +387,3 @@ search_over come mid left n told s e f = none_left come mid n s (subst (Tells mi
 -- so many steps, and a step that went on for so many bytes
 pub search_long : (come mid : Option (List ℕ)) (n m : ℕ) → Searching come mid n → IfSome mid (λ text. m ≤ length text) → IfSome come (λ text. m ≤ length text)
 search_long come mid n m s h = taken_then (λ text. m ≤ length text) (λ text. m ≤ length text) come mid s.front s.consumed h (λ x y split k. omega (arith, k, ap length split ∙ length-append s.front y))
-
-pub search_many : (come mid : Option (List ℕ)) (n m : ℕ) → n ≡ m → Searching come mid n → IfSome come (λ text. m ≤ length text)
-search_many None mid n m is s = tt
-search_many (Some x) None n m is s = absurd s.consumed
-search_many (Some x) (Some y) n m is s = omega (arith, is, s.many, ap length s.consumed ∙ length-append s.front y)

@@ -3,7 +3,7 @@ mod Parsing
 mod Batches
 mod Finding
 mod Hiding
-mod Waiting
+mod Making
 mod Beginning
 mod Leaving
 mod Stepping

@@ -55,15 +55,6 @@ fits line chain bytes tenant rest is cut space feed =
     let parts : Lacks 10 (tenant ++ 32 ∷ rest) = subst (Lacks 10) cut whole in
     record { spaceless = space; feedless = lacks_before 10 tenant _ parts; whole = (lacks_behind 10 tenant _ parts).1 }
 
--- a record without its chain
-pub no_body : (bytes : List ℕ) (e : Entry) → Lacks 32 bytes → bytes ≡ body e → ⊥
-no_body bytes e none is = (lacks_behind 32 e.tenant (32 ∷ e.line) (subst (Lacks 32) is none)).0 refl
-
-pub body_fits : (bytes tenant rest : List ℕ) → bytes ≡ tenant ++ 32 ∷ rest → Lacks 32 tenant → Lacks 10 bytes → Fits (record { tenant = tenant; line = rest })
-body_fits bytes tenant rest cut space feed =
-    let parts : Lacks 10 (tenant ++ 32 ∷ rest) = subst (Lacks 10) cut feed in
-    record { spaceless = space; feedless = lacks_before 10 tenant _ parts; whole = (lacks_behind 10 tenant _ parts).1 }
-
 lacks_at : (b : ℕ) (xs : List ℕ) (n : ℕ) → 0 ≢ b → Lacks b xs → slice_index xs n ≢ b
 lacks_at b [] n z p = z
 lacks_at b (x ∷ xs) zero z p = p.0
@@ -158,3 +149,6 @@ module _ (chain k : List ℕ) (c : IsChain chain) (d : IsChain k) where
       let rest = is_longer es fs part behind more p.1 q.1 lacks parts.1 in
       let same : length (record_line chain e) ≡ length (record_line chain f) = ap length parts.0 in
       omega (arith, size_more chain e es, size_more chain f fs)
+
+pub has_it : (b : ℕ) (text p q : List ℕ) → text ≡ p ++ b ∷ q → Lacks b text → ⊥
+has_it b text p q is lacks = (lacks_behind b p (b ∷ q) (subst (Lacks b) is lacks)).0 refl

@@ -82,11 +82,6 @@ rest_of_batch : (chain shown rest held : List ℕ) (size : ℕ) → rest ≡ dro
 rest_of_batch chain shown rest held size r s b =
     r ∙ ap (drop size) s ∙ ap (λ n. drop n held) b.size_is ∙ ap (drop (length (record_lines chain b.entries))) (b.held_is ∙ batch_rest chain b.entries b.behind) ∙ drop_front (record_lines chain b.entries) _
 
-pub rest_long : (chain shown rest held : List ℕ) (size : ℕ) → rest ≡ drop size shown → shown ≡ held → StartsBatch chain size held → 16 ≤ length rest
-rest_long chain shown rest held size r s b =
-    let k : length (batch_chain chain b.entries) ≡ 16 = (after_is_chain chain (record_lines chain b.entries)).size in
-    omega (arith, k, ap length (rest_of_batch chain shown rest held size r s b) ∙ length-append (batch_chain chain b.entries) (10 ∷ b.behind))
-
 chain_there : (chain shown rest held : List ℕ) (size : ℕ) → rest ≡ drop size shown → shown ≡ held → (b : StartsBatch chain size held) → take 16 rest ≡ batch_chain chain b.entries
 chain_there chain shown rest held size r s b =
     let k : length (batch_chain chain b.entries) ≡ 16 = (after_is_chain chain (record_lines chain b.entries)).size in
@@ -272,30 +267,6 @@ pub too_many : (table : List Tenant) (file before come : Option (List ℕ)) (num
 too_many table file before come number state place h n r = long_file file before come r.batches (2 ^ 64 - 1) h r.consumed (omega (arith, n, r.number_is))
 
 -- ---- where no more is read, and the beginning
-
-pub stops_reading : (table : List Tenant) (come : Option (List ℕ)) (old : State) (place : Place) (over : Bool) (A : Type 0) (r : Result A ReadStop) (stop : ReadStop) (fault : RecoveryFault) → fault ≡ fault_of stop → r ≡ Err stop → (r ≡ Err stopped_failed → over ≡ true) → (r ≡ Err stopped_many → ⊥)
-    → StopsIn table come old place over fault
-stops_reading table come old place over A r stopped_failed fault f e h m = subst (StopsIn table come old place over) (sym f) (h e)
-stops_reading table come old place over A r stopped_memory fault f e h m = subst (StopsIn table come old place over) (sym f) tt
-stops_reading table come old place over A r stopped_many fault f e h m = absurd (m e)
-
-pub ends_reading : (come : Option (List ℕ)) (bytes : ℕ) (over : Bool) (A : Type 0) (r : Result A ReadStop) (stop : ReadStop) (fault : RecoveryFault) → fault ≡ fault_of stop → r ≡ Err stop → (r ≡ Err stopped_failed → over ≡ true) → (r ≡ Err stopped_many → TooLong come)
-    → EndsBadly come bytes over fault
-ends_reading come bytes over A r stopped_failed fault f e h m = subst (EndsBadly come bytes over) (sym f) (h e)
-ends_reading come bytes over A r stopped_memory fault f e h m = subst (EndsBadly come bytes over) (sym f) tt
-ends_reading come bytes over A r stopped_many fault f e h m = subst (EndsBadly come bytes over) (sym f) (m e)
-
-pub fails_reading : (table : List Tenant) (file : Option (List ℕ)) (over : Bool) (A : Type 0) (r : Result A ReadStop) (stop : ReadStop) (fault : RecoveryFault) → fault ≡ fault_of stop → r ≡ Err stop → (r ≡ Err stopped_failed → over ≡ true) → (r ≡ Err stopped_many → ⊥) → Fails table file over fault
-fails_reading table file over A r stopped_failed fault f e h m = subst (Fails table file over) (sym f) (h e)
-fails_reading table file over A r stopped_memory fault f e h m = subst (Fails table file over) (sym f) tt
-fails_reading table file over A r stopped_many fault f e h m = absurd (m e)
-
--- nothing is held at first
-pub of_file : (file left : Option (List ℕ)) (held : List ℕ) (begin : Begin) → held ≡ [] → Begins (prepend_known held file) left begin → Begins file left begin
-of_file None left held Whole none b = tt
-of_file None left held Part none b = tt
-of_file None left held Other none b = tt
-of_file (Some x) left held begin none b = subst (λ h. Begins (Some (h ++ x)) left begin) none b
 
 pub opens : (table : List Tenant) (file : Option (List ℕ)) (state : State) (r : Recovered) → IfSome file IsNew → state ≡ opening table → r.chain ≡ first_chain → r.batches ≡ 0 → r.count ≡ 0 → r.bytes ≡ 0 → Opens table file state r
 opens table file state r new core chain batches count bytes = record { new = new; chain_is = chain; state_is = core; none = (batches, count, bytes) }

@@ -4,7 +4,7 @@ pub mod Splits
 pub mod Starting
 pub mod Reading
 pub mod Hidden
-pub mod Waiting
+pub mod Making
 pub mod Law
 pub mod Recovery
 pub mod Recovered

@@ -2,6 +2,7 @@
 //! whole or not at all, and how they are read again.
 #![tactic(auto)]
 
+mod batch;
 pub mod law;
 mod reading;
 mod record;
@@ -10,12 +11,11 @@ mod replaying;
 mod searching;
 mod starting;
 mod state_machine;
-mod writing;
 
+pub use batch::{Batch, BatchFault};
 pub use reading::MAX_BATCH;
 pub use record::{CHAIN, Chain, FIRST, Record};
 pub use recovery::{Onlooker, Recovered, RecoveryFault, Untold, recover};
 pub use replaying::{Unfit, UnfitRecord};
 pub use starting::HEADING;
 pub use state_machine::StateMachine;
-pub use writing::{BatchFault, append_waiting, reserve_waiting, write_batch};

@@ -5,13 +5,14 @@
 //! accident; of the digests at hand MD5 takes the fewest instructions a byte. Of 64 bits none tells
 //! more: two texts with equal ones are found by trying 2^32, and a second text to a given one by
 //! 2^64, whichever digest they are of.
-ghost use Rattle.std.specs.Prelude.{◌≡◌, ◌≢◌, ◌++◌, ◌∷◌, ◌↔◌, IsTrue, IfSome, IfNone, IfOk, OnOk, OnErr, List, ℕ, []};
-ghost use Rattle.cql_journal.specs.Record.{Entry, Fits, Lacks, batch, batch_chain, body, chain_after, committed, record_line, record_lines};
+ghost use Rattle.std.specs.Prelude.{◌≡◌, ◌≢◌, ◌≤◌, ◌+◌, ◌++◌, ◌∷◌, ◌↔◌, IsFalse, IfSome, IfNone, List, ℕ, [], length, take, vec_len, vec_capacity};
+ghost use Rattle.hex.specs.Hex.{encode_lower};
+ghost use Rattle.cql_journal.specs.Record.{Entry, Fits, Lacks, chain_after, record_line, record_lines};
 ghost use Rattle.cql_journal.specs.Taken.{entry_of};
 
 use md5::{Digest, Md5};
 use memchr::memchr;
-use std::alloc::{AllocError, Global};
+use std::alloc::Global;
 
 /// How many bytes a chain has.
 pub const CHAIN: usize = 16;
@@ -42,10 +43,26 @@ pub fn chain_after(chain: &Chain, bytes: &[u8]) -> Chain
     let mut hasher = Md5::new();
     hasher.update(chain.as_slice());
     hasher.update(bytes);
-    let digest = hasher.finalize();
+    digits_of(&hasher.finalize())
+}
+
+/// The chain that a digest gives: the digits of its first 8 bytes.
+pub(crate) fn digits_of(digest: &[u8; 16]) -> Chain
+    ensures { result ≡ encode_lower (take 8 digest.now) }
+{
     let mut text = [0; CHAIN];
     let _ = hex::encode_to_slice(&digest[..8], &mut text);
     text
+}
+
+/// Whether a byte is among these.
+pub(crate) fn has_byte(byte: u8, bytes: &[u8]) -> bool
+    ensures { IsFalse result ↔ Lacks byte bytes.now }
+{
+    match cut_at(byte, bytes) {
+        Some(_) => true,
+        None => false,
+    }
 }
 
 // The bytes before the first of this kind, and those behind it; none where there is none.
@@ -83,19 +100,6 @@ fn behind_chain<'a>(chain: &Chain, line: &'a [u8]) -> Option<&'a [u8]>
     }
 }
 
-/// The record that a line without a chain is; none where it has no space.
-pub(crate) fn record_of(bytes: &[u8]) -> Option<Record<'_>>
-    requires { Lacks 10 bytes.now }
-    ensures some { IfSome result (λ r. bytes.now ≡ body (entry_of r)) }
-    ensures fits { IfSome result (λ r. Fits (entry_of r)) }
-    ensures none { IfNone result ((e : Entry) → bytes.now ≢ body e) }
-{
-    let Some((tenant, line)) = cut_at(b' ', bytes) else {
-        return None;
-    };
-    Some(Record { tenant, line })
-}
-
 /// The record that a line of a batch behind a chain is; none where it is no such record.
 pub fn record_in<'a>(chain: &Chain, line: &'a [u8]) -> Option<Record<'a>>
     requires { Lacks 10 line.now }
@@ -112,29 +116,16 @@ pub fn record_in<'a>(chain: &Chain, line: &'a [u8]) -> Option<Record<'a>>
     Some(Record { tenant, line })
 }
 
-/// Appends a record of a batch behind a chain, with its line feed. Without memory a part of it may
-/// stand there.
-pub fn append_record(text: &mut Vec<u8>, chain: &Chain, given: Record<'_>) -> Result<(), AllocError>
-    ensures { OnOk result (text.new.items ≡ text.old.items ++ record_lines chain.now (entry_of given.entry ∷ [])) }
+/// Appends a record of a batch behind a chain, with its line feed. There is room for it, so it takes no
+/// memory.
+pub(crate) fn append_record(text: &mut Vec<u8>, chain: &Chain, given: Record<'_>)
+    requires { vec_len text.old + length (record_lines chain.now (entry_of given ∷ [])) ≤ vec_capacity text.old }
+    ensures { text.new.items ≡ text.old.items ++ record_lines chain.now (entry_of given.entry ∷ []) }
 {
-    text.extend_from_slice(chain.as_slice())?;
-    text.push(b' ')?;
-    text.extend_from_slice(given.tenant)?;
-    text.push(b' ')?;
-    text.extend_from_slice(given.line)?;
-    text.push(b'\n')?;
-    Ok(())
-}
-
-/// Ends a batch behind a chain, which then is that of the batch. An `Err` leaves the chain.
-pub fn commit(text: &mut Vec<u8>, chain: &mut Chain) -> Result<(), AllocError>
-    ensures text { OnOk result (text.new.items ≡ committed chain.old text.old.items) }
-    ensures chain { OnOk result (chain.new ≡ chain_after chain.old text.old.items) }
-    ensures err { OnErr result (chain.new ≡ chain.old) }
-{
-    let after = chain_after(chain, text);
-    text.extend_from_slice(after.as_slice())?;
-    text.push(b'\n')?;
-    *chain = after;
-    Ok(())
+    let _ = text.extend_from_slice(chain.as_slice());
+    let _ = text.push(b' ');
+    let _ = text.extend_from_slice(given.tenant);
+    let _ = text.push(b' ');
+    let _ = text.extend_from_slice(given.line);
+    let _ = text.push(b'\n');
 }

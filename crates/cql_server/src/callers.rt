@@ -1,5 +1,5 @@
 // Sessions of a listener's callers.
-ghost use Rattle.std.specs.Prelude.{◌≡◌, All, IfErr, true, false, Err};
+ghost use Rattle.std.specs.Prelude.{◌≡◌, All, IfErr, IfOk, true, false, Err};
 ghost use Rattle.cql_ops.specs.Bench.{IsBench};
 ghost use Rattle.cql_server.specs.declared.failure.Failure.TheVariants as failure;
 
@@ -15,12 +15,12 @@ use cql_core::{BenchOf, Operator, TenantTable};
 use cql_hall::{Bare, Gate, Hall, Kept};
 use cql_sessions::{Callable, Connection, Ending, Service};
 use crossbeam_channel::Receiver;
-use std::alloc::Global;
+use std::alloc::{AllocError, Global};
 use std::io::Write;
 use std::sync::Wait;
 use std::thread;
 use std::thread::Threads;
-use std::time::Clock;
+use std::time::{Clock, Duration};
 
 /// The benches of a server: one for each thread, and those that all threads borrow, of which each
 /// goes on with the query that it answered last; and how much they may keep, and an answer may weigh.
@@ -31,15 +31,21 @@ pub struct Benches<O: Operator> {
 }
 
 impl<O: Operator> Benches<O> {
-    /// All parts.
-    pub(crate) fn into_parts(self) -> (Vec<BenchOf<O>>, Vec<BenchOf<O>>, Rooms)
+    /// The threads' own, and the pool of those that they borrow, whose answers may take so long.
+    pub(crate) fn pooled<R: Clock>(
+        self,
+        rt: &R,
+        alloc: Global,
+        within: Option<Duration>,
+    ) -> Result<(Vec<BenchOf<O>>, SharedPool<O>), AllocError>
         requires own { All (IsBench O.model_of) self.own.items }
         requires shared { All (IsBench O.model_of) self.shared.items }
-        ensures own { All (IsBench O.model_of) result.0.items }
-        ensures shared { All (IsBench O.model_of) result.1.items }
+        ensures own { IfOk result (λ parts. All (IsBench O.model_of) parts.0.items) }
     {
         let Benches { own, shared, rooms } = self;
-        (own, shared, rooms)
+        let answers = Answers::new(alloc, within, own.len())?;
+        let pool = SharedPool::new(rt, alloc, shared, answers, rooms)?;
+        Ok((own, pool))
     }
 }
 
@@ -105,9 +111,7 @@ where
     if audit && sessions == 0 {
         return Err(Failure::NoSessions);
     }
-    let (own, shared, rooms) = benches.into_parts();
-    let answers = Answers::new(alloc, limits.answer, own.len())?;
-    let pool = SharedPool::new(rt, alloc, shared, answers, rooms)?;
+    let (own, pool) = benches.pooled(rt, alloc, limits.answer)?;
     if audit {
         serve_kept(
             rt, alloc, bound, limits, out, table, own, &pool, sessions, gate,
@@ -177,12 +181,18 @@ where
         gate,
     };
     let ends = serve_hall(&service, bound, limits, own, pool, sessions, true, None)?;
-    tell_audited(out, audit_sessions(alloc, table, hall, ends)?)
+    audit_told(out, alloc, table, hall, ends)
 }
 
-// Tells what an audit that agreed has counted.
-pub(crate) fn tell_audited<W: Write>(out: &mut W, audited: Audited) -> Result<(), Failure> {
-    let Audited { entries, receipts } = audited;
+// Audits what sessions were told by a hall that has kept its calls, and tells what that has counted.
+pub(crate) fn audit_told<W: Write>(
+    out: &mut W,
+    alloc: Global,
+    table: &TenantTable,
+    hall: Hall<Kept>,
+    ends: Vec<Ending>,
+) -> Result<(), Failure> {
+    let Audited { entries, receipts } = audit_sessions(alloc, table, hall, ends)?;
     let told = writeln!(out, "audit: {entries} entries, {receipts} receipts, agreed");
     if told.is_ok() && out.flush().is_ok() {
         Ok(())

@@ -4,18 +4,17 @@ ghost use Rattle.cql_ops.specs.Bench.{IsBench};
 ghost use Rattle.cql_server.specs.declared.failure.Failure.TheVariants as failure;
 ghost use Rattle.cql_server.specs.declared.journal_file.JournalFault.TheVariants as fault;
 
-use crate::auditing::audit_sessions;
-use crate::callers::{Benches, serve_hall, tell_audited};
+use crate::callers::{Benches, audit_told, serve_hall};
 use crate::failure::Failure;
 use crate::journal_file::{JournalFault, JournalFile, Opened};
 use crate::journal_writer::JournalWriter;
 use crate::listener::Listener;
-use cql_benches::{Answers, SharedPool};
+use cql_benches::SharedPool;
 use cql_connections::Limits;
 use cql_core::{BenchOf, Core, Operator, TenantTable};
 use cql_hall::{Bare, Book, Gate, Hall, Kept, Past, PastCaller};
 use cql_sessions::{Callable, Ending, Service};
-use std::alloc::{AllocError, Global};
+use std::alloc::Global;
 use std::io::Write;
 use std::sync::Wait;
 use std::sync::atomic::{AtomicBool, Ordering};
@@ -47,9 +46,7 @@ where
     requires shared { All (IsBench O.model_of) benches.shared.items }
     ensures { IfErr result (λ f. (f ≡ failure.NoMemory) ⊎ (f ≡ failure.Journal fault.Writing)) }
 {
-    let (own, shared, rooms) = benches.into_parts();
-    let answers = Answers::new(alloc, limits.answer, own.len())?;
-    let pool = SharedPool::new(rt, alloc, shared, answers, rooms)?;
+    let (own, pool) = benches.pooled(rt, alloc, limits.answer)?;
     let copy = table.try_clone(alloc)?;
     let (core, file) = opened.into_parts();
     let hall: Hall<Bare> = Hall::filing(alloc, Book::of_core(alloc, copy, core));
@@ -90,9 +87,7 @@ where
     requires own { All (IsBench O.model_of) benches.own.items }
     requires shared { All (IsBench O.model_of) benches.shared.items }
 {
-    let (own, shared, rooms) = benches.into_parts();
-    let answers = Answers::new(alloc, limits.answer, own.len())?;
-    let pool = SharedPool::new(rt, alloc, shared, answers, rooms)?;
+    let (own, pool) = benches.pooled(rt, alloc, limits.answer)?;
     let (past, file) = opened.into_parts();
     let (book, callers) = past.into_parts();
     let hall: Hall<Kept> = Hall::filing(alloc, book);
@@ -106,12 +101,18 @@ where
     let ends = serve_filed(
         &service, bound, limits, own, &pool, sessions, true, file, gather,
     )?;
-    let ends = with_past(ends, callers)?;
-    tell_audited(out, audit_sessions(alloc, table, hall, ends)?)
+    audit_with_past(out, alloc, table, hall, ends, callers)
 }
 
-// The ends of sessions, and behind them those of the callers of before.
-fn with_past(ends: Vec<Ending>, callers: Vec<PastCaller>) -> Result<Vec<Ending>, AllocError> {
+// Audits what sessions were told, and behind them the callers of before.
+fn audit_with_past<W: Write>(
+    out: &mut W,
+    alloc: Global,
+    table: &TenantTable,
+    hall: Hall<Kept>,
+    ends: Vec<Ending>,
+    callers: Vec<PastCaller>,
+) -> Result<(), Failure> {
     let mut ends = ends;
     for caller in callers {
         let (seat, receipts) = caller.into_parts();
@@ -120,7 +121,7 @@ fn with_past(ends: Vec<Ending>, callers: Vec<PastCaller>) -> Result<Vec<Ending>,
             receipts,
         })?;
     }
-    Ok(ends)
+    audit_told(out, alloc, table, hall, ends)
 }
 
 // Serves sessions, of which a thread writes what changes to the file.
@@ -146,6 +147,7 @@ where
     let has_failed = AtomicBool::new(false);
     let writer = JournalWriter {
         file,
+        count: 0,
         gather,
         has_failed: &has_failed,
     };

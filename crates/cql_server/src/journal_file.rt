@@ -1,12 +1,11 @@
 // The journal's file: who has it, what it leads to, and what is written behind that.
 ghost use Rattle.std.specs.Prelude.{◌≡◌, OnOk};
 ghost use Rattle.cql_core.specs.Machine.{opening};
-ghost use Rattle.cql_journal.specs.Waiting.{WritesBatch};
+ghost use Rattle.cql_journal.specs.Making.{WritesBatch};
 
 use cql_core::TenantTable;
 use cql_journal::{
-    Chain, HEADING, Onlooker, Recovered, RecoveryFault, StateMachine, Unfit, UnfitRecord, recover,
-    write_batch,
+    Batch, HEADING, Onlooker, Recovered, RecoveryFault, StateMachine, Unfit, UnfitRecord, recover,
 };
 use cql_wire::Watched;
 use std::alloc::Global;
@@ -111,33 +110,33 @@ impl<R: Clock + Eprint> Onlooker for Reading<'_, R> {
     }
 }
 
-/// A journal's file that this program has alone, and behind what the next batch is written.
+/// A journal's file that this program has alone, and the batch that it gets next.
 pub(crate) struct JournalFile {
     file: File,
-    chain: Chain,
-    text: Vec<u8>,
+    pub batch: Batch,
+    // those of the last batch that was ended
+    bytes: Vec<u8>,
 }
 
 impl Drop for JournalFile {
     fn drop(self) {
         let JournalFile {
             file: _,
-            chain: _,
-            text: _,
+            batch: _,
+            bytes: _,
         } = self;
     }
 }
 
 impl JournalFile {
-    /// Writes the batch of the records that wait, as they were put there, and returns once the system says
-    /// that it is durable.
-    pub(crate) fn write(&mut self, waiting: &[u8]) -> Result<(), JournalFault>
-        ensures { OnOk result (WritesBatch waiting.now self.old.chain self.new.chain self.new.text.items) }
+    /// Ends the batch and writes it, and returns once the system says that it is durable.
+    pub(crate) fn write(&mut self) -> Result<(), JournalFault>
+        ensures { OnOk result (WritesBatch self.old.batch self.new.bytes.items self.new.batch) }
     {
-        if write_batch(&mut self.text, &mut self.chain, waiting).is_err() {
+        if self.batch.close(&mut self.bytes).is_err() {
             return Err(JournalFault::Writing);
         }
-        let written = self.file.write_all(self.text.as_slice());
+        let written = self.file.write_all(self.bytes.as_slice());
         if written.is_ok() && self.file.sync_data().is_ok() {
             Ok(())
         } else {
@@ -191,8 +190,8 @@ where
     sync_folder(rt, path)?;
     let file = JournalFile {
         file,
-        chain: recovered.chain,
-        text: Vec::new(alloc),
+        batch: Batch::new(alloc, recovered.chain),
+        bytes: Vec::new(alloc),
     };
     Ok(Opened { machine, file })
 }

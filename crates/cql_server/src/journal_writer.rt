@@ -8,7 +8,7 @@ use crate::journal_file::{JournalFault, JournalFile};
 use cql_connections::Scheduler;
 use cql_core::TenantTable;
 use cql_hall::{Filing, Gate};
-use cql_journal::{Record, append_waiting};
+use cql_journal::{Batch, Record};
 use cql_sessions::{Callable, Connection, Ending, Service};
 use std::sync::Wait;
 use std::sync::atomic::{AtomicBool, Ordering};
@@ -21,6 +21,8 @@ const BATCH: usize = 4 << 20;
 /// What writes what changes to the journal's file.
 pub(crate) struct JournalWriter<'a> {
     pub file: JournalFile,
+    // of how many calls its batch has the records
+    pub count: u64,
     // for so long changes are gathered
     pub gather: Duration,
     // set where a write or a sync has failed
@@ -31,15 +33,16 @@ impl Drop for JournalWriter<'_> {
     fn drop(self) {
         let JournalWriter {
             file: _,
+            count: _,
             gather: _,
             has_failed: _,
         } = self;
     }
 }
 
-// Puts the record of a call behind those that wait.
-fn put_behind(table: &TenantTable, waiting: &mut Vec<u8>, call: &Filing) -> Result<(), JournalFault>
-    ensures { OnOk result (PutsBehind table.now call.now waiting.old.items waiting.new.items) }
+// Puts the record of a call behind those of a batch.
+fn put_behind(table: &TenantTable, batch: &mut Batch, call: &Filing) -> Result<(), JournalFault>
+    ensures { OnOk result (PutsBehind table.now call.now batch.old batch.new) }
 {
     let Some(tenant) = table.tenants().get(call.tenant.index()) else {
         return Err(JournalFault::Writing);
@@ -48,60 +51,67 @@ fn put_behind(table: &TenantTable, waiting: &mut Vec<u8>, call: &Filing) -> Resu
         tenant: tenant.name.as_str().as_bytes(),
         line: call.line.as_slice(),
     };
-    match append_waiting(waiting, given) {
+    match batch.push(given) {
         Ok(()) => Ok(()),
         Err(_) => Err(JournalFault::Writing),
     }
 }
 
 impl JournalWriter<'_> {
-    // Writes the records of so many calls, which wait, as one batch; and has replies go that rest on them.
+    // Writes the batch, if it has records, and has replies go that rest on them.
     fn commit<R, C, G>(
         &mut self,
         service: &Service<'_, R, C, G>,
         scheduler: &Scheduler<'_, Connection, Ending>,
-        waiting: &mut Vec<u8>,
-        count: u64,
     ) -> Result<(), JournalFault>
     where
         R: Wait + Clock,
         C: Callable<R, G>,
         G: Gate,
     {
-        self.file.write(waiting.as_slice())?;
-        waiting.clear();
-        let durable = service.hall.durable().saturating_add(count);
+        if self.count == 0 {
+            return Ok(());
+        }
+        self.file.write()?;
+        let durable = service.hall.durable().saturating_add(self.count);
+        self.count = 0;
         service.hall.make_durable(durable);
         scheduler.make_durable(service.rt, service.gate, durable);
         Ok(())
     }
 
-    // Writes calls, in batches.
-    fn write_all<R, C, G>(
+    // Puts what is queued into the batch, and writes it where somebody waits for that or it gets long. Whether
+    // more may come.
+    fn go_on<R, C, G>(
         &mut self,
         service: &Service<'_, R, C, G>,
         scheduler: &Scheduler<'_, Connection, Ending>,
-        calls: &[Filing],
-    ) -> Result<(), JournalFault>
+    ) -> Result<bool, JournalFault>
     where
         R: Wait + Clock,
         C: Callable<R, G>,
         G: Gate,
     {
-        let mut waiting = Vec::new(service.alloc);
-        let mut count: u64 = 0;
-        for call in calls {
-            put_behind(service.table, &mut waiting, call)?;
-            count = count.saturating_add(1);
-            if waiting.len() >= BATCH {
-                self.commit(service, scheduler, &mut waiting, count)?;
-                count = 0;
+        let Some(queued) = service.hall.take_queued(service.rt) else {
+            self.commit(service, scheduler)?;
+            return Ok(false);
+        };
+        let (calls, is_wanted) = queued.into_parts();
+        for call in &calls {
+            put_behind(service.table, &mut self.file.batch, call)?;
+            self.count = self.count.saturating_add(1);
+            if self.file.batch.len() >= BATCH {
+                self.commit(service, scheduler)?;
             }
         }
-        if count > 0 {
-            self.commit(service, scheduler, &mut waiting, count)?;
+        self.file.batch.hash();
+        if is_wanted {
+            self.commit(service, scheduler)?;
+            if !self.gather.is_zero() {
+                thread::sleep(service.rt, self.gather);
+            }
         }
-        Ok(())
+        Ok(true)
     }
 
     // Writes what is queued until no more is taken. Where that fails, nobody is let in any more, and no
@@ -118,19 +128,14 @@ impl JournalWriter<'_> {
     {
         let mut writer = self;
         for _ in service.rt.forever() {
-            let Some(calls) = service.hall.take_queued(service.rt) else {
-                return;
-            };
-            if writer
-                .write_all(service, scheduler, calls.as_slice())
-                .is_err()
-            {
-                writer.has_failed.store(true, Ordering::SeqCst);
-                scheduler.give_up();
-                return;
-            }
-            if !writer.gather.is_zero() {
-                thread::sleep(service.rt, writer.gather);
+            match writer.go_on(service, scheduler) {
+                Ok(true) => {}
+                Ok(false) => return,
+                Err(_fault) => {
+                    writer.has_failed.store(true, Ordering::SeqCst);
+                    scheduler.give_up();
+                    return;
+                }
             }
         }
     }

@@ -48,8 +48,8 @@ fn settle_some<R: Wait + Clock, C: Callable<R, G>, G: Gate>(
     }
 }
 
-// Tells the gate each second, with how tenants stand where it wants that, gives up answers that
-// take too long, and lets go of what nobody used or will use, of benches and of the hall, until the
+// Tells the gate each second, with how tenants stand where it wants that, has a journal's file written, gives up
+// answers that take too long, and lets go of what nobody used or will use, of benches and of the hall, until the
 // sender is let go.
 fn sweep_on<R: Wait + Clock, C: Callable<R, G>, G: Gate, O: Operator>(
     service: &Service<'_, R, C, G>,
@@ -61,6 +61,8 @@ fn sweep_on<R: Wait + Clock, C: Callable<R, G>, G: Gate, O: Operator>(
             return;
         }
         service.gate.at(Point::Second);
+        // what nobody waits for, since its caller has gone
+        service.hall.want_all(service.rt);
         if service.gate.wants_standing() {
             tell_standing(service);
         }

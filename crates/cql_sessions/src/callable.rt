@@ -2,7 +2,7 @@
 ghost use Rattle.std.specs.Prelude.{◌≡◌, ◌+◌, is_some, if◌then◌else◌};
 
 use cql_core::{Prepared, Standing, TenantId};
-use cql_hall::{Filing, Gate, Hall, Journal, Pending, Seat};
+use cql_hall::{Gate, Hall, Journal, Pending, Queued, Seat};
 use std::alloc::{AllocError, Global};
 use std::sync::{Arc, Wait};
 
@@ -23,8 +23,15 @@ pub trait Callable<H: Wait, G: Gate> {
     /// So many of these are durable from now on.
     fn make_durable(&self, count: u64);
 
-    /// Takes the calls that are queued for a journal's file, in order, once some are; or no more are taken.
-    fn take_queued(&self, rt: &H) -> Option<Vec<Filing>>;
+    /// Somebody waits for so many of these to be durable.
+    fn want_durable(&self, rt: &H, count: u64);
+
+    /// All that are queued are to be durable, also where nobody waits for that.
+    fn want_all(&self, rt: &H);
+
+    /// Takes the calls that are queued for a journal's file, in order, once somebody waits for some that aren't
+    /// durable or many are; or none is, and no more are taken.
+    fn take_queued(&self, rt: &H) -> Option<Queued>;
 
     /// Ends their taking, once none is queued.
     fn end_taking(&self, rt: &H);
@@ -68,7 +75,15 @@ impl<H: Wait, G: Gate, J: Journal> Callable<H, G> for Hall<J> {
         Hall::make_durable(self, count);
     }
 
-    fn take_queued(&self, rt: &H) -> Option<Vec<Filing>> {
+    fn want_durable(&self, rt: &H, count: u64) {
+        Hall::want_durable(self, rt, count);
+    }
+
+    fn want_all(&self, rt: &H) {
+        Hall::want_all(self, rt);
+    }
+
+    fn take_queued(&self, rt: &H) -> Option<Queued> {
         Hall::take_queued(self, rt)
     }
 

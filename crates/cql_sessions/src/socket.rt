@@ -1,5 +1,5 @@
 // A connection that never waits for long.
-ghost use Rattle.std.specs.Prelude.{◌≡◌, ◌<◌, true, false};
+ghost use Rattle.std.specs.Prelude.{◌≡◌, ◌<◌, ◌&&◌, not, nat_lt, true, false};
 ghost use Rattle.cql_sessions.specs.Unread.{unread_after};
 
 use crate::connection::{Permit, WaitsFor};
@@ -9,7 +9,7 @@ use cql_wire::{LineFault, ScriptError, Watched, write_fault};
 use std::alloc::Global;
 use std::io;
 use std::io::{ErrorKind, Read, Write};
-use std::net::TcpStream;
+use std::net::{Shutdown, TcpStream};
 use std::os::fd::{AsRawFd, RawFd};
 use std::time::Duration;
 
@@ -84,6 +84,8 @@ pub(crate) enum Came {
     Unused,
     /// Something has, of which this isn't used yet.
     Rest(Vec<u8>),
+    /// The same, and no more of it stood ready.
+    Last(Vec<u8>),
 }
 
 impl Socket {
@@ -131,9 +133,25 @@ impl Socket {
         self.patience == 0
     }
 
+    /// Tells its caller that no more comes, before it is let go of: a thread that polls may hold it for a
+    /// moment, and the system closes it only then.
+    pub(crate) fn close(&self) {
+        let _ = self.stream.shutdown(Shutdown::Both);
+    }
+
     /// Tells want of memory, where it takes that.
     pub(crate) fn tell_no_memory(&self) {
         let _ = write_fault(&mut Watched::new(&self.stream), &LineFault::NoMemory);
+    }
+
+    /// What its turn may do: no read waits while replies do, for which its caller may wait.
+    pub(crate) fn permitted(&self, permit: Permit) -> Permit
+        ensures { result ≡ record { wait = permit.wait && not (nat_lt self.now.withheld.durable self.now.withheld.due); fetch = permit.fetch } }
+    {
+        Permit {
+            wait: permit.wait && !self.withheld.holds(),
+            fetch: permit.fetch,
+        }
     }
 
     /// What its session needs first, where it can't go on at once. A read that comes next waits where
@@ -179,6 +197,11 @@ impl Socket {
         }
     }
 
+    /// Whether its caller may wait for replies that are withheld, since all that came of his lines is used.
+    pub(crate) fn is_waited_for(&self, stage: Stage) -> bool {
+        self.unread.is_empty() && !stage.is_held && self.withheld.holds()
+    }
+
     /// What its session needs once it has had its turn, in which nothing had come or something had.
     pub(crate) fn needs(&self, stage: Stage, is_spent: bool) -> WaitsFor {
         if self.is_stuck {
@@ -212,7 +235,7 @@ impl Socket {
             }
             Came::Unasked => return,
             Came::Unused => {}
-            Came::Rest(rest) => self.unread = rest,
+            Came::Rest(rest) | Came::Last(rest) => self.unread = rest,
         }
         self.patience = self.patience.saturating_sub(1);
     }

@@ -14,8 +14,11 @@ const TURN: usize = 192 << 10;
 // So many bytes of a reply are told in a turn that goes on with it.
 const PIECE: usize = 64 << 10;
 
-// So many bytes are enough for replies that wait for a moment.
+// So many bytes are enough for replies that wait for a moment, ..
 const FEW: usize = 4 << 10;
+
+// .. and so many for one of them, which is asked for and let go of sooner.
+const LEAST: usize = 128;
 
 /// Room that a worker lends to connections.
 #[derive(Drop)]
@@ -24,9 +27,10 @@ pub(crate) struct SpareRoom {
     unread: Vec<u8>,
     // for all that a turn may have for a caller who takes none
     whole: Vec<u8>,
-    // for what is held back between turns: of a long reply, or little
+    // for what is held back between turns: of a long reply, or few bytes, or the least
     piece: Vec<u8>,
     few: Vec<u8>,
+    least: Vec<u8>,
 }
 
 impl SpareRoom {
@@ -37,6 +41,7 @@ impl SpareRoom {
             whole: Vec::new(alloc),
             piece: Vec::new(alloc),
             few: Vec::new(alloc),
+            least: Vec::new(alloc),
         }
     }
 
@@ -50,6 +55,7 @@ impl SpareRoom {
         self.unread.reserve_exact(CHUNK)?;
         self.piece.reserve_exact(PIECE)?;
         self.few.reserve_exact(FEW)?;
+        self.least.reserve_exact(LEAST)?;
         self.whole.clear();
         self.whole.extend_from_slice(held.as_slice())?;
         self.whole.reserve_exact(TURN)?;
@@ -69,8 +75,10 @@ impl SpareRoom {
         } else if held.is_empty() {
             let mut room = mem::replace(held, Vec::new(alloc));
             give_back(alloc, &mut room, whole);
-        } else {
+        } else if held.len() > LEAST {
             keep_in(alloc, held, &mut self.few, whole, FEW);
+        } else {
+            keep_in(alloc, held, &mut self.least, whole, LEAST);
         }
     }
 

@@ -48,7 +48,10 @@ impl Core {
             return Ok(());
         }
         let name = stream.try_clone(alloc)?;
-        let bytes = self.bytes_held(owner, stream.as_str());
+        let bytes = match self.directory.stream_index(owner, stream.as_str()) {
+            Some(index) => self.stores.bytes_held(owner, index),
+            None => 0,
+        };
         held.push(HeldStream { name, rows, bytes })?;
         Ok(())
     }

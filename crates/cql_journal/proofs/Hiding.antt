@@ -4,7 +4,7 @@ use Rattle.std.specs.Prelude.{◌⊎◌, IfSome}
 use Rattle.std.specs.List.{AllByRecursion}
 use Rattle.std.specs.Io.KnownBytes.{Consumes, Keeps, prepend_known}
 use Rattle.std.proofs.KnownBytes.{Consumes-trans, Consumes-nil, Consumes-kept}
-use Rattle.std.proofs.lemmas.List.{length-take}
+use Rattle.std.proofs.lemmas.List.{length-take, take-append-le}
 use Rattle.cql_journal.specs.Record.{Entry, Lacks, Fits, IsChain, body, record_line, record_lines, batch, batch_chain, IsBatch, NoBatch}
 use Rattle.cql_journal.specs.Reading.{StartsRecords, StartsBatch, Fills}
 use Rattle.cql_journal.specs.declared.searching.Seen.{Seen}
@@ -17,11 +17,6 @@ use Rattle.cql_journal.proofs.Batches.{batch_rest, batch_size, within}
 use Rattle.cql_journal.proofs.Finding.{take_front, drop_front, come_stays, front_is, within as fits_in}
 
 -- ---- the first line of a batch
-
-take_within : (n : ℕ) (a b : List ℕ) → n ≤ length a → take n (a ++ b) ≡ take n a
-take_within zero a b h = refl
-take_within (suc n) [] b h = absurd (omega (arith, h))
-take_within (suc n) (x ∷ a) b h = ap (λ t. x ∷ t) (take_within n a b (omega (arith, h)))
 
 -- the chain of a record is the front of its line
 its_chain : (chain : List ℕ) (e : Entry) (behind : List ℕ) → IsChain chain → take 16 (record_line chain e ++ behind) ≡ chain
@@ -71,13 +66,13 @@ none_of_others text free = λ chain first others behind c b is. free chain first
 
 pub no_first : (held front line behind more : List ℕ) → 16 ≤ length held → front ≡ take 16 held → front ≡ line ++ 10 ∷ behind → NoFirst (held ++ more)
 no_first held front line behind more h f cut = λ chain e rest c is.
-    let same : chain ≡ line ++ 10 ∷ behind = sym (its_chain chain e (10 ∷ rest) c) ∙ ap (take 16) (sym is) ∙ take_within 16 held more h ∙ sym f ∙ cut in
+    let same : chain ≡ line ++ 10 ∷ behind = sym (its_chain chain e (10 ∷ rest) c) ∙ ap (take 16) (sym is) ∙ take-append-le 16 held more h ∙ sym f ∙ cut in
     absurd ((lacks_behind 10 line (10 ∷ behind) (subst (Lacks 10) same c.feedless)).0 refl)
 
 -- no batch of its own chain starts there
 pub none_of_its : (text held left chain : List ℕ) → text ≡ held ++ left → 16 ≤ length held → chain ≡ take 16 held → NoBatch chain text → NoneStarts text
 none_of_its text held left chain t h k free = λ d first others behind c b is.
-    let same : d ≡ chain = sym (its_chain d first _ c) ∙ ap (take 16) (sym (is ∙ first_line d first others behind) ∙ t) ∙ take_within 16 held left h ∙ sym k in
+    let same : d ≡ chain = sym (its_chain d first _ c) ∙ ap (take 16) (sym (is ∙ first_line d first others behind) ∙ t) ∙ take-append-le 16 held left h ∙ sym k in
     free (first ∷ others) behind (subst (λ x. IsBatch x (first ∷ others)) same b) (is ∙ ap (λ x. batch x (first ∷ others) ++ behind) same)
 
 -- a batch of no records stands there

@@ -1,5 +1,6 @@
 -- Batches that are made record by record.
 use Rattle.std.proofs.Common.{◌≡◌, ℕ, zero, suc, ◌+◌, ◌<◌, ◌≤◌, List, [], ◌∷◌, ◌++◌, length, take, refl, sym, ap, subst, ◌∙◌, arith, append-nil, length-append}
+use Rattle.std.proofs.lemmas.List.{take-append-le}
 use Rattle.md5.specs.Md5.{Holds}
 use Rattle.md5.specs.declared.Md5.{Md5}
 use Rattle.cql_journal.specs.Record.{Entry, Fits, chain_after, committed, record_lines, batch_chain}
@@ -35,13 +36,8 @@ too_long chain text lines long =
     let k : length (chain_after chain (text ++ lines)) ≡ 16 = (after_is_chain chain (text ++ lines)).size in
     omega (arith, long, k, length-append text lines, length-append (text ++ lines) (chain_after chain (text ++ lines) ++ 10 ∷ []), length-append (chain_after chain (text ++ lines)) (10 ∷ []))
 
-take_within : (n : ℕ) (text more : List ℕ) → n ≤ length text → take n (text ++ more) ≡ take n text
-take_within zero text more small = refl
-take_within (suc n) [] more small = absurd (omega (arith, small))
-take_within (suc n) (x ∷ text) more small = ap (λ t. x ∷ t) (take_within n text more (omega (arith, small)))
-
 pub hashed_more : (chain text more : List ℕ) (hasher : Md5) (hashed : ℕ) → IsHashed chain text hasher hashed → IsHashed chain (text ++ more) hasher hashed
 hashed_more chain text more hasher hashed h = record {
   within = omega (arith, h.within, length-append text more);
-  holds = subst (λ t. Holds hasher (chain ++ t)) (sym (take_within hashed text more h.within)) h.holds;
+  holds = subst (λ t. Holds hasher (chain ++ t)) (sym (take-append-le hashed text more h.within)) h.holds;
 }

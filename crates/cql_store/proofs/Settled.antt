@@ -60,15 +60,6 @@ settled_later came count slots order =
     map-map (at_some (marked count)) (at_some (marked came)) slots
     ∙ maps_agree (λ o. at_some (marked count) (at_some (marked came) o)) (at_some (marked count)) slots refl (λ id s found. ap (λ (u : Stub). Some u) (marked_later came count s order))
 
--- a slot whose stub isn't overrun has it as it stands
-pub live_here : (count : ℕ) (slots : Slots) (id : ℕ) (s : Stub) → IsLive (settled count slots) id s → (slot_of slots id ≡ Some s) × (s.overrun ≡ false)
-live_here count slots id s live =
-    let before = live_before (marked count) slots id s (marked_stays count) live in
-    let t = before.0 in
-    let is : marked count t ≡ s = before.2 in
-    let same : t ≡ s = sym (marked_same count t (ap (λ (u : Stub). u.overrun) is ∙ live.live)) ∙ is in
-    (before.1.held ∙ ap (λ (u : Stub). Some u) same, live.live)
-
 -- one slot changes
 pub settled_change : (count : ℕ) (old new : Slots) (id : ℕ) (o : Option Stub) → IsChange old new id o → IsChange (settled count old) (settled count new) id (at_some (marked count) o)
 settled_change count old new id o is = record {
@@ -120,18 +111,6 @@ marked_here count slots id s found other t low high held =
     let same : Some (marked count s) ≡ Some t = sym here ∙ ap (slot_of (set slots id (Some (marked count s)))) (sym at) ∙ held in
     let is : marked count s ≡ t = cc in
     subst (λ (u : Stub). marked count u ≡ u) is (marked_twice count s)
-
-pub none_marked : (count : ℕ) (slots : Slots) (id : ℕ) → slot_of slots id ≡ None → AreMarkedIn count slots id (id + 1)
-none_marked count slots id none other t low high held =
-    let at : other ≡ id = omega (arith, low, high) in
-    absurd (let x : slot_of slots other ≡ None = ap (slot_of slots) at ∙ none in let y = held in cc)
-
--- one slot more
-pub marked_more : (count : ℕ) (old new : Slots) (from k : ℕ) → AreMarkedIn count old from k → ((id : ℕ) → id ≢ k → slot_of new id ≡ slot_of old id) → AreMarkedIn count new k (k + 1) → AreMarkedIn count new from (k + 1)
-marked_more count old new from k before others here id s low high held = elim (cases_eq id k) [
-  | inl same ↦ here id s (omega (arith, same)) (omega (arith, same)) held
-  | inr differs ↦ before id s low (omega (arith, high, differs)) (sym (others id differs) ∙ held)
-]
 
 -- ---- one more row overruns the stub of a slot
 

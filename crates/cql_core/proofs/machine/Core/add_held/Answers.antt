@@ -10,4 +10,4 @@ pub returns : goal.returns
 returns c =
     let holds = λ (h : HeldStream). rows_held c.args.self.now (stream_id_of c.args.owner h.name) ≡ Some h.rows in
     let there : rows_held c.args.self.now (stream_id_of c.args.owner c.in_ok-name.name) ≡ Some c.in-Some.rows = grind (arith, common_steps) in
-    subst (All holds) (sym c.in_ok-push.ensures.items) (All-push holds c.args.held.now.items (record { name = c.in_ok-name.name; rows = c.in-Some.rows; bytes = c.bytes_held-bytes.result }) c.requires there)
+    subst (All holds) (sym c.in_ok-push.ensures.items) (All-push holds c.args.held.now.items (record { name = c.in_ok-name.name; rows = c.in-Some.rows; bytes = c.match-stream_index.bytes }) c.requires there)

@@ -2,6 +2,7 @@
 file says, what is cut off it and what it is refused for, and that nobody is told what isn't durable. Each check
 gives pairs of a name and of what is wrong, or None.
 """
+import concurrent.futures
 import contextlib
 import os
 import pathlib
@@ -34,6 +35,8 @@ READ = line_of(do="query", name="r", text="Select Istream(*) From a.s [Now]")
 FETCH_READ = line_of(do="fetch", name="r")
 GRANT = line_of(do="grant", stream="s", to="b")
 ACK = line_of(do="ack", name="q", to=9)
+# The most bytes for lines that wait to be written, for a batch, and for the one before it.
+MOST_QUEUED = 80 << 20
 WRITING = b"cqld: writing the journal failed\n"
 # What changes something of the run below, in order.
 CHANGES = (
@@ -299,6 +302,22 @@ def of_who_has_gone(program):
         yield "some", difference(before > 1, True)
 
 
+def a_bounded_queue(program):
+    """Where the disk is slow, callers who send long lines without waiting wait, and take no memory by how much they
+    send; all get their replies."""
+    stream = line_of(columns=[["t", "text"]], do="stream", name="s")
+    long = line_of(at=1, do="put", row=["x" * 60_000], stream="s")
+    with a_journal() as journal, under_wrong_disk(sync_lasts=100_000) as under, contextlib.ExitStack() as open_ones:
+        server = open_ones.enter_context(Server(program, TENANTS, under, journal=journal))
+        callers = [open_ones.enter_context(Caller(server, "a")) for _ in range(4)]
+        callers[0].serve([stream])
+        before = server.of_status("VmHWM")
+        with concurrent.futures.ThreadPoolExecutor(len(callers)) as pool:
+            list(pool.map(lambda it: it.serve([long] * 600), callers))
+        more = server.of_status("VmHWM") - before
+        yield "memory", None if more < MOST_QUEUED else f"{more >> 20} MiB for 137 MiB of lines"
+
+
 # ---- Kills. Callers draw what they send; all that they were told has to be what the file leads to.
 
 
@@ -439,5 +458,6 @@ CHECKS = (
     held_back,
     many_at_once,
     of_who_has_gone,
+    a_bounded_queue,
     killed_under_load,
 )

@@ -7,4 +7,5 @@ pub mod Calls
 pub mod Alone
 pub mod Telling
 pub mod Sending
+pub mod Queueing
 mod Instances

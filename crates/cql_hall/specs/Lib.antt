@@ -6,4 +6,5 @@ pub mod Alone
 pub mod Tells
 pub mod Sent
 pub mod Change
+pub mod Queue
 pub mod Filing

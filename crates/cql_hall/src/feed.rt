@@ -1,28 +1,17 @@
 // What is queued of a book's calls for a journal's file.
-ghost use Rattle.std.specs.Prelude.{◌≡◌, ◌+◌, ◌-◌, ◌^◌, ◌<◌, ◌++◌, ◌∷◌, [], OnOk, vec_len, vec_capacity};
+ghost use Rattle.std.specs.Prelude.{◌≡◌, ◌+◌, ◌-◌, ◌<◌, ◌++◌, ◌∷◌, [], take, length, OnOk, OnErr};
 ghost use Rattle.cql_core.specs.Steps.{stepped_of};
 ghost use Rattle.cql_hall.specs.Change.{is_change};
 
+use crate::filings::Filings;
 use cql_core::{Reply, Step, TenantId};
 use std::alloc::{AllocError, Global};
-
-/// A call that changed the core: whose it is, and the line that its caller sent.
-pub struct Filing {
-    pub tenant: TenantId,
-    pub line: Vec<u8>,
-}
-
-impl Drop for Filing {
-    fn drop(self) {
-        let Filing { tenant: _, line: _ } = self;
-    }
-}
 
 /// The calls that changed a core and weren't taken yet to be written, in order, and how many there were
 /// in all; or calls aren't queued.
 pub struct Feed {
     pub(crate) is_on: bool,
-    pub(crate) queue: Vec<Filing>,
+    pub(crate) calls: Filings,
     pub(crate) count: u64,
 }
 
@@ -30,7 +19,7 @@ impl Drop for Feed {
     fn drop(self) {
         let Feed {
             is_on: _,
-            queue: _,
+            calls: _,
             count: _,
         } = self;
     }
@@ -39,41 +28,44 @@ impl Drop for Feed {
 impl Feed {
     /// Nothing is queued yet, or calls aren't queued. Takes no memory.
     pub(crate) fn new(alloc: Global, is_on: bool) -> Feed
-        ensures { (result.is_on ≡ is_on) × (result.queue.items ≡ []) × (result.count ≡ 0) }
+        ensures { (result.is_on ≡ is_on) × (result.calls ≡ []) × (result.count ≡ 0) }
     {
         Feed {
             is_on,
-            queue: Vec::new(alloc),
+            calls: Filings::new(alloc),
             count: 0,
         }
     }
 
-    /// Takes room for one call.
-    pub(crate) fn room(&mut self) -> Result<(), AllocError>
-        ensures same { (self.new.is_on ≡ self.old.is_on) × (self.new.queue.items ≡ self.old.queue.items) × (self.new.count ≡ self.old.count) }
-        ensures room { OnOk result ((vec_len self.new.queue < vec_capacity self.new.queue) × (self.new.count < 2 ^ 64 - 1)) }
+    /// Queues a call behind the others. An `Err` changes nothing.
+    pub(crate) fn note(&mut self, tenant: TenantId, line: &[u8]) -> Result<(), AllocError>
+        ensures is_on { self.new.is_on ≡ self.old.is_on }
+        ensures ok { OnOk result ((self.new.calls ≡ self.old.calls ++ record { tenant = tenant; line = line.now } ∷ []) × (self.new.count ≡ self.old.count + 1)) }
+        ensures err { OnErr result ((self.new.calls ≡ self.old.calls) × (self.new.count ≡ self.old.count)) }
     {
         if self.count == u64::MAX {
             return Err(AllocError);
         }
-        self.queue.reserve(1)
-    }
-
-    /// Queues a call, for which there is room, behind the others. Takes no memory.
-    pub(crate) fn note(&mut self, call: Filing)
-        requires { (vec_len self.old.queue < vec_capacity self.old.queue) × (self.old.count < 2 ^ 64 - 1) }
-        ensures { (self.new.is_on ≡ self.old.is_on) × (self.new.queue.items ≡ self.old.queue.items ++ call ∷ []) × (self.new.count ≡ self.old.count + 1) }
-    {
-        self.queue.push_reserved(call);
+        self.calls.push(tenant, line)?;
         self.count += 1;
+        Ok(())
     }
 
-    /// Takes all that is queued.
-    pub(crate) fn take(&mut self, alloc: Global) -> Vec<Filing>
-        ensures taken { result.items ≡ self.old.queue.items }
-        ensures left { (self.new.is_on ≡ self.old.is_on) × (self.new.queue.items ≡ []) × (self.new.count ≡ self.old.count) }
+    /// Takes back the call that was queued last.
+    pub(crate) fn take_back(&mut self)
+        requires { 0 < self.old.count }
+        ensures { (self.new.is_on ≡ self.old.is_on) × (self.new.calls ≡ take (length self.old.calls - 1) self.old.calls) × (self.new.count ≡ self.old.count - 1) }
     {
-        std::mem::replace(&mut self.queue, Vec::new(alloc))
+        self.calls.pop();
+        self.count -= 1;
+    }
+
+    /// Takes all that is queued, and queues what it is given in its place.
+    pub(crate) fn swap(&mut self, calls: &mut Filings)
+        ensures taken { calls.new ≡ self.old.calls }
+        ensures given { (self.new.is_on ≡ self.old.is_on) × (self.new.calls ≡ calls.old) × (self.new.count ≡ self.old.count) }
+    {
+        std::mem::swap(&mut self.calls, calls);
     }
 }
 

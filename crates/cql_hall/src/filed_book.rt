@@ -5,7 +5,7 @@ ghost use Rattle.cql_core.specs.Machine.{opening};
 ghost use Rattle.cql_hall.specs.Filing.{EntersFiled};
 
 use crate::book::{Book, Entered, no_entry};
-use crate::feed::{Feed, Filing, is_change};
+use crate::feed::{Feed, is_change};
 use crate::journal::Journal;
 use cql_core::{Prepared, TenantId};
 use std::alloc::{AllocError, Global};
@@ -37,19 +37,25 @@ impl<J: Journal> FiledBook<J> {
 
     /// Makes one step of the book, as it does; and where calls are queued and this one may have changed the
     /// core, it is queued with its line. Without room for that there is no step, and the call is told so (70).
-    pub fn enter(&mut self, alloc: Global, prepared: &Arc<Prepared>, call: Filing) -> Entered
-        ensures { EntersFiled J.keeps self.old.book self.old.feed call.tenant (arc_value prepared.now) call result self.new.book self.new.feed }
+    pub fn enter(
+        &mut self,
+        alloc: Global,
+        prepared: &Arc<Prepared>,
+        tenant: TenantId,
+        line: &[u8],
+    ) -> Entered
+        ensures { EntersFiled J.keeps self.old.book self.old.feed tenant (arc_value prepared.now) (record { tenant = tenant; line = line.now }) result self.new.book self.new.feed }
     {
         let FiledBook { book, feed } = self;
         if !feed.is_on {
-            return book.enter(alloc, call.tenant, prepared);
+            return book.enter(alloc, tenant, prepared);
         }
-        if feed.room().is_err() {
+        let Ok(()) = feed.note(tenant, line) else {
             return no_entry();
-        }
-        let entered = book.enter(alloc, call.tenant, prepared);
-        if is_change(&entered.step) {
-            feed.note(call);
+        };
+        let entered = book.enter(alloc, tenant, prepared);
+        if !is_change(&entered.step) {
+            feed.take_back();
         }
         entered
     }

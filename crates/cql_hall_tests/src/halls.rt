@@ -57,7 +57,7 @@ pub(crate) fn receipt<J: Journal>(
     command: Command,
 ) -> Result<Receipt, AllocError> {
     let prepared = prepare(alloc, command)?;
-    let pending = hall.call(rt, gate, seat, prepared, Vec::new(alloc));
+    let pending = hall.call(rt, gate, seat, prepared, &[]);
     Ok(finish(alloc, pending, gate))
 }
 
@@ -227,7 +227,7 @@ fn pass_by<C: Clock + Sync>(
     gate.wait_for_pinned();
     say(rt, alloc, hall, seat, gate, Said::Put)?;
     let prepared = prepare(alloc, fetch(alloc)?)?;
-    let pending = hall.call(rt, gate, seat, prepared, Vec::new(alloc));
+    let pending = hall.call(rt, gate, seat, prepared, &[]);
     let _given_up = pending.finish(alloc, &mut gate.looker(), gate);
     Ok(())
 }
@@ -327,7 +327,7 @@ fn makes_all(
     for name in NAMES {
         let command = stream_at_last(alloc, name)?;
         if let Ok(prepared) = prepare(alloc, command) {
-            let pending = hall.call(rt, &OpenGate, seat, prepared, Vec::new(alloc));
+            let pending = hall.call(rt, &OpenGate, seat, prepared, &[]);
             let told = finish(alloc, pending, &OpenGate);
             are_made = are_made && is_done_or_refused(&told);
         }

@@ -258,7 +258,7 @@ where
             } else {
                 shared.close(rt);
             }
-            service.hall.end_taking(rt);
+            service.hall.durability().end_taking(rt);
             drop(stop);
             Ok(())
         },

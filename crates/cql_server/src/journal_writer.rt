@@ -6,8 +6,8 @@ ghost use Rattle.cql_server.specs.declared.failure.Failure.TheVariants as failur
 use crate::failure::Failure;
 use crate::journal_file::{JournalFault, JournalFile};
 use cql_connections::Scheduler;
-use cql_core::TenantTable;
-use cql_hall::{Filing, Gate};
+use cql_core::{TenantId, TenantTable};
+use cql_hall::{Demanded, Filings, Gate};
 use cql_journal::{Batch, Record};
 use cql_sessions::{Callable, Connection, Ending, Service};
 use std::sync::Wait;
@@ -41,15 +41,20 @@ impl Drop for JournalWriter<'_> {
 }
 
 // Puts the record of a call behind those of a batch.
-fn put_behind(table: &TenantTable, batch: &mut Batch, call: &Filing) -> Result<(), JournalFault>
-    ensures { OnOk result (PutsBehind table.now call.now batch.old batch.new) }
+fn put_behind(
+    table: &TenantTable,
+    batch: &mut Batch,
+    tenant: TenantId,
+    line: &[u8],
+) -> Result<(), JournalFault>
+    ensures { OnOk result (PutsBehind table.now (record { tenant = tenant; line = line.now }) batch.old batch.new) }
 {
-    let Some(tenant) = table.tenants().get(call.tenant.index()) else {
+    let Some(tenant) = table.tenants().get(tenant.index()) else {
         return Err(JournalFault::Writing);
     };
     let given = Record {
         tenant: tenant.name.as_str().as_bytes(),
-        line: call.line.as_slice(),
+        line,
     };
     match batch.push(given) {
         Ok(()) => Ok(()),
@@ -73,9 +78,10 @@ impl JournalWriter<'_> {
             return Ok(());
         }
         self.file.write()?;
-        let durable = service.hall.durable().saturating_add(self.count);
+        let durability = service.hall.durability();
+        let durable = durability.durable().saturating_add(self.count);
         self.count = 0;
-        service.hall.make_durable(durable);
+        durability.make_durable(durable);
         scheduler.make_durable(service.rt, service.gate, durable);
         Ok(())
     }
@@ -86,30 +92,38 @@ impl JournalWriter<'_> {
         &mut self,
         service: &Service<'_, R, C, G>,
         scheduler: &Scheduler<'_, Connection, Ending>,
+        taken: &mut Filings,
     ) -> Result<bool, JournalFault>
     where
         R: Wait + Clock,
         C: Callable<R, G>,
         G: Gate,
     {
-        let Some(queued) = service.hall.take_queued(service.rt) else {
-            self.commit(service, scheduler)?;
-            return Ok(false);
-        };
-        let (calls, is_wanted) = queued.into_parts();
-        for call in &calls {
-            put_behind(service.table, &mut self.file.batch, call)?;
+        let need = service.hall.take_queued(service.rt, taken);
+        let mut calls = taken.iter();
+        for _ in 0..taken.len() {
+            let Some(call) = calls.next_call() else {
+                break;
+            };
+            put_behind(service.table, &mut self.file.batch, call.tenant, call.line)?;
             self.count = self.count.saturating_add(1);
             if self.file.batch.len() >= BATCH {
                 self.commit(service, scheduler)?;
             }
         }
         self.file.batch.hash();
-        if is_wanted {
-            self.commit(service, scheduler)?;
-            if !self.gather.is_zero() {
-                thread::sleep(service.rt, self.gather);
+        match need {
+            Demanded::Ended => {
+                self.commit(service, scheduler)?;
+                return Ok(false);
             }
+            Demanded::Wanted => {
+                self.commit(service, scheduler)?;
+                if !self.gather.is_zero() {
+                    thread::sleep(service.rt, self.gather);
+                }
+            }
+            Demanded::Unwanted => {}
         }
         Ok(true)
     }
@@ -127,8 +141,9 @@ impl JournalWriter<'_> {
         G: Gate,
     {
         let mut writer = self;
+        let mut taken = Filings::new(service.alloc);
         for _ in service.rt.forever() {
-            match writer.go_on(service, scheduler) {
+            match writer.go_on(service, scheduler, &mut taken) {
                 Ok(true) => {}
                 Ok(false) => return,
                 Err(_fault) => {

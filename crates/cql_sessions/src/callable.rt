@@ -2,7 +2,7 @@
 ghost use Rattle.std.specs.Prelude.{◌≡◌, ◌+◌, is_some, if◌then◌else◌};
 
 use cql_core::{Prepared, Standing, TenantId};
-use cql_hall::{Gate, Hall, Journal, Pending, Queued, Seat};
+use cql_hall::{Demanded, Durability, Filings, Gate, Hall, Journal, Pending, Seat};
 use std::alloc::{AllocError, Global};
 use std::sync::{Arc, Wait};
 
@@ -14,37 +14,26 @@ pub trait Callable<H: Wait, G: Gate> {
         ensures whose { result.tenant ≡ tenant }
         ensures none { result.count ≡ 0 };
 
-    /// Whether calls that change something are queued with their lines for a journal's file.
-    fn is_filing(&self) -> bool;
-
-    /// How many of these are durable: replies that rest on others are to be held back.
-    fn durable(&self) -> u64;
-
-    /// So many of these are durable from now on.
-    fn make_durable(&self, count: u64);
-
-    /// Somebody waits for so many of these to be durable.
-    fn want_durable(&self, rt: &H, count: u64);
+    /// How far the records of calls that changed something are durable, where these are queued with their lines
+    /// for a journal's file.
+    fn durability(&self) -> &Durability;
 
     /// All that are queued are to be durable, also where nobody waits for that.
     fn want_all(&self, rt: &H);
 
-    /// Takes the calls that are queued for a journal's file, in order, once somebody waits for some that aren't
-    /// durable or many are; or none is, and no more are taken.
-    fn take_queued(&self, rt: &H) -> Option<Queued>;
-
-    /// Ends their taking, once none is queued.
-    fn end_taking(&self, rt: &H);
+    /// Takes the calls that are queued for a journal's file, in order, in the place of those that were taken
+    /// before, once somebody waits for some that aren't durable or many are; or none is, and no more are taken.
+    fn take_queued(&self, rt: &H, taken: &mut Filings) -> Demanded;
 
     /// Makes one step of the seat's tenant, which sent the line. What has a place in a journal is counted by
-    /// the seat. Where calls aren't queued for a file the line may be empty.
+    /// the seat. Where calls are queued for a file and this one changed something, it is queued with the line.
     fn call(
         &self,
         rt: &H,
         gate: &G,
         seat: &mut Seat,
         prepared: Arc<Prepared>,
-        line: Vec<u8>,
+        line: &[u8],
     ) -> Pending
         ensures tenant { (result.tenant ≡ seat.old.tenant) × (seat.new.tenant ≡ seat.old.tenant) }
         ensures prepared { result.prepared ≡ prepared }
@@ -63,32 +52,16 @@ impl<H: Wait, G: Gate, J: Journal> Callable<H, G> for Hall<J> {
         Hall::seat(self, tenant)
     }
 
-    fn is_filing(&self) -> bool {
-        Hall::is_filing(self)
-    }
-
-    fn durable(&self) -> u64 {
-        Hall::durable(self)
-    }
-
-    fn make_durable(&self, count: u64) {
-        Hall::make_durable(self, count);
-    }
-
-    fn want_durable(&self, rt: &H, count: u64) {
-        Hall::want_durable(self, rt, count);
+    fn durability(&self) -> &Durability {
+        Hall::durability(self)
     }
 
     fn want_all(&self, rt: &H) {
         Hall::want_all(self, rt);
     }
 
-    fn take_queued(&self, rt: &H) -> Option<Queued> {
-        Hall::take_queued(self, rt)
-    }
-
-    fn end_taking(&self, rt: &H) {
-        Hall::end_taking(self, rt);
+    fn take_queued(&self, rt: &H, taken: &mut Filings) -> Demanded {
+        Hall::take_queued(self, rt, taken)
     }
 
     fn call(
@@ -97,7 +70,7 @@ impl<H: Wait, G: Gate, J: Journal> Callable<H, G> for Hall<J> {
         gate: &G,
         seat: &mut Seat,
         prepared: Arc<Prepared>,
-        line: Vec<u8>,
+        line: &[u8],
     ) -> Pending {
         Hall::call(self, rt, gate, seat, prepared, line)
     }

@@ -147,15 +147,15 @@ impl Caller {
         &mut self,
         service: &Service<'_, H, C, G>,
         bench: &mut E,
-        request: Request,
+        request: Request<'_>,
         buffer: &mut ReplyBuffer,
         writer: &mut Watched<W>,
     ) -> Result<(), WriteFault>
         requires bench { E.is_ready bench.old }
         ensures bench { E.is_ready bench.new }
         ensures kept { self.new.is_kept ≡ self.old.is_kept }
-        ensures calls { Calls (Ok (arc_value request.prepared)) (of_caller self.old) (of_caller self.new) }
-        ensures told { self.old.taking.held ≡ None → TellsLine self.old.is_kept (of_caller self.old) (of_caller self.new) (Ok (arc_value request.prepared))
+        ensures calls { Calls (Ok (arc_value request.entry.prepared)) (of_caller self.old) (of_caller self.new) }
+        ensures told { self.old.taking.held ≡ None → TellsLine self.old.is_kept (of_caller self.old) (of_caller self.new) (Ok (arc_value request.entry.prepared))
             (W.contents (inner_of writer.old)) (W.contents (inner_of writer.new)) buffer.old (buffer.new ++ caller_to_come self.new) result }
     {
         let tenant = self.seat.tenant();
@@ -206,7 +206,7 @@ impl Caller {
         ensures waits { IfOk result (λ outcome. (may_fetch ≡ true → outcome ≢ LineOutcome.Held)
             × (outcome ≡ LineOutcome.Held → of_caller self.new ≡ of_caller self.old)) }
     {
-        let request = match prepared_of(service.alloc, line, scratch, service.hall.is_filing()) {
+        let request = match prepared_of(service.alloc, line, scratch) {
             Ok(request) => request,
             Err(fault) => {
                 service

@@ -8,48 +8,31 @@ ghost use Rattle.cql_lines.specs.Next.{text_of};
 use cql_core::Prepared;
 use cql_hall::Kind;
 use cql_wire::{Line, LineFault, Scratch, read_call};
-use std::alloc::{AllocError, Global};
+use std::alloc::Global;
 use std::sync::Arc;
 
 /// What a line asks, prepared for a call.
 #[derive(Drop)]
-pub(crate) struct Request {
+pub(crate) struct Request<'a> {
     pub prepared: Arc<Prepared>,
     pub kind: Kind,
-    /// The line, where its call may be queued for a journal's file; else nothing.
-    pub line: Vec<u8>,
-}
-
-// The line of a command of a kind, where calls are queued and it may change something; else nothing.
-fn line_of(
-    alloc: Global,
-    bytes: &[u8],
-    kind: Kind,
-    is_filing: bool,
-) -> Result<Vec<u8>, AllocError> {
-    if is_filing && kind != Kind::Fetch && kind != Kind::List {
-        Vec::from_slice(alloc, bytes)
-    } else {
-        Ok(Vec::new(alloc))
-    }
+    pub line: &'a [u8],
 }
 
 // What a line asks. In this order: `BadLine` (10) where the line is too long, the fault of its command (10, 11
 // or 12), `BadKey` (12) where it names a tenant. `NoMemory` (70) may be told of any line.
-pub(crate) fn prepared_of(
+pub(crate) fn prepared_of<'a>(
     alloc: Global,
-    line: Line<'_>,
+    line: Line<'a>,
     scratch: &mut Scratch,
-    is_filing: bool,
-) -> Result<Request, LineFault>
+) -> Result<Request<'a>, LineFault>
     ensures ok { IfOk result (λ request. request_of (text_of line.entry) ≡ Ok (arc_value request.prepared)) }
     ensures err { IfErr result (λ fault. Means (request_of (text_of line.entry)) (Err fault)) }
 {
-    let Line::Whole(bytes) = line else {
+    let Line::Whole(line) = line else {
         return Err(LineFault::BadLine);
     };
-    let (kind, prepared) = read_call(alloc, bytes, scratch)?;
-    let line = line_of(alloc, bytes, kind, is_filing)?;
+    let (kind, prepared) = read_call(alloc, line, scratch)?;
     Ok(Request {
         prepared,
         kind,

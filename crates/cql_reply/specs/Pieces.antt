@@ -1,5 +1,5 @@
 -- A text that is made of pieces, and what is to come of it from a place on.
-use Rattle.std.specs.Prelude.{ℕ, List, [], ◌∷◌, ◌++◌, Option, Some, None, decimal, drop, flat_map, map, if◌then◌else◌, ◌==◌}
+use Rattle.std.specs.Prelude.{ℕ, List, [], ◌∷◌, ◌++◌, decimal, drop, flat_map, map}
 use Rattle.json.specs.Print.{escape, quoted}
 use Rattle.cql_value.specs.declared.schema.Column.{Column}
 use Rattle.cql_reply.specs.declared.piece_place.Piece.{Piece}
@@ -17,11 +17,14 @@ pub data PieceText : Type 0 where
   escaped : List ℕ → PieceText
   names : List (List ℕ) → PieceText
 
+abbrev pub column_names : List Column → List (List ℕ)
+column_names = map (λ (c : Column). c.name)
+
 abbrev pub piece_of : Piece → PieceText
 piece_of (Plain bytes) = plain bytes.now
 piece_of (Number n) = number n
 piece_of (Escaped text) = escaped text.now
-piece_of (Names columns) = names (map (λ (c : Column). c.name) columns.now)
+piece_of (Names columns) = names (column_names columns.now)
 
 abbrev pub piece_text : PieceText → List ℕ
 piece_text (plain bytes) = bytes
@@ -41,22 +44,17 @@ column_text c = quoted c.name
 abbrev pub column_rest : Column → NamePlace → List ℕ
 column_rest c place = name_rest c.name place
 
--- the digits of a number, unless they are told
-abbrev pub digits_rest : ℕ → ℕ → List ℕ
-digits_rest n at = if at == 0 then decimal n else []
-
 -- what is to come of a piece
 abbrev pub piece_rest : PieceText → PiecePlace → List ℕ
 piece_rest (plain bytes) place = drop place.at bytes
-piece_rest (number n) place = digits_rest n place.at
+piece_rest (number n) place = drop place.at (decimal n)
 piece_rest (escaped text) place = escape (drop place.at text)
 piece_rest (names texts) place = list_rest quoted name_rest texts place.names
 
 -- what is to come by the pieces from the place's own on
-abbrev pub pieces_from : Option PiecePlace → List PieceText → List ℕ
-pieces_from None pieces = pieces_text pieces
-pieces_from (Some place) [] = []
-pieces_from (Some place) (piece ∷ later) = piece_rest piece place ++ pieces_text later
+abbrev pub pieces_from : PiecePlace → List PieceText → List ℕ
+pieces_from place [] = []
+pieces_from place (piece ∷ later) = piece_rest piece place ++ pieces_text later
 
 -- what is to come of a text of pieces
 abbrev pub pieces_rest : List PieceText → PiecesPlace → List ℕ

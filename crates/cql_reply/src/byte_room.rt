@@ -1,5 +1,6 @@
 //! Bytes that are yet to be written, of which there is room for so many and no more.
-ghost use Rattle.std.specs.Prelude.{◌||◌, is_err, OnOk, OnErr, ◌≡◌, ◌≢◌, ◌+◌, ◌<◌, ◌≤◌, ◌↔◌, ◌++◌, [], ◌∷◌, length, take, decimal, IfOk, IsTrue};
+ghost use Rattle.std.specs.Prelude.{◌||◌, is_err, OnOk, OnErr, ◌≡◌, ◌≢◌, ◌+◌, ◌<◌, ◌≤◌, ◌↔◌, ◌++◌, [], ◌∷◌, length, decimal, IfOk, IsTrue};
+ghost use Rattle.std.specs.Fmt.{signed_decimal};
 ghost use Rattle.std.specs.Io.KnownBytes.{Appends};
 ghost use Rattle.cql_lines.specs.Watched.{inner_of, has_failed, Grows};
 ghost use Rattle.cql_reply.specs.Buffered.{Buffers};
@@ -38,18 +39,8 @@ impl ByteRoom {
     pub fn new(alloc: Global, size: usize) -> Result<Self, AllocError>
         ensures { IfOk result (λ room. room ≡ record { bytes = []; size = size }) }
     {
-        Ok(ByteRoom {
-            bytes: Vec::with_capacity(alloc, size)?,
-            size,
-        })
-    }
-
-    /// What it holds.
-    pub fn as_slice(&self) -> &[u8]
-        ensures value { result.now ≡ self.now.bytes }
-        ensures fits { length result.now ≤ self.now.size }
-    {
-        self.bytes.as_slice()
+        let bytes = Vec::with_capacity(alloc, size)?;
+        Ok(ByteRoom { bytes, size })
     }
 
     /// Lets go what it holds.
@@ -57,15 +48,6 @@ impl ByteRoom {
         ensures { self.new ≡ record { bytes = []; size = self.old.size } }
     {
         self.bytes.clear();
-    }
-
-    /// Lets go what it holds behind so many bytes.
-    pub(crate) fn cut(&mut self, len: usize)
-        requires { len ≤ length self.old.bytes }
-        ensures bytes { self.new.bytes ≡ take len self.old.bytes }
-        ensures size { self.new.size ≡ self.old.size }
-    {
-        self.bytes.truncate(len);
     }
 
     /// Whether there is room for any step.
@@ -106,8 +88,7 @@ impl ByteRoom {
     pub(crate) fn put_few(&mut self, bytes: &[u8])
         requires { length self.old.bytes + length bytes.now ≤ self.old.size }
         ensures bytes { self.new.bytes ≡ self.old.bytes ++ bytes.now }
-        ensures len { length self.new.bytes ≡ length self.old.bytes + length bytes.now }
-        ensures size { self.new.size ≡ self.old.size }
+        ensures within { (length self.new.bytes ≡ length self.old.bytes + length bytes.now) × (self.new.size ≡ self.old.size) }
     {
         for byte in bytes {
             self.push(*byte);
@@ -120,6 +101,16 @@ impl ByteRoom {
         ensures bytes { self.new.bytes ≡ self.old.bytes ++ decimal number }
         ensures len { length self.new.bytes ≤ length self.old.bytes + 20 }
         ensures size { self.new.size ≡ self.old.size }
+    {
+        let mut digits = itoa::Buffer::new();
+        self.put(digits.format(number).as_bytes());
+    }
+
+    /// Holds the digits of a number with a sign too. Takes no memory.
+    pub(crate) fn put_signed(&mut self, number: i64)
+        requires { length self.old.bytes + 20 ≤ self.old.size }
+        ensures bytes { self.new.bytes ≡ self.old.bytes ++ signed_decimal number }
+        ensures within { (length self.new.bytes ≤ length self.old.bytes + 20) × (self.new.size ≡ self.old.size) }
     {
         let mut digits = itoa::Buffer::new();
         self.put(digits.format(number).as_bytes());
@@ -138,9 +129,9 @@ impl ByteRoom {
         if self.bytes.is_empty() {
             return Ok(());
         }
-        writer.write_all(self.bytes.as_slice())?;
+        let written = writer.write_all(self.bytes.as_slice());
         self.bytes.clear();
-        Ok(())
+        written
     }
 
     /// Holds the line of these blocks and of the instant from which the next ones count, behind what

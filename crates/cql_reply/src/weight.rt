@@ -24,25 +24,21 @@ pub fn weight_of(blocks: &[Block]) -> usize {
         if weight >= MOST {
             return weight;
         }
-        weight = weight
-            .saturating_add(BLOCK)
-            .saturating_add(weight_of_block(block));
+        weight = weight.saturating_add(BLOCK);
+        match &block.output {
+            Output::Rows(rows) => weight = with_rows(weight, rows.as_slice()),
+            Output::Signed { plus, minus } => {
+                weight = with_rows(with_rows(weight, plus.as_slice()), minus.as_slice());
+            }
+            Output::Fault(_) => {}
+        }
     }
     weight
 }
 
-fn weight_of_block(block: &Block) -> usize {
-    match &block.output {
-        Output::Rows(rows) => weight_of_rows(rows.as_slice()),
-        Output::Signed { plus, minus } => {
-            weight_of_rows(plus.as_slice()).saturating_add(weight_of_rows(minus.as_slice()))
-        }
-        Output::Fault(_) => 0,
-    }
-}
-
-fn weight_of_rows(rows: &[Row]) -> usize {
-    let mut weight: usize = 0;
+// What rows add to what was counted.
+fn with_rows(counted: usize, rows: &[Row]) -> usize {
+    let mut weight = counted;
     for row in rows {
         if weight >= MOST {
             return weight;

@@ -1,15 +1,13 @@
+use Rattle.std.proofs.lemmas.Bool.{false≢true}
 use Rattle.std.proofs.lemmas.Grind.{common_steps}
 use Rattle.std.proofs.Common.{arith}
 use Rattle.cql_reply.proofs.block_place.BlockPlaceTextPlace.put_short.Goals as goal
 
-pub put_one-requires-clause-room : goal.put_one-requires-clause-room
-put_one-requires-clause-room c = grind (arith, common_steps)
+pub put_one-requires : goal.put_one-requires
+put_one-requires c = grind (arith, common_steps)
 
-pub put_one-requires-clause-row : goal.put_one-requires-clause-row
-put_one-requires-clause-row c = grind (arith, common_steps)
+pub returns-then-as_slice-lt1-clause-told : goal.returns-then-as_slice-lt1-clause-told
+returns-then-as_slice-lt1-clause-told c = λ e. absurd (false≢true e)
 
-pub returns-then-are_numbers-clause-grows : goal.returns-then-are_numbers-clause-grows
-returns-then-are_numbers-clause-grows c = omega arith
-
-pub bounds-row-0 : goal.bounds-row-0
-bounds-row-0 c = omega arith
+pub returns-else-this-lt2-clause-told : goal.returns-else-this-lt2-clause-told
+returns-else-this-lt2-clause-told c = λ e. absurd (false≢true e)

@@ -5,29 +5,20 @@ use Rattle.cql_reply.proofs.byte_room.ByteRoom.flush.Goals as goal
 pub returns-then-is_empty-clause-emptied : goal.returns-then-is_empty-clause-emptied
 returns-then-is_empty-clause-emptied g c = grind (arith, common_steps)
 
-pub returns-then-is_empty-clause-failed : goal.returns-then-is_empty-clause-failed
-returns-then-is_empty-clause-failed g c = grind (arith, common_steps)
-
-pub invariant_of-self : goal.invariant_of-self
-invariant_of-self g c = grind (arith, common_steps)
-
-pub returns-clause-failed : goal.returns-clause-failed
-returns-clause-failed g c = grind (arith, common_steps)
-
 pub returns-then-is_empty-clause-ok : goal.returns-then-is_empty-clause-ok
 returns-then-is_empty-clause-ok g c = grind (arith, common_steps)
 
-pub returns-in_err-write_all-clause-cause : goal.returns-in_err-write_all-clause-cause
-returns-in_err-write_all-clause-cause g c = grind (arith, common_steps)
-
-pub returns-in_err-write_all-clause-failed : goal.returns-in_err-write_all-clause-failed
-returns-in_err-write_all-clause-failed g c = grind (arith, common_steps)
-
-pub returns-clause-ok : goal.returns-clause-ok
-returns-clause-ok g c = grind (arith, common_steps)
+pub returns-clause-cause : goal.returns-clause-cause
+returns-clause-cause g c = grind (arith, common_steps)
 
 pub returns-clause-emptied : goal.returns-clause-emptied
 returns-clause-emptied g c = grind (arith, common_steps)
 
-pub returns-in_err-write_all-clause-size : goal.returns-in_err-write_all-clause-size
-returns-in_err-write_all-clause-size g c = grind (arith, common_steps)
+pub returns-clause-err : goal.returns-clause-err
+returns-clause-err g c = grind (arith, common_steps)
+
+pub returns-clause-ok : goal.returns-clause-ok
+returns-clause-ok g c = grind (arith, common_steps)
+
+pub returns-clause-failed : goal.returns-clause-failed
+returns-clause-failed g c = grind (arith, common_steps)

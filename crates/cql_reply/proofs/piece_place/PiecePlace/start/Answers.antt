@@ -1,6 +1,5 @@
-use Rattle.std.proofs.Common.{refl}
 use Rattle.cql_reply.proofs.Pieces.{piece_begins}
 use Rattle.cql_reply.proofs.piece_place.PiecePlace.start.Goals as goal
 
 pub returns : goal.returns
-returns c = piece_begins _ refl c.start.ensures
+returns c = piece_begins c.start.result c.start.ensures

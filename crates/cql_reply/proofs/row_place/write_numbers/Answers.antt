@@ -1,18 +1,18 @@
 use Rattle.std.proofs.lemmas.Grind.{common_steps}
-use Rattle.std.proofs.Common.{arith, true, ◌≡◌, ◌∷◌, length, drop, refl, sym, ap, ◌∙◌, subst}
+use Rattle.std.proofs.Common.{arith, true, ◌≡◌, ◌∷◌, ◌+◌, ◌-◌, length, drop, refl, sym, ap, ◌∙◌, subst}
 use Rattle.std.proofs.lemmas.List.{drop-set, drop-drop, drop_all, length-set}
 use Rattle.cql_reply.specs.Line.{items_text, value_text}
 use Rattle.cql_reply.proofs.Telling.{opened}
-use Rattle.cql_reply.proofs.row_place.write_few.Goals as goal
+use Rattle.cql_reply.proofs.row_place.write_numbers.Goals as goal
 
 pub loop-left-init : goal.loop-left-init
 loop-left-init c =
-    let long : length c.args.text.now ≡ 128 = omega arith in (
-      rw (drop-set c.args.text.now 127 93 (omega arith), drop_all 128 c.args.text.now (omega arith), drop_all (length c.args.values.now) c.args.values.now (omega arith)) refl,
+    let last = length c.args.text.now - 1 in (
+      rw (drop-set c.args.text.now last 93 (omega arith), drop_all (last + 1) c.args.text.now (omega arith), drop_all (length c.args.values.now) c.args.values.now (omega arith)) refl,
       omega arith,
-      omega arith,
-      omega arith,
-      length-set c.args.text.now 127 93 ∙ long,
+      omega (arith, length-set c.args.text.now last 93),
+      omega (arith, length-set c.args.text.now last 93),
+      length-set c.args.text.now last 93,
     )
 
 pub returns-clause-written : goal.returns-clause-written
@@ -34,3 +34,6 @@ loop-left-smaller c = grind (arith, common_steps)
 
 pub loop-left-preserved : goal.loop-left-preserved
 loop-left-preserved c = grind (arith, common_steps)
+
+pub returns-clause-short : goal.returns-clause-short
+returns-clause-short c = grind (arith, common_steps)

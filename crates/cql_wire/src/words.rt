@@ -1,6 +1,7 @@
 //! What the words of `cqld`'s command line say.
 ghost use Rattle.std.specs.Prelude.{◌≤◌, IfOk};
 ghost use Rattle.std.specs.Net.Grammar.{Parses, IsIpv4Text};
+ghost use Rattle.cql_wire.specs.Words.{IsInRange};
 
 use clap::builder::ValueParser;
 use clap::error::ErrorKind;
@@ -84,16 +85,7 @@ pub enum NoConfig {
 pub fn config_of<R>(rt: &R) -> Result<Config, NoConfig>
 where
     R: Env + Alloc<A = Global> + Print + Eprint,
-    ensures workers { IfOk result (λ c. (1 ≤ c.workers) × (c.workers ≤ 64)) }
-    ensures callers { IfOk result (λ c. (1 ≤ c.callers) × (c.callers ≤ 65536)) }
-    ensures login { IfOk result (λ c. c.login ≤ 3600) }
-    ensures idle { IfOk result (λ c. c.idle ≤ 86400) }
-    ensures answer { IfOk result (λ c. c.answer ≤ 86400) }
-    ensures warm { IfOk result (λ c. c.warm ≤ 1024) }
-    ensures warm_room { IfOk result (λ c. (1 ≤ c.warm_room) × (c.warm_room ≤ 65536)) }
-    ensures room { IfOk result (λ c. (1 ≤ c.room) × (c.room ≤ 65536)) }
-    ensures log { IfOk result (λ c. c.log ≤ 86400) }
-    ensures sync { IfOk result (λ c. c.sync ≤ 60000) }
+    ensures { IfOk result IsInRange }
 {
     let words = match words_of(rt) {
         Ok(words) => words,
@@ -123,16 +115,7 @@ fn words_of<R: Env + Alloc<A = Global>>(rt: &R) -> io::Result<Vec<String>> {
 
 // Reads the words, of which the first is the program's name.
 fn read_words(alloc: Global, words: &[String]) -> Result<Config, Error>
-    ensures workers { IfOk result (λ c. (1 ≤ c.workers) × (c.workers ≤ 64)) }
-    ensures callers { IfOk result (λ c. (1 ≤ c.callers) × (c.callers ≤ 65536)) }
-    ensures login { IfOk result (λ c. c.login ≤ 3600) }
-    ensures idle { IfOk result (λ c. c.idle ≤ 86400) }
-    ensures answer { IfOk result (λ c. c.answer ≤ 86400) }
-    ensures warm { IfOk result (λ c. c.warm ≤ 1024) }
-    ensures warm_room { IfOk result (λ c. (1 ≤ c.warm_room) × (c.warm_room ≤ 65536)) }
-    ensures room { IfOk result (λ c. (1 ≤ c.room) × (c.room ≤ 65536)) }
-    ensures log { IfOk result (λ c. c.log ≤ 86400) }
-    ensures sync { IfOk result (λ c. c.sync ≤ 60000) }
+    ensures { IfOk result IsInRange }
 {
     let matches = command(alloc)?.try_get_matches_from(words)?;
     let Ok(listen) = address_of(matches.get_str("listen").unwrap_or("")) else {

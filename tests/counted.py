@@ -17,6 +17,11 @@ def can_count():
     return shutil.which("valgrind") is not None
 
 
+def collected(ended):
+    """How many instructions a server took that has ended, by what valgrind said."""
+    return int(re.search(rb"Collected : (\d+)", ended.said).group(1))
+
+
 def put(at, name, *row):
     """The line of a row of numbers."""
     values = b",".join(b"%d" % it for it in row)
@@ -41,4 +46,4 @@ def instructions(program, table, tenant, lines, **words):
                     reply = caller.replies.readline()
             caller.rest()
         ended = server.end(SECONDS)
-    return int(re.search(rb"Collected : (\d+)", ended.said).group(1)), reply
+    return collected(ended), reply

@@ -8,6 +8,7 @@ use Rattle.std.proofs.sync.Mutex.TheSendSync as mutex
 use Rattle.std.proofs.alloc.Global.TheSendSync as heap
 use Rattle.std.proofs.Crossing.{crosses}
 use Rattle.std.below.std_heap.proofs.GlobalAllocator.TheSendSync as frees
+use Rattle.lru.proofs.cache.LruCache.TheSendSync as lru
 use Rattle.cql_ops.proofs.bench.BenchOf.TheSendSync as bench
 use Rattle.cql_ops.proofs.cancellation.Cancellation.TheSendSync as cancellation
 use Rattle.cql_ops.specs.contracts.bench.BenchOf as bench_type
@@ -54,7 +55,7 @@ module _ (O : RattleType) where
 
 module _ (O : RattleType) (g : OperatorGhosts O.Denot) where
   pub pool_send : IsSend O → IsSend (pool.the_row O g)
-  pool_send s = let w = warm_send O s in search (sendable, vec.the_send, heap.the_send, frees.the_frees) depth 20
+  pool_send s = let w = warm_send O s in search (crosses, sendable, vec.the_send, lru.the_send, heap.the_send, heap.the_sync, frees.the_frees) depth 30
 
   pub pool_sync : IsSend O → IsSync (shared_pool.the_row O g)
   pool_sync s = let p = pool_send s in search (sendable, mutex.the_sync, answers_sync) depth 20

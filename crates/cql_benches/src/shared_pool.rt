@@ -104,7 +104,7 @@ impl<O: Operator> SharedPool<O> {
         self.pool.lock(rt).take_excess(weight)
     }
 
-    // Puts a bench back, or gives it back where there is no room for what it keeps.
+    // Puts a bench back, or gives it back where there is no room for what it keeps, or no place for it.
     fn put<R: Wait + Clock>(&self, rt: &R, bench: Warm<O>) -> Option<Warm<O>>
         requires { IsWarm O.model_of bench }
         ensures { IfSome result (IsWarm O.model_of) }
@@ -122,17 +122,31 @@ impl<O: Operator> SharedPool<O> {
         let _ = self.put(rt, bench);
     }
 
-    // Puts a bench back. Of the others those that were used longest ago let go of what they keep, where
-    // there is no room for it; and it does so itself where others took that room meanwhile.
-    fn put_back<R: Wait + Clock>(&self, rt: &R, bench: Warm<O>)
-        requires { IsWarm O.model_of bench }
-    {
+    // Whether a bench may be put back once there is room.
+    fn has_place_for<R: Wait>(&self, rt: &R, bench: &Warm<O>) -> bool {
+        self.pool.lock(rt).has_place_for(bench)
+    }
+
+    // Of the benches that were used longest ago so many let go of what they keep that there is room for one
+    // that may be put back.
+    fn make_room<R: Wait + Clock>(&self, rt: &R, bench: &Warm<O>) {
+        if !self.has_place_for(rt, bench) {
+            return;
+        }
         for _ in 0..self.count {
             let Some(other) = self.take_excess(rt, bench.weight) else {
                 break;
             };
             self.put_cleared(rt, other);
         }
+    }
+
+    // Puts a bench back. Others let go of what they keep, where there is no room for it; and it does so
+    // itself where others took that room meanwhile, or another one stands for its query.
+    fn put_back<R: Wait + Clock>(&self, rt: &R, bench: Warm<O>)
+        requires { IsWarm O.model_of bench }
+    {
+        self.make_room(rt, &bench);
         if let Some(bench) = self.put(rt, bench) {
             self.put_cleared(rt, bench);
         }
@@ -222,8 +236,8 @@ impl<R: Wait + Clock, O: Operator> Borrower<'_, R, O> {
 }
 
 impl<'a, R: Wait + Clock, O: Operator> Lender<O> for Borrower<'a, R, O> {
-    fn lend(&mut self, alloc: Global, pin: &Pin) -> Option<Warm<O>> {
-        let lent = self.shared.pool.lock(self.rt).take(alloc, pin);
+    fn lend(&mut self, _alloc: Global, pin: &Pin) -> Option<Warm<O>> {
+        let lent = self.shared.pool.lock(self.rt).take(pin);
         match lent {
             Some(bench) => {
                 self.begin(bench.bench.cancellation());

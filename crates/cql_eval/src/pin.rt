@@ -5,6 +5,7 @@ ghost use Rattle.cql_plan.specs.Ports.{IsPlain};
 ghost use Rattle.cql_plan.specs.declared.plan.OutputKind.TheVariants.{Rstream};
 ghost use Rattle.cql_eval.specs.Pin.{IsPin};
 
+use crate::query_key::{NO_QUERY, QueryKey};
 use cql_ops::element_weight;
 use cql_plan::{OutputKind, Plan};
 use cql_value::slices_equal;
@@ -24,7 +25,8 @@ pub struct Pin {
     next: u64,
     limit: u64,
     windows: Vec<WindowPin>,
-    // so many others hold its plan as long as its query can be fetched
+    // what tells its query from others, and how many others hold its plan as long as that can be fetched
+    key: QueryKey,
     holders: usize,
 }
 
@@ -37,6 +39,7 @@ impl Drop for Pin {
             next: _,
             limit: _,
             windows: _,
+            key: _,
             holders: _,
         } = self;
     }
@@ -80,18 +83,25 @@ impl Pin {
             next,
             limit,
             windows,
+            key: NO_QUERY,
             holders: 1,
         }
     }
 
-    /// The same. So many others hold its plan as long as its query can be fetched, and fewer from then on.
-    /// Of a new pin it is one.
-    pub fn with_holders(self, holders: usize) -> Pin
+    /// The same, of the query of this key. So many others hold its plan as long as that can be fetched, and fewer
+    /// from then on. A new pin is of no query, and one other holds its plan.
+    pub fn of_query(self, key: QueryKey, holders: usize) -> Pin
         ensures { result ≡ self }
     {
         let mut pin = self;
+        pin.key = key;
         pin.holders = holders;
         pin
+    }
+
+    // What tells its query from others.
+    pub(crate) fn key(&self) -> QueryKey {
+        self.key
     }
 
     /// What the query computes.

@@ -9,38 +9,54 @@ use crate::answered::Answer;
 use crate::evaluate::answer_shared;
 use crate::evaluator::Evaluator;
 use crate::pin::Pin;
-use crate::warm::{Wanted, Warm};
+use crate::query_key::QueryKey;
+use crate::warm::Warm;
 use cql_ops::{BenchOf, Operator};
+use lru::LruCache;
 use std::alloc::{AllocError, Global};
 use std::marker::Model;
+use std::num::NonZeroUsize;
 use std::sync::Arc;
 
 /// Benches that stand for different queries, each of which is taken out for an answer: those that
-/// nobody has taken out, the one that was put back last behind the others.
-#[derive(Drop)]
+/// nobody has taken out. One is taken out and put back in constant time, however many there are.
 pub struct Pool<O: Operator> {
-    benches: Vec<Warm<O>>,
+    // those that stand for no query
+    spare: Vec<Warm<O>>,
+    // those that stand for one, by its key, the one that was put back last before the others
+    kept: LruCache<QueryKey, Warm<O>>,
     // how many bytes the benches may keep together, and how many more they may
     room: u64,
     left: u64,
+}
+
+impl<O: Operator> Drop for Pool<O> {
+    fn drop(self) {
+        let Pool {
+            spare: _,
+            kept: _,
+            room: _,
+            left: _,
+        } = self;
+    }
 }
 
 impl<O: Operator> Model for Pool<O> {
     ghost use Rattle.cql_plan.specs.contracts.expr.Expr as expr;
     ghost use Rattle.cql_plan.specs.contracts.condition.Condition as condition;
     ghost use Rattle.std.specs.Coded.{codes};
-    ghost use Rattle.std.specs.Prelude.{◌+◌, ◌≤◌, List};
-    ghost use Rattle.std.specs.List.{All};
+    ghost use Rattle.std.specs.Prelude.{List};
     ghost use Rattle.cql_eval.specs.declared.warm.Warm.{Warm};
-    ghost use Rattle.cql_eval.specs.Warm.{IsWarm, weight_in};
+    ghost use Rattle.cql_eval.specs.Warm.{IsWarm};
+    ghost use Rattle.cql_eval.specs.Pool.{all_of, AreWithin};
 
     ghost Value = { List (Warm O) };
 
     ghost coded = { Prim.hlevel (codes, expr.the_row.coded, condition.the_row.coded) };
 
-    ghost view = { λ p. p.benches.items };
+    ghost view = { λ p. all_of p.spare.items p.kept };
 
-    ghost invariant = { λ p. All (IsWarm O.model_of) p.benches.items × (p.left + weight_in p.benches.items ≤ p.room) };
+    ghost invariant = { λ p. AreWithin (IsWarm O.model_of) p.spare.items p.kept p.left p.room };
 }
 
 impl<O: Operator> Pool<O> {
@@ -49,8 +65,13 @@ impl<O: Operator> Pool<O> {
     pub fn new(alloc: Global, benches: Vec<BenchOf<O>>, room: u64) -> Result<Pool<O>, AllocError>
         requires { All (IsBench O.model_of) benches.items }
     {
+        let Some(many) = NonZeroUsize::new(benches.len().max(1)) else {
+            return Err(AllocError);
+        };
+        // room for all from the start: what stands above what answers take would keep that from going back
         let mut pool = Pool {
-            benches: Vec::with_capacity(alloc, benches.len())?,
+            spare: Vec::with_capacity(alloc, benches.len())?,
+            kept: LruCache::new(alloc, many)?,
             room,
             left: room,
         };
@@ -60,45 +81,79 @@ impl<O: Operator> Pool<O> {
         Ok(pool)
     }
 
-    // The place of the first bench that is what is looked for.
-    fn index_of(&self, wanted: &Wanted<'_>) -> Option<usize> {
-        for index in 0..self.benches.len() {
-            if self.benches[index].is_wanted(wanted) {
-                return Some(index);
-            }
-        }
-        None
-    }
-
-    /// Takes out a bench that seems to go on with the pin; else one that seems to stand for its query,
-    /// so that a query that is fetched again and again has no more than it needs; else one that stands
-    /// for no query, or the one that was put back before all others, which then goes on with none. None
-    /// where all are taken out, and where the pin needs none: what is kept for others stays.
-    pub fn take(&mut self, alloc: Global, pin: &Pin) -> Option<Warm<O>>
+    /// Takes out the bench that stands for the pin's query, so that a query that is fetched again and
+    /// again has no more than it needs; else one that stands for no query, or the one that was put back
+    /// before all others, which then goes on with none. None where all are taken out, and where the pin
+    /// needs none: what is kept for others stays.
+    pub fn take(&mut self, pin: &Pin) -> Option<Warm<O>>
         ensures { IfSome result (IsWarm O.model_of) }
     {
         if pin.is_passing() {
             return None;
         }
-        if let Some(index) = self.index_of(&Wanted::GoingOn(alloc, pin)) {
-            return self.take_at(index);
+        if let Some(bench) = self.take_of(pin.key()) {
+            return Some(bench);
         }
-        if let Some(index) = self.index_of(&Wanted::StandingFor(alloc, pin)) {
-            return self.take_at(index);
-        }
-        let index = self.index_of(&Wanted::Spare).unwrap_or(0);
-        let mut bench = self.take_at(index)?;
+        let mut bench = self.take_other()?;
         bench.kept = None;
         Some(bench)
     }
 
-    /// Takes out a bench that keeps something and was put back before the time, in seconds: the one that
-    /// was put back before all others.
+    // Takes out one that stands for no query, or the one that was put back before all others.
+    fn take_other(&mut self) -> Option<Warm<O>>
+        ensures { IfSome result (IsWarm O.model_of) }
+    {
+        match self.spare.pop() {
+            Some(bench) => Some(bench),
+            None => self.take_last(),
+        }
+    }
+
+    // Takes out the bench that stands for the query of a key.
+    fn take_of(&mut self, key: QueryKey) -> Option<Warm<O>>
+        ensures { IfSome result (IsWarm O.model_of) }
+    {
+        let bench = self.kept.pop(&key)?;
+        self.left = self.left.saturating_add(bench.weight);
+        Some(bench)
+    }
+
+    // Takes out the bench that was put back before all others of those that stand for queries.
+    fn take_last(&mut self) -> Option<Warm<O>>
+        ensures { IfSome result (IsWarm O.model_of) }
+    {
+        let (_key, last) = self.kept.pop_lru()?;
+        self.left = self.left.saturating_add(last.weight);
+        Some(last)
+    }
+
+    // The key of a query that is gone.
+    fn forsaken(&self) -> Option<QueryKey> {
+        for (key, bench) in self.kept.iter() {
+            if bench.is_forsaken() {
+                return Some(*key);
+            }
+        }
+        None
+    }
+
+    // The key of the query whose bench was put back before all others, where that was before the time, or
+    // of one that is gone.
+    fn unused(&self, since: u64) -> Option<QueryKey> {
+        match self.kept.peek_lru() {
+            Some((key, bench)) if bench.is_older(since) => Some(*key),
+            _ => self.forsaken(),
+        }
+    }
+
+    /// Takes out a bench that stands for a query and was put back before the time, in seconds, or whose
+    /// query is gone: the one that was put back before all others, or else the first of those, for which
+    /// all that stand for a query are looked at.
     pub fn take_unused(&mut self, since: u64) -> Option<Warm<O>>
         ensures { IfSome result (IsWarm O.model_of) }
     {
-        let index = self.index_of(&Wanted::Unused(since))?;
-        self.take_at(index)
+        let key = self.unused(since)?;
+        self.take_of(key)
     }
 
     /// Takes out a bench that keeps something, the one that was put back before all others, where those
@@ -109,49 +164,76 @@ impl<O: Operator> Pool<O> {
         if weight <= self.left || weight > self.room {
             return None;
         }
-        self.take_unused(u64::MAX)
+        self.take_last()
     }
 
-    // Takes out the bench at a place, if there is one.
-    fn take_at(&mut self, index: usize) -> Option<Warm<O>>
-        ensures { IfSome result (IsWarm O.model_of) }
-    {
-        if index >= self.benches.len() {
-            return None;
+    /// Whether a bench that keeps something may be put back once there is room: it stands for a query, and
+    /// no other one for that.
+    pub fn has_place_for(&self, bench: &Warm<O>) -> bool {
+        match bench.key() {
+            Some(key) => !self.kept.contains(&key),
+            None => false,
         }
-        let bench = self.benches.remove(index);
-        self.left = self.left.saturating_add(bench.weight);
-        Some(bench)
     }
 
     /// Puts back a bench that was taken out, at the time, in seconds; or gives it back where there is no
-    /// room for what it keeps. For one that keeps nothing there is room.
+    /// room for what it keeps, or no place for it. For one that keeps nothing there is room.
     pub fn put(&mut self, bench: Warm<O>, now: u64) -> Option<Warm<O>>
         requires { IsWarm O.model_of bench }
         ensures warm { IfSome result (IsWarm O.model_of) }
         ensures empty { bench.weight ≡ 0 → result ≡ None }
     {
+        if bench.weight == 0 {
+            // there was room for all of them from the start
+            let _ = self.spare.push(bench);
+            return None;
+        }
+        let Some(key) = bench.key() else {
+            return Some(bench);
+        };
         let Some(left) = self.left.checked_sub(bench.weight) else {
             return Some(bench);
         };
+        if self.kept.contains(&key) {
+            return Some(bench);
+        }
         let mut bench = bench;
         bench.used = now;
-        if self.benches.push(bench).is_ok() {
-            self.left = left;
+        match self.kept.put(key, bench) {
+            Ok(_none) => {
+                self.left = left;
+                None
+            }
+            Err(refused) => Some(refused.value.1),
         }
-        None
+    }
+
+    // Benches that were put back before let go of what they keep, one after another, where a bench that may
+    // be put back wants the room.
+    fn make_room(&mut self, alloc: Global, bench: &Warm<O>) {
+        if !self.has_place_for(bench) {
+            return;
+        }
+        for _ in 0..self.kept.len() {
+            let Some(mut other) = self.take_excess(bench.weight) else {
+                break;
+            };
+            other.clear(alloc);
+            let _ = self.put(other, 0);
+        }
     }
 }
 
 /// Who lends benches that go on, each to one answer at a time.
 pub trait Lender<O: Operator>: Drop {
-    /// A bench that seems to go on with the pin, or one that then goes on with none. None where all
-    /// are lent, or where none is needed.
+    /// The bench that stands for the pin's query, or one that then stands for none. None where all are
+    /// lent, or where none is needed.
     fn lend(&mut self, alloc: Global, pin: &Pin) -> Option<Warm<O>>
         ensures { IfSome result (IsWarm O.model_of) };
 
-    /// Takes back a bench that was lent. It lets go of what that keeps where there is no room for it, or
-    /// of what others keep that were used before it.
+    /// Takes back a bench that was lent. It lets go of what others keep that were used before it, as far
+    /// as that wants the room; and of what the bench keeps where there is no room for it, or another one
+    /// stands for its query: then of nothing that others keep.
     fn take_back(&mut self, alloc: Global, bench: Warm<O>)
         requires { IsWarm O.model_of bench };
 
@@ -160,21 +242,14 @@ pub trait Lender<O: Operator>: Drop {
 }
 
 impl<O: Operator> Lender<O> for Pool<O> {
-    fn lend(&mut self, alloc: Global, pin: &Pin) -> Option<Warm<O>> {
-        self.take(alloc, pin)
+    fn lend(&mut self, _alloc: Global, pin: &Pin) -> Option<Warm<O>> {
+        self.take(pin)
     }
 
     fn take_back(&mut self, alloc: Global, bench: Warm<O>)
         requires { IsWarm O.model_of bench }
     {
-        let mut bench = bench;
-        for _ in 0..self.benches.len() {
-            let Some(mut other) = self.take_excess(bench.weight) else {
-                break;
-            };
-            other.clear(alloc);
-            let _ = self.put(other, 0);
-        }
+        self.make_room(alloc, &bench);
         if let Some(mut heavy) = self.put(bench, 0) {
             heavy.clear(alloc);
             let _ = self.put(heavy, 0);
@@ -183,7 +258,7 @@ impl<O: Operator> Lender<O> for Pool<O> {
 
     fn let_go(&mut self, alloc: Global) -> bool {
         let mut some = false;
-        for _ in 0..self.benches.len() {
+        for _ in 0..self.kept.len() {
             let Some(mut bench) = self.take_unused(u64::MAX) else {
                 break;
             };

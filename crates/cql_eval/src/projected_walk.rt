@@ -87,11 +87,6 @@ impl<'a> ProjectedWalk<'a> {
         slices_equal(self.projection, other.projection) && self.walk.holds_same(&other.walk)
     }
 
-    /// Whether both may hold the same rows: as many, of which the first is the same.
-    pub(crate) fn seems_same(&self, other: &ProjectedWalk<'_>) -> bool {
-        slices_equal(self.projection, other.projection) && self.walk.seems_same(&other.walk)
-    }
-
     /// The whole rows that the window holds at the cursor, in some order.
     pub(crate) fn held(&self, alloc: Global) -> Result<Vec<Timed>, AllocError>
         ensures { IfOk result (λ r. IsPermutation (projected_by self.now r.items) self.now.held) }

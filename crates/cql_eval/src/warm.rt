@@ -10,6 +10,7 @@ use crate::answered::Answer;
 use crate::evaluate::{evaluate, nothing_asked};
 use crate::pin::Pin;
 use crate::projected_walk::ProjectedWalk;
+use crate::query_key::QueryKey;
 use crate::shown::{LastTold, WalkState, ask, keep};
 use crate::walks::{advance, retreat};
 use cql_bag::Room;
@@ -80,25 +81,10 @@ impl LastAnswer {
     }
 }
 
-// Which bench is looked for.
-#[derive(Clone, Copy)]
-pub(crate) enum Wanted<'a> {
-    // One that seems to go on with the pin, by the plan, the limit and the windows' first rows.
-    GoingOn(Global, &'a Pin),
-    // One that seems to stand for the pin's query, though from a later cursor on: its last pin went
-    // beyond where this one begins, and held there what this one does.
-    StandingFor(Global, &'a Pin),
-    // One that stands for no query.
-    Spare,
-    // One that keeps something, and was put back before the time, or whose query is gone.
-    Unused(u64),
-}
-
 /// A bench that answers pins in turn. Where a pin begins on the last one's way, that is where its
 /// windows hold at its first cursor what those of the last one held there, the bench goes on, taken
 /// back from the last one's end, unless that costs more than what the windows hold; else it is started
 /// anew. `new` makes one that `IsWarm`, and every call keeps that.
-#[derive(Drop)]
 pub struct Warm<O> {
     pub bench: BenchOf<O>,
     pub kept: Option<LastAnswer>,
@@ -108,6 +94,18 @@ pub struct Warm<O> {
     pushed: usize,
     // When it was put back, in seconds.
     pub(crate) used: u64,
+}
+
+impl<O: Drop> Drop for Warm<O> {
+    fn drop(self) {
+        let Warm {
+            bench: _,
+            kept: _,
+            weight: _,
+            pushed: _,
+            used: _,
+        } = self;
+    }
 }
 
 impl<O: Operator> Warm<O> {
@@ -125,24 +123,22 @@ impl<O: Operator> Warm<O> {
         }
     }
 
-    // Whether it is what is looked for.
-    pub(crate) fn is_wanted(&self, wanted: &Wanted<'_>) -> bool {
-        match (wanted, &self.kept) {
-            (Wanted::GoingOn(alloc, pin), Some(kept)) => {
-                matches!(seem_same(*alloc, pin, kept, kept.pin().next()), Ok(true))
-            }
-            (Wanted::StandingFor(alloc, pin), Some(kept)) => {
-                kept.pin().has(pin.from())
-                    && matches!(seem_same(*alloc, pin, kept, pin.from()), Ok(true))
-            }
-            (Wanted::Unused(since), kept) => {
-                let is_old = self.used < *since;
-                self.weight > 0
-                    && (is_old || matches!(kept, Some(kept) if kept.pin().is_forsaken()))
-            }
-            (Wanted::Spare, None) => true,
-            _ => false,
+    // The key of the query that it stands for, if it stands for a pin: benches of pins of no query have one key.
+    pub(crate) fn key(&self) -> Option<QueryKey> {
+        match &self.kept {
+            Some(kept) => Some(kept.pin().key()),
+            None => None,
         }
+    }
+
+    // Whether it was put back before the time.
+    pub(crate) fn is_older(&self, since: u64) -> bool {
+        self.used < since
+    }
+
+    // Whether the query that it stands for is gone.
+    pub(crate) fn is_forsaken(&self) -> bool {
+        matches!(&self.kept, Some(kept) if kept.pin().is_forsaken())
     }
 
     /// Lets go of what is kept, and of the rows that the operators hold.
@@ -291,25 +287,6 @@ fn are_held_same<'a, 'b>(first: &[ProjectedWalk<'a>], second: &[ProjectedWalk<'b
         }
     }
     true
-}
-
-// Whether the kept pin seems to hold at a cursor what a pin holds where it begins.
-fn seem_same(alloc: Global, pin: &Pin, kept: &LastAnswer, cursor: u64) -> Result<bool, AllocError> {
-    let before = kept.pin();
-    if !before.has_plan_of(pin) {
-        return Ok(false);
-    }
-    let ended = walks_at(alloc, before, Some(cursor))?;
-    let begun = walks_at(alloc, pin, Some(pin.from()))?;
-    if ended.len() != begun.len() {
-        return Ok(false);
-    }
-    for input in 0..ended.len() {
-        if !ended[input].seems_same(&begun[input]) {
-            return Ok(false);
-        }
-    }
-    Ok(true)
 }
 
 // The walks over a pin at its first cursor, where the kept one holds the same there, on its way or at

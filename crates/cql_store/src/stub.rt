@@ -26,6 +26,15 @@ impl Model for StubId {
     ghost inverse = { λ n. record { slot = n } };
 }
 
+impl StubId {
+    /// The number: no other stub that is attached to its store has it.
+    pub fn number(self) -> usize
+        ensures { result ≡ self }
+    {
+        self.slot
+    }
+}
+
 /// The rows that a stub keeps itself: the content of a window of parts. What is made ready shares
 /// them where they stay as they are. There is nothing before the window passes a row.
 #[derive(Drop)]

@@ -128,19 +128,6 @@ impl<'a> Walk<'a> {
         }
     }
 
-    /// Whether both hold as many rows, of which the first is the same: no other is looked at. It says
-    /// no of windows with parts.
-    pub fn seems_same(&self, other: &Walk<'_>) -> bool {
-        match (self.parts_held(), other.parts_held()) {
-            (Some(held), Some(others)) => {
-                let (count, row) = beginning(held);
-                let (many, another) = beginning(others);
-                count == many && are_alike(row, another)
-            }
-            _ => false,
-        }
-    }
-
     /// A list's rows, and then those between two indices of the pin. None is copied.
     pub fn rows<'b>(&'b self, near: &'b [Timed], span: Span) -> Part<'b>
         requires { IsWithin span (rows_of self.now.pin) }
@@ -158,24 +145,6 @@ impl<'a> Walk<'a> {
             Window::Parts { .. } => self.queues.rows(alloc),
             _ => rows_between(alloc, self.pin, self.bounds.low, self.bounds.high),
         }
-    }
-}
-
-// How many rows two stretches have, and the first of them.
-fn beginning<'a>(held: (Stretch<'a>, Stretch<'a>)) -> (u128, Option<&'a Timed>) {
-    let (mut first, mut second) = held;
-    let count = first.len() as u128 + second.len() as u128;
-    match first.next() {
-        Some(row) => (count, Some(row)),
-        None => (count, second.next()),
-    }
-}
-
-// Whether both are the same row, where both are there.
-fn are_alike(row: Option<&Timed>, another: Option<&Timed>) -> bool {
-    match (row, another) {
-        (Some(row), Some(another)) => row.is_equal(another),
-        _ => true,
     }
 }
 

@@ -352,6 +352,31 @@ fn rows_that_fail_alone_are_joined_to_none(rt: HostRuntime) -> Result<(), Fail> 
     Ok(())
 }
 
+#[test]
+fn rows_that_fail_alone_are_in_no_ports_way(rt: HostRuntime) -> Result<(), Fail> {
+    let case = Case {
+        all: &[Has::Number(Y_B, 3)],
+        rows: &[Rows::Ten(1, true, true), Rows::Ten(0, true, true)],
+        ..TENS
+    };
+    // Of ten rows of the second port one has the constant, and each of the first is put to that one.
+    assert!(rt; keyed(rt.alloc(), &case)? == (10, 10));
+    Ok(())
+}
+
+#[test]
+fn a_port_without_a_row_ends_a_walk(rt: HostRuntime) -> Result<(), Fail> {
+    let case = Case {
+        ports: 3,
+        all: &[Has::Less(X_A, Y_A)],
+        rows: &[Rows::Ten(0, true, true), Rows::Ten(1, true, true)],
+        ..TENS
+    };
+    // A row of either port finds none of the third, and is put to none of the other.
+    assert!(rt; keyed(rt.alloc(), &case)? == (0, 0));
+    Ok(())
+}
+
 // Ten rows with the one number in each first column, into three ports.
 const THREE_TENS: Case = Case {
     ports: 3,
@@ -438,9 +463,9 @@ fn a_keyed_join_is_given_up_as_it_tells(rt: HostRuntime) -> Result<(), Fail> {
 
 #[test]
 fn a_join_without_equal_columns_is_given_up(rt: HostRuntime) -> Result<(), Fail> {
-    // Each row of the second port is put to ten of the first, and finds none of the third. One of the
-    // third is put to ten of the first, and each of these pairs to ten of the second.
-    assert!(rt; keyed_gives_up(rt.alloc(), &THREE_TENS)? == (true, 100 + 1100));
+    // A row of the first port or the second finds none of the third. One of the third is put to ten of
+    // the first, and each of these pairs to ten of the second.
+    assert!(rt; keyed_gives_up(rt.alloc(), &THREE_TENS)? == (true, 1100));
     Ok(())
 }
 

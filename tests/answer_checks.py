@@ -5,6 +5,7 @@ import contextlib
 import statistics
 import time
 
+from failing import under_failing
 from served import (
     Caller,
     Ended,
@@ -19,7 +20,8 @@ from served import (
     tenants,
     told,
 )
-from spoken import EMPTY, LIST, standing
+from spoken import EMPTY, LIST, SILENCE, standing
+from wanted import are_wanting
 
 LIMIT, MOST = 1, 3
 # So long an answer may take beside which others are looked at, in seconds, and how many such there are at once.
@@ -27,9 +29,18 @@ BESIDE, ROUNDS = 5, 6
 # Short answers beside long ones that are given up, how many callers wait for these for each worker, and the seconds
 # that a short one may mostly take.
 SHORT_ONES, WAITING, SOON = 20, 4, 0.1
+# So many seconds a long reply is sent, and so many microseconds it is looked who has sent. Of so few rows a long answer
+# takes some hundredths of a second.
+SENDING, LOOK, FEW = 3, 1_500, 40
+# How often a short answer is asked for beside a long one, behind some of few rows; for how many seconds one is waited
+# for; and the pause in which all is quiet.
+TIMES, FOR_GOOD, PAUSE = 40, 5, 0.008
 ROWS = 1_000
 TABLE = tenants("abc", hold=ROWS)
 NO_MEMORY = refused(70, "NoMemory")
+
+# For so long a tenant's answers are computed, in seconds, so that they have taken more than they may.
+SPENDING = 0.2
 
 # A join of three inputs without equal columns grows with the cube of its rows: of a thousand it takes 20 s
 # and more. Of the rows at instant 1 none meet.
@@ -170,4 +181,113 @@ def each_has_its_time(program):
         yield "a long answer by the bench of the short ones", gives_up(caller)
 
 
-CHECKS = given_up, others_go_on, to_its_end, lines_go_on, short_ones_go_on, each_has_its_time
+# The lines of MADE with few rows.
+MADE_SMALL = (*MADE[:4], *(put(1, number) for number in range(FEW)), *MADE[-3:])
+SMALL_TOLD = told(21)
+# A bench is lent for what is computed here, and the reply is long.
+TEXT = "x" * 2_000
+MADE_TEXT = (
+    line_of(columns=[["v", "int"], ["w", "text"]], do="stream", name="s"),
+    line_of(do="query", name="text", text="Select Istream(w) From s [Now] Where v > 0"),
+    put(3, 7, TEXT),
+    beat(20),
+)
+FETCH_TEXT, TEXT_TOLD = line_of(do="fetch", name="text"), told(21, block(3, 3, TEXT))
+
+
+def benches_are_lent_on(program):
+    """While a reply is sent, which takes longer than an answer may, the bench that has computed it computes another
+    caller's answers, and none of these is given up."""
+    name = "beside a reply that takes long to send"
+    if are_wanting(f"answers {name}", "gcc"):
+        return
+    with under_failing(LONG_SEND_LASTS=SENDING * 1_000_000) as under:
+        with Server(program, TABLE, under, workers=4, warm=1, answer=LIMIT) as server:
+            with Caller(server, "a") as slow, Caller(server, "b") as other:
+                slow.serve(MADE_TEXT)
+                other.serve(MADE_SMALL)
+                start, replies = time.monotonic(), set()
+                slow.send(FETCH_TEXT)
+                time.sleep(SILENCE)
+                while slow.is_silent(0) and time.monotonic() < start + 10 * SENDING:
+                    replies.add(other.ask(FETCH_LONG))
+                taken = time.monotonic() - start
+                yield f"answers {name}", difference(replies, {SMALL_TOLD})
+                yield "the time of such a reply", None if taken >= SENDING else f"{taken:.2f} s"
+                yield "such a reply", difference(slow.replies.readline(), TEXT_TOLD)
+
+
+def beside_a_long_one(server, small, short):
+    """What is wrong with a short answer that is asked for right behind a long one, where some of few rows were
+    computed before."""
+    long = Caller(server, "a")
+    time.sleep(PAUSE)
+    with standing(server):
+        for caller in small:
+            caller.send(FETCH_LONG, LIST)
+    for caller in small:
+        if fault := difference(caller.replies.readline(), SMALL_TOLD):
+            return fault
+        caller.replies.readline()
+    time.sleep(PAUSE)
+    long.send(FETCH_LONG)
+    short.send(FETCH_SHORT)
+    if short.is_silent(FOR_GOOD):
+        return f"it isn't told in {FOR_GOOD} s"
+    fault = difference(short.replies.readline(), SHORT_TOLD)
+    early = None if long.is_silent(0) else "the long one is told first"
+    long.reset()
+    return fault or early
+
+
+def whoever_is_free_computes(program):
+    """An answer that waits is computed as soon as somebody is free, whoever looks meanwhile who else has sent. Of many
+    tenants one asks behind another, so that the answers of none take much."""
+    name = "short answers right behind long ones"
+    if are_wanting(name, "gcc"):
+        return
+    names = "bcdefghijklm", "nopqrstuvwxyz"
+    with under_failing(LOOK_LASTS=LOOK) as under, contextlib.ExitStack() as open_ones:
+        table = tenants("a" + "".join(names), hold=ROWS)
+        server = open_ones.enter_context(Server(program, table, under, workers=1, answer=0))
+        with Caller(server, "a") as caller:
+            caller.serve(MADE)
+        small, short = ([open_ones.enter_context(Caller(server, tenant)) for tenant in it] for it in names)
+        for caller in (*small, *short):
+            caller.serve(MADE_SMALL)
+        for turn in range(TIMES):
+            three = [small[(3 * turn + at) % len(small)] for at in range(3)]
+            if fault := beside_a_long_one(server, three, short[turn % len(short)]):
+                break
+        yield name, fault
+
+
+def what_counts_no_longer(program):
+    """Once what a tenant's answers took no longer counts, its next one is begun beside a long one, though nobody
+    sends anything meanwhile."""
+    with Server(program, TABLE, workers=1, answer=0) as server:
+        with Caller(server, "a") as long, Caller(server, "b") as other:
+            long.serve(MADE)
+            other.serve(MADE_SMALL)
+            end = time.monotonic() + SPENDING
+            while time.monotonic() < end:
+                other.ask(FETCH_LONG)
+            long.send(FETCH_LONG)
+            time.sleep(SILENCE)
+            other.send(FETCH_SHORT)
+            name = "a short answer whose tenant's answers took some time"
+            yield name, None if not other.is_silent(FOR_GOOD) else f"it isn't told in {FOR_GOOD} s"
+            yield "the long one beside it", None if long.is_silent(0) else "it is told first"
+
+
+CHECKS = (
+    given_up,
+    others_go_on,
+    to_its_end,
+    lines_go_on,
+    short_ones_go_on,
+    each_has_its_time,
+    benches_are_lent_on,
+    whoever_is_free_computes,
+    what_counts_no_longer,
+)

@@ -185,7 +185,7 @@ pub struct ConnectionTable<T, D> {
     durable: u64,
     ends: Vec<D>,
     is_whole: bool,
-    // whether an answer waits that may be begun since less is held now
+    // whether an answer waits that may be begun now, since less is held or what others took no longer counts
     is_freed: bool,
     /// Whether a thread looks who has sent.
     pub(crate) is_looked: bool,
@@ -382,7 +382,8 @@ impl<T: Connected<End = D>, D: Drop> ConnectionTable<T, D> {
         }
     }
 
-    /// Whether an answer waits that may be begun since less is held now, where that wasn't asked before.
+    /// Whether an answer waits that may be begun now, since less is held or what others took no longer counts,
+    /// where that wasn't asked before.
     pub(crate) fn take_freed(&mut self) -> bool {
         std::mem::replace(&mut self.is_freed, false)
     }
@@ -652,9 +653,13 @@ impl<T: Connected<End = D>, D: Drop> ConnectionTable<T, D> {
 
     /// Connections whose time has passed by now, of some callers in a row. It goes on with those the
     /// next time. Where others wait for their places, those who haven't logged in have little time. Some of
-    /// what answers took no longer counts: it is called ten times a second.
+    /// what answers took no longer counts, whereupon one may be begun that waited for that: it is called ten
+    /// times a second.
     pub(crate) fn take_late(&mut self, now: Instant, is_crowded: bool, late: &mut Vec<Turn<T>>) {
         self.run_queue.forgive();
+        if self.run_queue.has_answer() {
+            self.is_freed = true;
+        }
         let first = self.looked;
         let end = self.slots.capacity();
         let last = end.min(first.saturating_add(AT_ONCE));

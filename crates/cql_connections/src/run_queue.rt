@@ -253,6 +253,13 @@ impl<T: Drop> RunQueue<T> {
         self.short.count.saturating_add(answers)
     }
 
+    /// Whether an answer waits that may be begun now.
+    pub(crate) fn has_answer(&self) -> bool
+        ensures { result ≡ is_some (position (λ owner. may_begin self.now owner) self.now.answers.order) }
+    {
+        self.next_answer().is_some()
+    }
+
     /// Whether an answer of the owner has to wait for others.
     pub(crate) fn has_to_wait(&self, owner: usize) -> bool
         ensures { result ≡ (nat_lt 0 (size_of self.now.answers.lines) || not (may_begin self.now owner)) }

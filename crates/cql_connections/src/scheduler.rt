@@ -429,7 +429,8 @@ impl<'a, T: Connected<End = D>, D: Drop> Scheduler<'a, T, D> {
         pushed
     }
 
-    // Where an answer may be begun now since less is held, whoever could compute it is woken.
+    // Where an answer may be begun now, since less is held or what others took no longer counts, whoever could
+    // compute it is woken.
     fn call_freed(&self, connections: &mut ConnectionTable<T, D>) {
         if connections.take_freed() {
             self.called.notify_all();
@@ -540,6 +541,7 @@ impl<'a, T: Connected<End = D>, D: Drop> Scheduler<'a, T, D> {
         let mut connections = self.connections.lock(rt);
         connections.take_late(now, is_crowded, &mut late);
         connections.take_hindering(now, &mut deaf);
+        self.call_freed(&mut connections);
         drop(connections);
         self.end_all(rt, gate, deaf);
         for turn in late {

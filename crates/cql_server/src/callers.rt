@@ -1,5 +1,5 @@
 // Sessions of a listener's callers.
-ghost use Rattle.std.specs.Prelude.{◌≡◌, All, IfErr, IfOk, true, false, Err};
+ghost use Rattle.std.specs.Prelude.{◌≡◌, All, IfErr, true, false, Err};
 ghost use Rattle.cql_ops.specs.Bench.{IsBench};
 ghost use Rattle.cql_server.specs.declared.failure.Failure.TheVariants as failure;
 
@@ -7,57 +7,20 @@ use crate::auditing::{Audited, audit_sessions};
 use crate::failure::Failure;
 use crate::journal_writer::{JournalWriter, start_journal_writer};
 use crate::listener::Listener;
+use crate::serving::Serving;
 use crate::sweeper::start_sweeper;
 use crate::workers::start_all;
-use cql_benches::{Answers, Rooms, SharedPool};
+use cql_benches::SharedPool;
 use cql_connections::{ConnectionTable, Limits, Scheduler};
 use cql_core::{BenchOf, Operator, TenantTable};
 use cql_hall::{Bare, Gate, Hall, Kept};
 use cql_sessions::{Callable, Connection, Ending, Service};
-use crossbeam_channel::Receiver;
-use std::alloc::{AllocError, Global};
+use std::alloc::Global;
 use std::io::Write;
 use std::sync::Wait;
 use std::thread;
 use std::thread::Threads;
 use std::time::{Clock, Duration};
-
-/// The benches of a server: one for each thread, and those that all threads borrow, of which each
-/// goes on with the query that it answered last; and how much they may keep, and an answer may weigh.
-pub struct Benches<O: Operator> {
-    pub own: Vec<BenchOf<O>>,
-    pub shared: Vec<BenchOf<O>>,
-    pub rooms: Rooms,
-}
-
-impl<O: Operator> Benches<O> {
-    /// The threads' own, and the pool of those that they borrow, whose answers may take so long.
-    pub(crate) fn pooled<R: Clock>(
-        self,
-        rt: &R,
-        alloc: Global,
-        within: Option<Duration>,
-    ) -> Result<(Vec<BenchOf<O>>, SharedPool<O>), AllocError>
-        requires own { All (IsBench O.model_of) self.own.items }
-        requires shared { All (IsBench O.model_of) self.shared.items }
-        ensures own { IfOk result (λ parts. All (IsBench O.model_of) parts.0.items) }
-    {
-        let Benches { own, shared, rooms } = self;
-        let answers = Answers::new(alloc, within, own.len())?;
-        let pool = SharedPool::new(rt, alloc, shared, answers, rooms)?;
-        Ok((own, pool))
-    }
-}
-
-impl<O: Operator> Drop for Benches<O> {
-    fn drop(self) {
-        let Benches {
-            own: _,
-            shared: _,
-            rooms: _,
-        } = self;
-    }
-}
 
 /// Serves the callers of a listener: so many sessions, or for ever where that is 0; a connection
 /// that can't be had counts as a session too. As many callers are connected at once as the limits
@@ -89,13 +52,9 @@ impl<O: Operator> Drop for Benches<O> {
 pub fn serve<R, W, G, O>(
     rt: &R,
     alloc: Global,
-    bound: Listener<'_>,
-    limits: Limits,
-    out: &mut W,
     table: &TenantTable,
-    benches: Benches<O>,
-    sessions: u16,
-    audit: bool,
+    serving: Serving<'_, O>,
+    out: &mut W,
     gate: &G,
 ) -> Result<(), Failure>
 where
@@ -103,40 +62,33 @@ where
     W: Write,
     G: Gate + Sync,
     O: Operator + Send,
-    requires own { All (IsBench O.model_of) benches.own.items }
-    requires shared { All (IsBench O.model_of) benches.shared.items }
-    ensures ends { audit ≡ true → sessions ≡ 0 → result ≡ Err failure.NoSessions }
-    ensures bare { audit ≡ false → IfErr result (λ f. f ≡ failure.NoMemory) }
+    ensures ends { serving.entry.audit ≡ true → serving.entry.sessions ≡ 0 → result ≡ Err failure.NoSessions }
+    ensures bare { serving.entry.audit ≡ false → IfErr result (λ f. f ≡ failure.NoMemory) }
 {
-    if audit && sessions == 0 {
+    let is_audited = serving.audit;
+    if is_audited && serving.sessions == 0 {
         return Err(Failure::NoSessions);
     }
-    let (own, pool) = benches.pooled(rt, alloc, limits.answer)?;
-    if audit {
-        serve_kept(
-            rt, alloc, bound, limits, out, table, own, &pool, sessions, gate,
-        )
+    let (setup, pool) = serving.worker_setup(rt, alloc)?;
+    if is_audited {
+        serve_kept(rt, alloc, table, setup, &pool, out, gate)
     } else {
-        serve_bare(rt, alloc, bound, limits, table, own, &pool, sessions, gate)
+        serve_bare(rt, alloc, table, setup, &pool, gate)
     }
 }
 
 fn serve_bare<R, G, O>(
     rt: &R,
     alloc: Global,
-    bound: Listener<'_>,
-    limits: Limits,
     table: &TenantTable,
-    own: Vec<BenchOf<O>>,
+    setup: WorkerSetup<'_, O>,
     pool: &SharedPool<O>,
-    sessions: u16,
     gate: &G,
 ) -> Result<(), Failure>
 where
     R: Threads + Wait + Clock + Sync,
     G: Gate + Sync,
     O: Operator + Send,
-    requires { All (IsBench O.model_of) own.items }
     ensures { IfErr result (λ f. f ≡ failure.NoMemory) }
 {
     let copy = table.try_clone(alloc)?;
@@ -148,20 +100,17 @@ where
         table,
         gate,
     };
-    serve_hall(&service, bound, limits, own, pool, sessions, false, None)?;
+    setup.serve(&service, pool, None)?;
     Ok(())
 }
 
 fn serve_kept<R, W, G, O>(
     rt: &R,
     alloc: Global,
-    bound: Listener<'_>,
-    limits: Limits,
-    out: &mut W,
     table: &TenantTable,
-    own: Vec<BenchOf<O>>,
+    setup: WorkerSetup<'_, O>,
     pool: &SharedPool<O>,
-    sessions: u16,
+    out: &mut W,
     gate: &G,
 ) -> Result<(), Failure>
 where
@@ -169,7 +118,6 @@ where
     W: Write,
     G: Gate + Sync,
     O: Operator + Send,
-    requires { All (IsBench O.model_of) own.items }
 {
     let copy = table.try_clone(alloc)?;
     let hall: Hall<Kept> = Hall::new(alloc, copy)?;
@@ -180,7 +128,7 @@ where
         table,
         gate,
     };
-    let ends = serve_hall(&service, bound, limits, own, pool, sessions, true, None)?;
+    let ends = setup.serve(&service, pool, None)?;
     audit_told(out, alloc, table, hall, ends)
 }
 
@@ -201,67 +149,97 @@ pub(crate) fn audit_told<W: Write>(
     }
 }
 
-// Serves the sessions by a thread for each bench while this one lets callers in. Gives their ends once
-// all have left, for which there is room where calls are kept. Where there is a writer, a thread writes what
-// changes.
-pub(crate) fn serve_hall<R, C, G, O>(
-    service: &Service<'_, R, C, G>,
-    bound: Listener<'_>,
-    limits: Limits,
-    own: Vec<BenchOf<O>>,
-    pool: &SharedPool<O>,
-    sessions: u16,
-    is_kept: bool,
-    writer: Option<JournalWriter<'_>>,
-) -> Result<Vec<Ending>, Failure>
-where
-    R: Threads + Wait + Clock + Sync,
-    C: Callable<R, G> + Sync,
-    G: Gate + Sync,
-    O: Operator + Send,
-    requires { All (IsBench O.model_of) own.items }
-    ensures { IfErr result (λ f. f ≡ failure.NoMemory) }
-{
-    let alloc = service.alloc;
-    let owners = service.table.tenants().len().saturating_add(1);
-    let room = if is_kept { usize::from(sessions) } else { 0 };
-    let connections: ConnectionTable<Connection, Ending> = ConnectionTable::new(
-        alloc,
-        limits,
-        owners,
-        own.len(),
-        room,
-    )?;
-    let (stop, stopped) = crossbeam_channel::bounded(alloc, 1)?;
-    let (acceptor, driver) = bound.into_parts();
-    let scheduler = Scheduler::new(alloc, pool.answers(), is_kept, connections, driver);
-    let shared = &scheduler;
-    let rt = service.rt;
-    thread::scope(
-        thread::scope_env(),
-        rt,
-        move |scope| -> Result<(), Failure>
-            requires { All (IsBench O.model_of) own.items }
-            ensures { IfErr result (λ f. f ≡ failure.NoMemory) }
-        {
-            start_sweeper(scope, service, pool, stopped)?;
-            if let Err(_error) = start_all(scope, service, shared, own, pool) {
-                shared.close(rt);
-                return Err(Failure::NoMemory);
-            }
-            if let Err(failure) = start_journal_writer(scope, service, shared, writer) {
-                shared.close(rt);
-                return Err(failure);
-            }
-            if service.gate.opens() {
-                acceptor.attend(rt, shared, service.gate, sessions);
-            } else {
-                shared.close(rt);
-            }
-            service.hall.durability().end_taking(rt);
-            drop(stop);
-            Ok(())
-        },
-    )?;
-    Ok(scheduler.into_ends()?)
+/// What threads serve callers by: each has a bench of its own.
+pub(crate) struct WorkerSetup<'a, O: Operator> {
+    pub bound: Listener<'a>,
+    pub own: Vec<BenchOf<O>>,
+    pub limits: Limits,
+    pub gather: Duration,
+    pub sessions: u16,
+    /// Whether each call is kept.
+    pub is_kept: bool,
+    ghost benches: { All (IsBench O.model_of) own.items },
+}
+
+impl<O: Operator> Drop for WorkerSetup<'_, O> {
+    fn drop(self) {
+        let WorkerSetup {
+            bound: _,
+            own: _,
+            limits: _,
+            gather: _,
+            sessions: _,
+            is_kept: _,
+        } = self;
+    }
+}
+
+impl<O: Operator> WorkerSetup<'_, O> {
+    // Serves the sessions by a thread for each bench while this one lets callers in. Gives their ends once
+    // all have left, for which there is room where calls are kept. Where there is a writer, a thread writes what
+    // changes.
+    pub(crate) fn serve<R, C, G>(
+        self,
+        service: &Service<'_, R, C, G>,
+        pool: &SharedPool<O>,
+        writer: Option<JournalWriter<'_>>,
+    ) -> Result<Vec<Ending>, Failure>
+    where
+        R: Threads + Wait + Clock + Sync,
+        C: Callable<R, G> + Sync,
+        G: Gate + Sync,
+        O: Send,
+        ensures { IfErr result (λ f. f ≡ failure.NoMemory) }
+    {
+        let WorkerSetup {
+            bound,
+            own,
+            limits,
+            gather: _,
+            sessions,
+            is_kept,
+        } = self;
+        let alloc = service.alloc;
+        let owners = service.table.tenants().len().saturating_add(1);
+        let room = if is_kept { usize::from(sessions) } else { 0 };
+        let connections: ConnectionTable<Connection, Ending> = ConnectionTable::new(
+            alloc,
+            limits,
+            owners,
+            own.len(),
+            room,
+        )?;
+        let (stop, stopped) = crossbeam_channel::bounded(alloc, 1)?;
+        let (acceptor, driver) = bound.into_parts();
+        let scheduler = Scheduler::new(alloc, pool.answers(), is_kept, connections, driver);
+        let shared = &scheduler;
+        let rt = service.rt;
+        thread::scope(
+            thread::scope_env(),
+            rt,
+            move |scope| -> Result<(), Failure>
+                requires { All (IsBench O.model_of) own.items }
+                ensures { IfErr result (λ f. f ≡ failure.NoMemory) }
+            {
+                start_sweeper(scope, service, pool, stopped)?;
+                if let Err(_error) = start_all(scope, service, shared, own, pool) {
+                    shared.close(rt);
+                    return Err(Failure::NoMemory);
+                }
+                if let Err(failure) = start_journal_writer(scope, service, shared, writer) {
+                    shared.close(rt);
+                    return Err(failure);
+                }
+                if service.gate.opens() {
+                    acceptor.attend(rt, shared, service.gate, sessions);
+                } else {
+                    shared.close(rt);
+                }
+                service.hall.durability().end_taking(rt);
+                drop(stop);
+                Ok(())
+            },
+        )?;
+        Ok(scheduler.into_ends()?)
+    }
 }

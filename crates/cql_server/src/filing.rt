@@ -1,17 +1,15 @@
 // Sessions over what a journal's file leads to.
-ghost use Rattle.std.specs.Prelude.{◌≡◌, ◌⊎◌, All, IfErr};
-ghost use Rattle.cql_ops.specs.Bench.{IsBench};
+ghost use Rattle.std.specs.Prelude.{◌≡◌, ◌⊎◌, IfErr};
 ghost use Rattle.cql_server.specs.declared.failure.Failure.TheVariants as failure;
 ghost use Rattle.cql_server.specs.declared.journal_file.JournalFault.TheVariants as fault;
 
-use crate::callers::{Benches, audit_told, serve_hall};
+use crate::callers::{WorkerSetup, audit_told};
 use crate::failure::Failure;
 use crate::journal_file::{JournalFault, JournalFile, Opened};
 use crate::journal_writer::JournalWriter;
-use crate::listener::Listener;
+use crate::serving::Serving;
 use cql_benches::SharedPool;
-use cql_connections::Limits;
-use cql_core::{BenchOf, Core, Operator, TenantTable};
+use cql_core::{Core, Operator, TenantTable};
 use cql_hall::{Bare, Book, Gate, Hall, Kept, Past, PastCaller};
 use cql_sessions::{Callable, Ending, Service};
 use std::alloc::Global;
@@ -19,7 +17,7 @@ use std::io::Write;
 use std::sync::Wait;
 use std::sync::atomic::{AtomicBool, Ordering};
 use std::thread::Threads;
-use std::time::{Clock, Duration};
+use std::time::Clock;
 
 /// Serves the callers of a listener over a core that a journal's file leads to: so many sessions, or without an
 /// end where that is 0. What changes it is written to that file, and no reply goes that rests on what isn't
@@ -29,24 +27,18 @@ use std::time::{Clock, Duration};
 pub(crate) fn serve_filing<R, G, O>(
     rt: &R,
     alloc: Global,
-    bound: Listener<'_>,
-    limits: Limits,
     table: &TenantTable,
-    benches: Benches<O>,
+    serving: Serving<'_, O>,
     opened: Opened<Core>,
-    gather: Duration,
-    sessions: u16,
     gate: &G,
 ) -> Result<(), Failure>
 where
     R: Threads + Wait + Clock + Sync,
     G: Gate + Sync,
     O: Operator + Send,
-    requires own { All (IsBench O.model_of) benches.own.items }
-    requires shared { All (IsBench O.model_of) benches.shared.items }
     ensures { IfErr result (λ f. (f ≡ failure.NoMemory) ⊎ (f ≡ failure.Journal fault.Writing)) }
 {
-    let (own, pool) = benches.pooled(rt, alloc, limits.answer)?;
+    let (setup, pool) = serving.worker_setup(rt, alloc)?;
     let copy = table.try_clone(alloc)?;
     let (core, file) = opened.into_parts();
     let hall: Hall<Bare> = Hall::filing(alloc, Book::of_core(alloc, copy, core));
@@ -57,9 +49,7 @@ where
         table,
         gate,
     };
-    serve_filed(
-        &service, bound, limits, own, &pool, sessions, false, file, gather,
-    )?;
+    serve_filed(&service, setup, &pool, file)?;
     Ok(())
 }
 
@@ -69,14 +59,10 @@ where
 pub(crate) fn serve_filing_kept<R, W, G, O>(
     rt: &R,
     alloc: Global,
-    bound: Listener<'_>,
-    limits: Limits,
-    out: &mut W,
     table: &TenantTable,
-    benches: Benches<O>,
+    serving: Serving<'_, O>,
     opened: Opened<Past>,
-    gather: Duration,
-    sessions: u16,
+    out: &mut W,
     gate: &G,
 ) -> Result<(), Failure>
 where
@@ -84,10 +70,8 @@ where
     W: Write,
     G: Gate + Sync,
     O: Operator + Send,
-    requires own { All (IsBench O.model_of) benches.own.items }
-    requires shared { All (IsBench O.model_of) benches.shared.items }
 {
-    let (own, pool) = benches.pooled(rt, alloc, limits.answer)?;
+    let (setup, pool) = serving.worker_setup(rt, alloc)?;
     let (past, file) = opened.into_parts();
     let (book, callers) = past.into_parts();
     let hall: Hall<Kept> = Hall::filing(alloc, book);
@@ -98,9 +82,7 @@ where
         table,
         gate,
     };
-    let ends = serve_filed(
-        &service, bound, limits, own, &pool, sessions, true, file, gather,
-    )?;
+    let ends = serve_filed(&service, setup, &pool, file)?;
     audit_with_past(out, alloc, table, hall, ends, callers)
 }
 
@@ -127,40 +109,25 @@ fn audit_with_past<W: Write>(
 // Serves sessions, of which a thread writes what changes to the file.
 fn serve_filed<R, C, G, O>(
     service: &Service<'_, R, C, G>,
-    bound: Listener<'_>,
-    limits: Limits,
-    own: Vec<BenchOf<O>>,
+    setup: WorkerSetup<'_, O>,
     pool: &SharedPool<O>,
-    sessions: u16,
-    is_kept: bool,
     file: JournalFile,
-    gather: Duration,
 ) -> Result<Vec<Ending>, Failure>
 where
     R: Threads + Wait + Clock + Sync,
     C: Callable<R, G> + Sync,
     G: Gate + Sync,
     O: Operator + Send,
-    requires { All (IsBench O.model_of) own.items }
     ensures { IfErr result (λ f. (f ≡ failure.NoMemory) ⊎ (f ≡ failure.Journal fault.Writing)) }
 {
     let has_failed = AtomicBool::new(false);
     let writer = JournalWriter {
         file,
         count: 0,
-        gather,
+        gather: setup.gather,
         has_failed: &has_failed,
     };
-    let ends = serve_hall(
-        service,
-        bound,
-        limits,
-        own,
-        pool,
-        sessions,
-        is_kept,
-        Some(writer),
-    )?;
+    let ends = setup.serve(service, pool, Some(writer))?;
     if has_failed.load(Ordering::SeqCst) {
         return Err(Failure::from(JournalFault::Writing));
     }

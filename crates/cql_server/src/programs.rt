@@ -2,13 +2,13 @@
 ghost use Rattle.std.specs.Prelude.{All, IfOk};
 ghost use Rattle.cql_ops.specs.Bench.{IsBench};
 
-use crate::callers::Benches;
 use crate::failure::Failure;
 use crate::files::callers_with_files;
 use crate::forms::{keyed_lists, plain_lists};
 use crate::listener::Listener;
 use crate::log::{LogLines, Stamp};
-use crate::serving::{Serving, Start};
+use crate::serving::{Benches, Serving};
+use crate::start::Start;
 use crate::watch::Watch;
 use cql_benches::{Rooms, benches_of};
 use cql_connections::Limits;
@@ -127,8 +127,16 @@ where
     }
 }
 
-// It can't be listened as the words say; the log is told so too.
-fn unbound<R: Clock + Eprint>(rt: &R, config: &Config, error: &io::Error) -> Failure {
+// What came of a step to listen as the words say; where it can't be done the log is told so too.
+fn listened<T, R: Clock + Eprint>(
+    rt: &R,
+    config: &Config,
+    done: io::Result<T>,
+) -> Result<T, Failure> {
+    let error = match done {
+        Ok(value) => return Ok(value),
+        Err(error) => error,
+    };
     let (ip, port, why) = (config.listen, config.port, error.kind());
     if config.log > 0 {
         let stamp = Stamp::now(rt);
@@ -136,7 +144,7 @@ fn unbound<R: Clock + Eprint>(rt: &R, config: &Config, error: &io::Error) -> Fai
             "{{{stamp},\"cannot_listen\":{port},\"address\":\"{ip}\",\"why\":\"{why}\"}}"
         );
     }
-    Failure::Listening { ip, port, why }
+    Err(Failure::Listening { ip, port, why })
 }
 
 // Warns where others than programs of this machine may come in: nothing is encrypted.
@@ -167,23 +175,8 @@ fn benches_by<O: Operator>(
     Ok(Benches { own, shared, rooms })
 }
 
-// What is listened at as the words say, and its port.
-fn bound_at<R>(rt: &R, config: &Config) -> Result<(TcpListener, u16), Failure>
-where
-    R: Net<Listener = TcpListener, Stream = TcpStream> + Clock + Eprint,
-{
-    let listener = match TcpListener::bind(rt, (config.listen, config.port)) {
-        Ok(listener) => listener,
-        Err(error) => return Err(unbound(rt, config, &error)),
-    };
-    match listener.local_addr() {
-        Ok(addr) => Ok((listener, addr.port())),
-        Err(error) => Err(unbound(rt, config, &error)),
-    }
-}
-
-// Makes a bench of each list of operators, and serves at the port. Tells where fewer callers than were
-// asked for have files.
+// Makes a bench of each list of operators, and serves at the port. Tells where fewer callers than were asked
+// for have files.
 fn listen<R, O>(
     rt: &R,
     alloc: Global,
@@ -203,18 +196,13 @@ where
         + Eprint
         + Sync,
 {
-    let start = Start::of(rt, alloc, &config, table)?;
     let benches = benches_by(alloc, &config, own, shared)?;
+    let start = Start::of(rt, alloc, &config, table)?;
     warn_of_keys(rt, config.listen);
-    let (listener, port) = bound_at(rt, &config)?;
-    let bound = match Listener::new(rt, alloc, &listener) {
-        Ok(bound) => bound,
-        Err(error) => return Err(unbound(rt, &config, &error)),
-    };
-    let log = LogLines::new(alloc);
-    let Some(watch) = Watch::new(rt, alloc, table, &log, config.log, config.listen, port) else {
-        return Err(Failure::NoMemory);
-    };
+    let address = (config.listen, config.port);
+    let listener = listened(rt, &config, TcpListener::bind(rt, address))?;
+    let port = listened(rt, &config, listener.local_addr())?.port();
+    let bound = listened(rt, &config, Listener::new(rt, alloc, &listener))?;
     let callers = callers_with_files(rt, config.callers.max(1));
     let limits = Limits::of_seconds(config.login, config.idle)
         .with_callers(callers)
@@ -227,16 +215,29 @@ where
         sessions: config.sessions,
         audit: config.audit,
     };
-    attend(
-        rt,
-        alloc,
-        table,
-        start,
-        serving,
-        config.log > 0,
-        &log,
-        &watch,
-    )?;
+    serve_logged(rt, alloc, &config, port, table, start, serving)
+}
+
+// Serves, and tells the log of it.
+fn serve_logged<R, O>(
+    rt: &R,
+    alloc: Global,
+    config: &Config,
+    port: u16,
+    table: &TenantTable,
+    start: Start,
+    serving: Serving<'_, O>,
+) -> Result<(), Failure>
+where
+    O: Operator + Send,
+    R: Threads + Wait + Clock + Print + Eprint + Sync,
+{
+    let log = LogLines::new(alloc);
+    let Some(watch) = Watch::new(rt, alloc, table, &log, config.log, config.listen, port) else {
+        return Err(Failure::NoMemory);
+    };
+    let is_told = config.log > 0;
+    attend(rt, alloc, table, start, serving, is_told, &log, &watch)?;
     if watch.has_opened() {
         Ok(())
     } else {

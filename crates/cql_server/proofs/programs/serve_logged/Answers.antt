@@ -3,7 +3,7 @@ use denote.Param.Send.{IsSync, sendable}
 use denote.Ref.{NamedLft}
 use Rattle.cql_server.specs.contracts.watch.Watch as watch_type
 use Rattle.cql_server.proofs.Crosses.{watch_row_sync}
-use Rattle.cql_server.proofs.programs.listen.Goals as goal
+use Rattle.cql_server.proofs.programs.serve_logged.Goals as goal
 
 -- the fact stands behind a function, since a search takes a record apart and then misses the whole
 pub attend-requires-sync-G : goal.attend-requires-sync-G

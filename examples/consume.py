@@ -35,7 +35,7 @@ import tempfile
 from typing import Optional, Sequence
 
 sys.path.append(str(pathlib.Path(__file__).resolve().parent.parent / "clients/python"))
-from romburik.calling import add_words, check_words
+from romburik.calling import add_words, check_words, key_of
 from romburik.taking import Offset, Place, add_taking_words, take
 
 
@@ -72,9 +72,8 @@ def main(given: Optional[Sequence[str]] = None) -> int:
     parser.add_argument("--offsets", required=True, help="the folder of the consumers' offsets")
     words = parser.parse_args(given)
     check_words(parser, words)
-    if "CQL_KEY" not in os.environ:
-        parser.error("CQL_KEY isn't set")
-    return take(words, os.environ["CQL_KEY"], File(words.offsets, words.query), say)
+    key = key_of(parser)
+    return take(words, key, File(words.offsets, words.query), say)
 
 
 if __name__ == "__main__":

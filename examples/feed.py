@@ -61,7 +61,7 @@ from typing import Dict, Optional, Sequence, Set
 sys.path.append(str(pathlib.Path(__file__).resolve().parent.parent / "clients/python"))
 import romburik
 from romburik import Session
-from romburik.calling import add_words, check_words, session_of
+from romburik.calling import check_words, key_of, parser_of, serve_for_ever
 from romburik.feeding import Ahead, Line, Log, acknowledge, make_all, settled
 from romburik.taking import CannotGoOn
 
@@ -89,17 +89,13 @@ class Feeder:
 
     def run(self, key: str) -> None:
         """Feeds one server after another, without an end."""
-        words = self._words
-        trouble = romburik.Trouble(None, say)
-        while True:
-            try:
-                with session_of(words, words.tenant, key, say) as it:
-                    trouble.is_over()
-                    self._begin(it)
-                    self._feed(it)
-            except romburik.ConnectionLost as lost:
-                trouble.is_too_long(lost, words.poll)
-            time.sleep(words.poll)
+        serve_for_ever(self._words, key, say, self._serve)
+
+    def _serve(self, session: Session, trouble: romburik.Trouble) -> None:
+        """Feeds a server, as long as it is there."""
+        trouble.is_over()
+        self._begin(session)
+        self._feed(session)
 
     def _begin(self, session: Session) -> None:
         """Makes what the setup has, and finds the line of the log that comes next."""
@@ -189,9 +185,7 @@ class Feeder:
 
 
 def main(given: Optional[Sequence[str]] = None) -> int:
-    parser = argparse.ArgumentParser(description="Puts the lines of a log, again where needed.")
-    add_words(parser)
-    parser.add_argument("--tenant", required=True)
+    parser = parser_of("Puts the lines of a log, again where needed.")
     parser.add_argument("--setup", required=True, help="streams, grants and queries")
     parser.add_argument("--log", required=True, help="puts and heartbeats")
     parser.add_argument("--offsets", required=True, help="the folder of the consumers' offsets")
@@ -203,12 +197,11 @@ def main(given: Optional[Sequence[str]] = None) -> int:
     parser.add_argument("--poll", type=float, default=0.2, help="seconds between looks (0.2)")
     words = parser.parse_args(given)
     check_words(parser, words)
-    if "CQL_KEY" not in os.environ:
-        parser.error("CQL_KEY isn't set")
+    key = key_of(parser)
     if words.ahead < 1 or words.scale < 1:
         parser.error("--ahead and --scale are at least 1")
     try:
-        Feeder(words).run(os.environ["CQL_KEY"])
+        Feeder(words).run(key)
     except KeyboardInterrupt:
         return 0
     except (CannotGoOn, romburik.Error, OSError, ValueError) as error:

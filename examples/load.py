@@ -15,7 +15,6 @@ writes lengths in them, [Range 20000] for twenty seconds.
 The key is taken from the environment variable CQL_KEY. The status is 1 where it can't go on, 2 for
 its words.
 """
-import argparse
 import contextlib
 import os
 import pathlib
@@ -25,7 +24,7 @@ from typing import Optional, Sequence
 
 sys.path.append(str(pathlib.Path(__file__).resolve().parent.parent / "clients/python"))
 import romburik
-from romburik.calling import add_words, check_words, session_of
+from romburik.calling import check_words, key_of, parser_of, session_of
 
 TEXT = (
     "Select Rstream(Max(short) As greatest, Min(short) As least, Max(long) As quarter) "
@@ -62,17 +61,14 @@ def put_load(session: romburik.Session, seconds: int, every: float) -> None:
 
 
 def main(given: Optional[Sequence[str]] = None) -> int:
-    parser = argparse.ArgumentParser(description="Puts this machine's load once a second.")
-    add_words(parser)
-    parser.add_argument("--tenant", required=True)
+    parser = parser_of("Puts this machine's load once a second.")
     parser.add_argument("--seconds", type=int, default=3600, help="how many rows (3600)")
     parser.add_argument("--every", type=float, default=1.0, help="seconds between them (1)")
     words = parser.parse_args(given)
     check_words(parser, words)
-    if "CQL_KEY" not in os.environ:
-        parser.error("CQL_KEY isn't set")
+    key = key_of(parser)
     try:
-        with session_of(words, words.tenant, os.environ["CQL_KEY"], say) as session:
+        with session_of(words, words.tenant, key, say) as session:
             put_load(session, words.seconds, words.every)
     except KeyboardInterrupt:
         return 0

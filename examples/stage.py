@@ -23,7 +23,6 @@ can't put. The key is taken from the environment variable CQL_KEY. The stage run
 interrupted. The status is 1 where it can't go on, 2 for its words.
 """
 import argparse
-import os
 import pathlib
 import sys
 import time
@@ -32,7 +31,7 @@ from typing import Dict, Iterator, Optional, Sequence, Tuple
 sys.path.append(str(pathlib.Path(__file__).resolve().parent.parent / "clients/python"))
 import romburik
 from romburik import Answer, Block, Row, Rows, Session
-from romburik.calling import add_words, check_words, session_of
+from romburik.calling import check_words, key_of, parser_of, serve_for_ever
 from romburik.columns import operator_of
 
 SETTLED = 0.3
@@ -56,15 +55,8 @@ class Stage:
 
     def run(self, key: str) -> None:
         """Serves one server after another, without an end."""
-        words = self._words
-        trouble = romburik.Trouble(None, say)
-        while True:
-            try:
-                with session_of(words, words.tenant, key, say) as it:
-                    self._serve(it, trouble)
-            except (romburik.ConnectionLost, romburik.UnknownQuery, romburik.UnknownStream) as lost:
-                trouble.is_too_long(lost, words.poll)
-            time.sleep(words.poll)
+        lost = romburik.ConnectionLost, romburik.UnknownQuery, romburik.UnknownStream
+        serve_for_ever(self._words, key, say, self._serve, lost)
 
     def _serve(self, session: Session, trouble: romburik.Trouble) -> None:
         """Puts what the query tells, from where the stream is."""
@@ -123,21 +115,18 @@ class Stage:
 
 
 def main(given: Optional[Sequence[str]] = None) -> int:
-    parser = argparse.ArgumentParser(description="Puts what a query tells into a stream.")
-    add_words(parser)
-    parser.add_argument("--tenant", required=True)
+    parser = parser_of("Puts what a query tells into a stream.")
     parser.add_argument("--query", required=True)
     parser.add_argument("--stream", required=True)
     parser.add_argument("--scale", type=int, default=100, help="the stream's instants an instant")
     parser.add_argument("--poll", type=float, default=0.2, help="seconds between fetches (0.2)")
     words = parser.parse_args(given)
     check_words(parser, words)
-    if "CQL_KEY" not in os.environ:
-        parser.error("CQL_KEY isn't set")
+    key = key_of(parser)
     if words.scale < 2:
         parser.error("--scale is at least 2")
     try:
-        Stage(words).run(os.environ["CQL_KEY"])
+        Stage(words).run(key)
     except KeyboardInterrupt:
         return 0
     except (CannotGoOn, romburik.Error, OSError) as error:

@@ -275,7 +275,7 @@ def lost_while_following(_):
         ("a query that begins later", refused(62, "Behind"), romburik.Behind),
     ):
         pairs = [LOG_IN, listing, (FETCH, None)], [LOG_IN, (ack(0), reply)]
-        with Peer(*pairs) as peer, session(peer, timeout=0.1) as it:
+        with Peer(*pairs) as peer, session(peer, timeout=1) as it:
             found = followed(it.follow("q", poll=0.01, patience=0.005))
             yield f"{name}, followed", difference(found, ([], wanted))
 

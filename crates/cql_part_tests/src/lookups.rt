@@ -365,6 +365,29 @@ fn rows_that_fail_alone_are_in_no_ports_way(rt: HostRuntime) -> Result<(), Fail>
 }
 
 #[test]
+fn links_go_before_sieves(rt: HostRuntime) -> Result<(), Fail> {
+    let case = Case {
+        ports: 3,
+        all: &[
+            Has::Equal(X_A, Y_A),
+            Has::Less(X_B, Y_B),
+            Has::Less(Y_B, X_B),
+            Has::Number(Z_B, 1),
+        ],
+        rows: &[
+            Rows::Ten(2, true, false),
+            Rows::OneKey(1, 11),
+            Rows::OneKey(0, 11),
+        ],
+        ..TENS
+    };
+    // Each of ten rows of the first port is put to ten of the second, of which none meets, and none of these
+    // pairs to the ten of the third.
+    assert!(rt; keyed(rt.alloc(), &case)? == (0, 100));
+    Ok(())
+}
+
+#[test]
 fn a_port_without_a_row_ends_a_walk(rt: HostRuntime) -> Result<(), Fail> {
     let case = Case {
         ports: 3,

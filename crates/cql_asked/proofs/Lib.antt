@@ -1,6 +1,6 @@
 mod Columns
 mod Comparing
-mod Puts
+mod PlainLines
 mod Readings
 pub mod Ruling
 pub mod WithTree

@@ -11,7 +11,7 @@ ghost use Rattle.cql_asked.specs.Fault.{Means};
 use crate::fault::LineFault;
 use crate::kind::Kind;
 use crate::named::Named;
-use crate::put::{NoPut, read_put};
+use crate::plain::{NoCommand, read_plain};
 use cql_core::{ColumnText, Command, Prepared, prepare};
 use cql_lines::reading::{line_text, read_tree};
 use cql_lines::tree::{
@@ -24,7 +24,7 @@ use std::sync::Arc;
 
 /// The word of a command: what stands at the key `do`.
 #[derive(Clone, Copy)]
-enum Verb {
+pub(crate) enum Verb {
     Stream,
     Grant,
     Revoke,
@@ -38,14 +38,15 @@ enum Verb {
 }
 
 impl Verb {
-    fn read(text: &str) -> Option<Verb>
+    // Puts are most of the lines.
+    pub(crate) fn read(text: &str) -> Option<Verb>
         ensures { result ≡ verb_of text.now }
     {
         match text {
+            "put" => Some(Verb::Put),
             "stream" => Some(Verb::Stream),
             "grant" => Some(Verb::Grant),
             "revoke" => Some(Verb::Revoke),
-            "put" => Some(Verb::Put),
             "beat" => Some(Verb::Beat),
             "query" => Some(Verb::Query),
             "fetch" => Some(Verb::Fetch),
@@ -346,10 +347,10 @@ pub fn read_addressed<'a>(
     let Some(text) = line_text(line) else {
         return Err(LineFault::BadLine);
     };
-    match read_put(alloc, text) {
+    match read_plain(alloc, text) {
         Ok(call) => Ok(call),
-        Err(NoPut::Other) => by_tree(alloc, text, scratch),
-        Err(NoPut::NoMemory) => Err(LineFault::NoMemory),
+        Err(NoCommand::Other) => by_tree(alloc, text, scratch),
+        Err(NoCommand::NoMemory) => Err(LineFault::NoMemory),
     }
 }
 

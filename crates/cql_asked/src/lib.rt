@@ -6,7 +6,7 @@ mod fault;
 mod kind;
 mod login;
 mod named;
-mod put;
+mod plain;
 mod rules;
 mod tenants;
 

@@ -4,6 +4,8 @@ use Rattle.std.specs.Prelude.{codes, decimal, option_map}
 use Rattle.json.specs.Print.{escape, quoted}
 use Rattle.cql_tenants.specs.Listed.{GrantedStream}
 use Rattle.cql_reply.specs.Pieces.{PieceText, plain, number, escaped, names, pieces_text}
+use Rattle.cql_reply.specs.declared.list_place.ListPlace.{ListPlace}
+use Rattle.cql_reply.specs.Place.{list_rest}
 use Rattle.cql_wire.specs.Line.{shown_text, readable_name, readable_text}
 use Rattle.cql_wire.specs.Listing.{named_pieces, shown_pieces}
 use Rattle.cql_reply.proofs.Pieces.{dotted}
@@ -36,8 +38,12 @@ pub heading_told : (before after heading list text behind : List ℕ) → after 
 heading_told before after heading list text behind is same =
     ap (λ l. l ++ (list ++ behind)) is ∙ append_assoc before heading (list ++ behind) ∙ ap (λ l. before ++ (heading ++ (l ++ behind))) same
 
--- a list was told to its end, and what stands before the next
-pub next_told : (before between after rest left heading list text behind : List ℕ) → between ++ left ≡ before ++ rest → left ≡ [] → after ≡ between ++ heading → list ≡ text → after ++ (list ++ behind) ≡ before ++ (rest ++ (heading ++ (text ++ behind)))
-next_told before between after rest left heading list text behind told none is same =
-    let all : between ≡ before ++ rest = sym (append-nil between) ∙ ap (λ l. between ++ l) (sym none) ∙ told in
-    heading_told between after heading list text behind is same ∙ ap (λ l. l ++ (heading ++ (text ++ behind))) all ∙ append_assoc before rest (heading ++ (text ++ behind))
+-- a list was told to its end, with what stands before the next, which begins
+pub next_told : {A P : Type 0} (text : A → List ℕ) (rest : A → P → List ℕ) (slice items : List A) (place : ListPlace P) (before after heading list begun behind all : List ℕ) → slice ≡ items
+    → after ≡ before ++ (list_rest text rest slice place ++ heading) → list ≡ begun → before ++ (list_rest text rest items place ++ (heading ++ (begun ++ behind))) ≡ all → after ++ (list ++ behind) ≡ all
+next_told text rest slice items place before after heading list begun behind all are told same whole =
+    let left = list_rest text rest slice place in
+    heading_told before after (left ++ heading) list begun behind told same
+    ∙ ap (λ l. before ++ l) (append_assoc left heading (begun ++ behind))
+    ∙ ap (λ xs. before ++ (list_rest text rest xs place ++ (heading ++ (begun ++ behind)))) are
+    ∙ whole

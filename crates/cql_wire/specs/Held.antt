@@ -24,7 +24,7 @@ reply_rest (reply.Listing listing) place = listing_rest listing place.listing
 reply_rest (reply.Refused refusal) place = []
 
 -- a reply of its own, or else the one that is lent
-abbrev pub reply_in_hand : Option Reply → Option Reply → Option Reply
+abbrev pub reply_in_hand : {R : Type 0} → Option R → Option R → Option R
 reply_in_hand None lent = lent
 reply_in_hand (Some own) lent = Some own
 

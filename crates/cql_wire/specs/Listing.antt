@@ -1,5 +1,5 @@
 -- What is to come of the line of a list, from a place on.
-use Rattle.std.specs.Prelude.{ℕ, ⊤, List, [], ◌∷◌, ◌++◌, Option, Some, None, codes}
+use Rattle.std.specs.Prelude.{ℕ, List, [], ◌∷◌, ◌++◌, Option, Some, None, codes}
 use Rattle.cql_tenants.specs.declared.readable.OwnStream.{OwnStream}
 use Rattle.cql_tenants.specs.Listed.{GrantedStream}
 use Rattle.cql_core.specs.declared.listing.OwnQuery.{OwnQuery}
@@ -58,26 +58,10 @@ listing_rest l (Readable place) = list_rest readable_text readable_rest l.readab
 listing_rest l (Streams place) = list_rest stream_text stream_rest l.streams place ++ codes "}\n"
 listing_rest l Ended = []
 
--- what stands before the queries is told
-abbrev pub IsBegun : ListingPlace → Type 0
-IsBegun Beginning = ⊥
-IsBegun (Queries place) = ⊤
-IsBegun (Readable place) = ⊤
-IsBegun (Streams place) = ⊤
-IsBegun Ended = ⊤
-
--- the queries are told
-abbrev pub AreQueriesTold : ListingPlace → Type 0
-AreQueriesTold Beginning = ⊥
-AreQueriesTold (Queries place) = ⊥
-AreQueriesTold (Readable place) = ⊤
-AreQueriesTold (Streams place) = ⊤
-AreQueriesTold Ended = ⊤
-
--- the streams that were granted are told
-abbrev pub IsReadableTold : ListingPlace → Type 0
-IsReadableTold Beginning = ⊥
-IsReadableTold (Queries place) = ⊥
-IsReadableTold (Readable place) = ⊥
-IsReadableTold (Streams place) = ⊤
-IsReadableTold Ended = ⊤
+-- how many parts are yet to come
+abbrev pub parts_left : ListingPlace → ℕ
+parts_left Beginning = 4
+parts_left (Queries place) = 3
+parts_left (Readable place) = 2
+parts_left (Streams place) = 1
+parts_left Ended = 0

@@ -61,12 +61,10 @@ impl HeldReply {
         ensures done { result ≡ true → rest_in_hand (reply_in_hand self.new.reply (option_copied lent.entry)) self.new.place ≡ [] }
         ensures full { result ≡ false → 65536 < length buffer.new + 64 }
     {
-        match &self.reply {
-            Some(own) => fill_reply(own, &mut self.place, buffer),
-            None => match lent {
-                Some(lent) => fill_reply(lent, &mut self.place, buffer),
-                None => true,
-            },
+        match in_hand(&self.reply, lent) {
+            Some(Reply::Blocks(answer)) => buffer.fill(answer, &mut self.place.blocks),
+            Some(Reply::Listing(listing)) => buffer.fill_listing(listing, &mut self.place.listing),
+            _ => true,
         }
     }
 
@@ -77,9 +75,10 @@ impl HeldReply {
         if self.weight > 0 {
             return;
         }
-        let weight = match &self.reply {
-            Some(own) => weight_of_reply(own),
-            None => lent.map_or(0, weight_of_reply),
+        let weight = match in_hand(&self.reply, lent) {
+            Some(Reply::Blocks(answer)) => weight_of(answer.blocks()),
+            Some(Reply::Listing(listing)) => weight_of_listing(listing),
+            _ => 0,
         };
         self.weight = weight;
     }
@@ -90,24 +89,13 @@ impl HeldReply {
     }
 }
 
-// Moves what is to come of a reply's line behind what is buffered.
-fn fill_reply(reply: &Reply, place: &mut ReplyPlace, buffer: &mut ReplyBuffer) -> bool
-    ensures told { buffer.new ++ reply_rest reply.now place.new ≡ buffer.old ++ reply_rest reply.now place.old }
-    ensures done { result ≡ true → reply_rest reply.now place.new ≡ [] }
-    ensures full { result ≡ false → 65536 < length buffer.new + 64 }
+// A reply of its own, or else the one that is lent.
+fn in_hand<'a, R>(own: &'a Option<R>, lent: Option<&'a R>) -> Option<&'a R>
+    ensures { option_copied result ≡ reply_in_hand own.now (option_copied lent.entry) }
 {
-    match reply {
-        Reply::Blocks(answer) => buffer.fill(answer, &mut place.blocks),
-        Reply::Listing(listing) => buffer.fill_listing(listing, &mut place.listing),
-        _ => true,
-    }
-}
-
-fn weight_of_reply(reply: &Reply) -> usize {
-    match reply {
-        Reply::Blocks(answer) => weight_of(answer.blocks()),
-        Reply::Listing(listing) => weight_of_listing(listing),
-        _ => 0,
+    match own {
+        Some(own) => Some(own),
+        None => lent,
     }
 }
 

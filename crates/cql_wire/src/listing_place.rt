@@ -4,7 +4,8 @@ ghost use Rattle.cql_core.specs.declared.listing.Listing.{Listing as listing};
 ghost use Rattle.cql_lines.specs.Watched.{inner_of, has_failed};
 ghost use Rattle.cql_wire.specs.Buffered.{Buffers};
 ghost use Rattle.cql_wire.specs.Line.{query_text, readable_text, stream_text, listing_line};
-ghost use Rattle.cql_wire.specs.Listing.{query_rest, readable_rest, stream_rest, listing_rest, IsBegun, AreQueriesTold, IsReadableTold};
+ghost use Rattle.cql_reply.specs.Place.{list_rest};
+ghost use Rattle.cql_wire.specs.Listing.{query_rest, readable_rest, stream_rest, listing_rest};
 
 use cql_core::{GrantedStream, Listing, OwnQuery, OwnStream};
 use cql_lines::{Watched, WriteFault};
@@ -170,86 +171,6 @@ impl ListingPlace {
         ListingPlace::Beginning
     }
 
-    fn fill_beginning(&mut self, listing: &Listing, room: &mut ByteRoom) -> bool
-        ensures told { room.new.bytes ++ listing_rest listing.now self.new ≡ room.old.bytes ++ listing_rest listing.now self.old }
-        ensures grows { length room.old.bytes ≤ length room.new.bytes }
-        ensures size { room.new.size ≡ room.old.size }
-        ensures done { result ≡ true → IsBegun self.new }
-        ensures full { result ≡ false → room.new.size < length room.new.bytes + 64 }
-    {
-        if let ListingPlace::Beginning = *self {
-            if !room.has_room() {
-                return false;
-            }
-            room.put(b"{\"queries\":");
-            *self = ListingPlace::Queries(ListPlace::start());
-        }
-        true
-    }
-
-    fn fill_queries(&mut self, listing: &Listing, room: &mut ByteRoom) -> bool
-        requires { IsBegun self.old }
-        ensures told { room.new.bytes ++ listing_rest listing.now self.new ≡ room.old.bytes ++ listing_rest listing.now self.old }
-        ensures grows { length room.old.bytes ≤ length room.new.bytes }
-        ensures size { room.new.size ≡ room.old.size }
-        ensures done { result ≡ true → AreQueriesTold self.new }
-        ensures full { result ≡ false → room.new.size < length room.new.bytes + 64 }
-    {
-        if let ListingPlace::Queries(place) = *self {
-            let mut place = place;
-            let is_told = place.fill(listing.queries.as_slice(), room);
-            *self = ListingPlace::Queries(place);
-            if !is_told || !room.has_room() {
-                return false;
-            }
-            room.put(b",\"readable\":");
-            *self = ListingPlace::Readable(ListPlace::start());
-        }
-        true
-    }
-
-    fn fill_readable(&mut self, listing: &Listing, room: &mut ByteRoom) -> bool
-        requires { AreQueriesTold self.old }
-        ensures told { room.new.bytes ++ listing_rest listing.now self.new ≡ room.old.bytes ++ listing_rest listing.now self.old }
-        ensures grows { length room.old.bytes ≤ length room.new.bytes }
-        ensures size { room.new.size ≡ room.old.size }
-        ensures done { result ≡ true → IsReadableTold self.new }
-        ensures full { result ≡ false → room.new.size < length room.new.bytes + 64 }
-    {
-        if let ListingPlace::Readable(place) = *self {
-            let mut place = place;
-            let is_told = place.fill(listing.readable.as_slice(), room);
-            *self = ListingPlace::Readable(place);
-            if !is_told || !room.has_room() {
-                return false;
-            }
-            room.put(b",\"streams\":");
-            *self = ListingPlace::Streams(ListPlace::start());
-        }
-        true
-    }
-
-    fn fill_streams(&mut self, listing: &Listing, room: &mut ByteRoom) -> bool
-        requires { IsReadableTold self.old }
-        ensures told { room.new.bytes ++ listing_rest listing.now self.new ≡ room.old.bytes ++ listing_rest listing.now self.old }
-        ensures grows { length room.old.bytes ≤ length room.new.bytes }
-        ensures size { room.new.size ≡ room.old.size }
-        ensures done { result ≡ true → listing_rest listing.now self.new ≡ [] }
-        ensures full { result ≡ false → room.new.size < length room.new.bytes + 64 }
-    {
-        if let ListingPlace::Streams(place) = *self {
-            let mut place = place;
-            let is_told = place.fill(listing.streams.as_slice(), room);
-            *self = ListingPlace::Streams(place);
-            if !is_told || !room.has_room() {
-                return false;
-            }
-            room.put(b"}\n");
-            *self = ListingPlace::Ended;
-        }
-        true
-    }
-
     /// Tells what is behind the place, as far as there is room for it; whether all is told. Takes no
     /// memory.
     pub fn fill(&mut self, listing: &Listing, room: &mut ByteRoom) -> bool
@@ -259,11 +180,57 @@ impl ListingPlace {
         ensures done { result ≡ true → listing_rest listing.now self.new ≡ [] }
         ensures full { result ≡ false → room.new.size < length room.new.bytes + 64 }
     {
-        self.fill_beginning(listing, room)
-            && self.fill_queries(listing, room)
-            && self.fill_readable(listing, room)
-            && self.fill_streams(listing, room)
+        'parts: loop {
+            match self {
+                ListingPlace::Beginning => {
+                    if !room.has_room() {
+                        return false;
+                    }
+                    room.put(b"{\"queries\":");
+                    *self = ListingPlace::Queries(ListPlace::start());
+                }
+                ListingPlace::Queries(place) => {
+                    if !fill_list(place, listing.queries.as_slice(), b",\"readable\":", room) {
+                        return false;
+                    }
+                    *self = ListingPlace::Readable(ListPlace::start());
+                }
+                ListingPlace::Readable(place) => {
+                    if !fill_list(place, listing.readable.as_slice(), b",\"streams\":", room) {
+                        return false;
+                    }
+                    *self = ListingPlace::Streams(ListPlace::start());
+                }
+                ListingPlace::Streams(place) => {
+                    if !fill_list(place, listing.streams.as_slice(), b"}\n", room) {
+                        return false;
+                    }
+                    *self = ListingPlace::Ended;
+                }
+                ListingPlace::Ended => return true,
+            }
+        }
     }
+}
+
+// Tells what is behind a place in a list, as far as there is room for it, and then what stands behind the
+// list; whether both are told.
+fn fill_list<P: TextPlace>(
+    place: &mut ListPlace<P>,
+    wholes: &[P::Whole],
+    behind: &[u8],
+    room: &mut ByteRoom,
+) -> bool
+    requires { length behind.now ≤ 64 }
+    ensures told { result ≡ true → room.new.bytes ≡ room.old.bytes ++ (list_rest P.text P.rest wholes.now place.old ++ behind.now) }
+    ensures left { result ≡ false → room.new.bytes ++ list_rest P.text P.rest wholes.now place.new ≡ room.old.bytes ++ list_rest P.text P.rest wholes.now place.old }
+    ensures within { (length room.old.bytes ≤ length room.new.bytes) × (room.new.size ≡ room.old.size) × (result ≡ false → room.new.size < length room.new.bytes + 64) }
+{
+    if !place.fill(wholes, room) || !room.has_room() {
+        return false;
+    }
+    room.put(behind);
+    true
 }
 
 /// Holds the line of a list behind what a room holds; where that is too much, what it holds is written,

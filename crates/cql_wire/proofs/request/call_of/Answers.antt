@@ -10,8 +10,8 @@ returns-in-Err c = search rules
 pub returns-in-None : goal.returns-in-None
 returns-in-None c = search rules
 
-pub returns-in-None-find : goal.returns-in-None-find
-returns-in-None-find c = search rules
+pub returns-in-None-tenant_of : goal.returns-in-None-tenant_of
+returns-in-None-tenant_of c = search rules
 
-pub returns-in-Some-find : goal.returns-in-Some-find
-returns-in-Some-find c = search rules
+pub returns-in-Some-tenant_of : goal.returns-in-Some-tenant_of
+returns-in-Some-tenant_of c = search rules

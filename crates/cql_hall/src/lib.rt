@@ -14,7 +14,6 @@ mod hall;
 mod journal;
 pub mod law;
 mod one_tenant;
-mod past;
 mod replaying;
 mod sent;
 
@@ -27,4 +26,3 @@ pub use gate::{EndReason, Gate, OpenGate, Point};
 pub use hall::{Demanded, Ended, Hall, Pending, Receipt, Seat, SeatsMissing};
 pub use journal::{Bare, Entry, Journal, Kept};
 pub use one_tenant::audit_alone;
-pub use past::{Past, PastCaller};

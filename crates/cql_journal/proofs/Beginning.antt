@@ -1,9 +1,12 @@
 -- How a file begins.
-use Rattle.std.proofs.Common.{◌≡◌, ◌≢◌, ℕ, ◌+◌, ◌<◌, ◌≤◌, Option, Some, None, List, [], ◌∷◌, ◌++◌, length, drop, Bor, refl, sym, ap, ◌∙◌, arith, append_assoc, append-nil, length-append}
+use Rattle.std.proofs.Common.{◌≡◌, ◌≢◌, ℕ, ◌+◌, ◌<◌, ◌≤◌, Bool, Option, Some, None, List, [], ◌∷◌, ◌++◌, length, drop, Bor, refl, sym, ap, ◌∙◌, arith, append_assoc, append-nil, length-append}
 use Rattle.std.specs.Prelude.{IfSome, IfNone, MatchOption}
 use Rattle.std.specs.Io.KnownBytes.{Consumes, Keeps, prepend_known}
 use Rattle.cql_journal.specs.Record.{heading}
-use Rattle.cql_journal.specs.Starting.{IsNew, IsOther}
+use Rattle.cql_journal.specs.Reading.{Stops}
+use Rattle.cql_journal.specs.Starting.{IsNew, IsOther, IsNoFile}
+use Rattle.cql_journal.specs.declared.recovery.RecoveryFault.{RecoveryFault}
+use Rattle.cql_journal.specs.declared.recovery.RecoveryFault.TheVariants.{OtherFormat, Record, Damaged, Failed, NoMemory, TooMany}
 use Rattle.cql_journal.proofs.Batches.{within}
 use Rattle.cql_journal.proofs.Finding.{drop_front}
 use Rattle.cql_journal.proofs.Hiding.{if_kept, kept_then, held_taken}
@@ -35,3 +38,17 @@ other_long come (Some ys) held k l free =
 pub new_file : (come known : Option (List ℕ)) (held lost : List ℕ) → Keeps come (prepend_known held known) → IfSome (prepend_known held known) (λ text. (text ≡ held) × (length text < 17)) → heading ≡ held ++ lost → IfSome come IsNew
 new_file come None held lost k h is = if_kept IsNew come None k tt
 new_file come (Some ys) held lost k h is = if_kept IsNew come (Some (held ++ ys)) k (lost, is ∙ ap (λ t. t ++ lost) (sym h.0), h.1)
+
+pub other_short : (come known : Option (List ℕ)) (held : List ℕ) → Keeps come (prepend_known held known) → IfSome (prepend_known held known) (λ text. (text ≡ held) × (length text < 17)) → ((lost : List ℕ) → heading ≢ held ++ lost) → IfSome come IsOther
+other_short come None held k h free = if_kept IsOther come None k tt
+other_short come (Some ys) held k h free =
+    if_kept IsOther come (Some (held ++ ys)) k
+    ((λ behind is. absurd (let l : length (held ++ ys) ≡ length (heading ++ behind) = ap length is in omega (arith, l, length-append heading behind, its_length, h.1))), (λ lost is. free lost (is ∙ ap (λ t. t ++ lost) h.0)))
+
+pub no_file : (come : Option (List ℕ)) (over : Bool) (fault : RecoveryFault) → Stops over fault → IsNoFile come over fault
+no_file come over OtherFormat s = absurd s
+no_file come over (Record stop) s = s
+no_file come over (Damaged bytes) s = s
+no_file come over Failed s = s
+no_file come over NoMemory s = s
+no_file come over TooMany s = s

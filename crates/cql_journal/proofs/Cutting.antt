@@ -1,9 +1,10 @@
 -- Where a byte is first, as a search tells it.
-use Rattle.std.proofs.Common.{◌≡◌, ◌≢◌, ℕ, zero, suc, ◌+◌, ◌<◌, List, [], ◌∷◌, ◌++◌, length, take, drop, Some, None, ap, arith, add-one}
-use Rattle.std.specs.Prelude.{slice_index}
+use Rattle.std.proofs.Common.{◌≡◌, ◌≢◌, ℕ, zero, suc, ◌+◌, ◌<◌, List, [], ◌∷◌, ◌++◌, length, take, drop, Some, None, Option, Bor, ap, sym, ◌∙◌, arith, add-one}
+use Rattle.std.specs.Prelude.{slice_index, IfSome, IfNone, MatchOption}
 use Rattle.std.proofs.lemmas.Bool.{eqb-true, eq-eqb}
 use Rattle.memchr.specs.Find.{IsFirstByte, is_byte}
 use Rattle.cql_journal.specs.Record.{Lacks}
+use Rattle.cql_journal.proofs.Parsing.{cancel}
 
 splits : (b : ℕ) (xs : List ℕ) (k : ℕ) → k < length xs → slice_index xs k ≡ b → xs ≡ take k xs ++ b ∷ drop (suc k) xs
 splits b [] k h e = absurd (omega arith)
@@ -27,3 +28,13 @@ lacks_front b xs k h = none_before b xs k h.0.high (λ j l e. h.0.before j (omeg
 
 pub lacks_all : (b : ℕ) (xs : List ℕ) → IsFirstByte (is_byte b) xs None → Lacks b xs
 lacks_all b xs h = none_in b xs (λ j l e. h j (omega arith) l (eq-eqb _ _ e))
+
+-- ---- what is behind a chain and a space
+
+pub behind_some : (line chain spaced one : List ℕ) (r : Option (Bor (List ℕ))) → line ≡ chain ++ spaced → one ≡ 32 ∷ [] → MatchOption r ((rest : List ℕ) → spaced ≢ one ++ rest) (λ x. spaced ≡ one ++ x.now) → IfSome r (λ rest. line ≡ chain ++ 32 ∷ rest.now)
+behind_some line chain spaced one None is o m = tt
+behind_some line chain spaced one (Some x) is o m = is ∙ ap (λ t. chain ++ t) (m ∙ ap (λ t. t ++ x.now) o)
+
+pub behind_none : (line chain spaced one : List ℕ) (r : Option (Bor (List ℕ))) → line ≡ chain ++ spaced → one ≡ 32 ∷ [] → MatchOption r ((rest : List ℕ) → spaced ≢ one ++ rest) (λ x. spaced ≡ one ++ x.now) → IfNone r ((rest : List ℕ) → line ≢ chain ++ 32 ∷ rest)
+behind_none line chain spaced one None is o m = λ rest that. m rest (cancel chain spaced (32 ∷ rest) (sym is ∙ that) ∙ ap (λ t. t ++ rest) (sym o))
+behind_none line chain spaced one (Some x) is o m = tt

@@ -1,10 +1,11 @@
 -- Records and batches at the front of what is read.
-use Rattle.std.proofs.Common.{◌≡◌, ℕ, ◌+◌, ◌<◌, ◌≤◌, Bool, false, Option, Some, None, List, [], ◌∷◌, ◌++◌, length, take, drop, refl, sym, ap, subst, ◌∙◌, arith, append_assoc, append-nil, length-append}
+use Rattle.std.proofs.Common.{◌≡◌, ℕ, ◌+◌, ◌<◌, ◌≤◌, Bool, true, false, Option, Some, None, List, [], ◌∷◌, ◌++◌, length, take, drop, refl, sym, ap, subst, ◌∙◌, arith, append_assoc, append-nil, length-append}
 use Rattle.std.specs.Prelude.{IfSome}
 use Rattle.std.specs.List.{AllByRecursion}
 use Rattle.std.specs.Io.KnownBytes.{Keeps, prepend_known}
 use Rattle.cql_journal.specs.Record.{IsChain, Entry, Lacks, Fits, chain_after, record_line, record_lines, batch, batch_chain, NoBatch}
-use Rattle.cql_journal.specs.Reading.{StartsRecords, StartsBatch, Follows, Fills}
+use Rattle.cql_journal.specs.Reading.{StartsRecords, StartsBatch, Follows, Fills, Fronts}
+use Rattle.cql_journal.specs.declared.reading.Front.{Front}
 use Rattle.cql_journal.specs.declared.reading.Next.{Next}
 use Rattle.cql_journal.specs.declared.reading.Next.TheVariants.{Record, Commit, Wrong, Part}
 use Rattle.cql_journal.proofs.Batches.{no_commit, no_room, no_end, batch_size, batch_rest}
@@ -114,3 +115,40 @@ come_stays held new (Some xs) (Some ys) more fill = ap (λ t. t ++ ys) fill.grow
 
 pub batch_within : (chain held : List ℕ) (size : ℕ) → StartsBatch chain size held → size + 17 ≤ length held
 batch_within chain held size b = omega (arith, b.size_is, batch_size chain b.entries, ap length b.held_is ∙ length-append (batch chain b.entries) b.behind)
+
+pub keeps_more : (come mid left : Option (List ℕ)) → Keeps come mid → Keeps mid left → Keeps come left
+keeps_more None mid left k l = tt
+keeps_more (Some xs) None left k l = absurd k
+keeps_more (Some xs) (Some ys) None k l = absurd l
+keeps_more (Some xs) (Some ys) (Some zs) k l = l ∙ k
+
+pub still_kept : (come : Option (List ℕ)) (held new : List ℕ) (before after : Option (List ℕ)) (more : Bool) → Keeps come (prepend_known held before) → Fills held new before after more → Keeps come (prepend_known new after)
+still_kept come held new before after more k f = keeps_more come (prepend_known held before) (prepend_known new after) k (come_stays held new before after more f)
+
+-- all that is to come is there, and that is less
+pub short_there : (old new : List ℕ) (before after : Option (List ℕ)) (count : ℕ) (more : Bool) → more ≡ false → Fills old new before after more → length old < count → IfSome (prepend_known new after) (λ text. (text ≡ new) × (length text < count))
+short_there old new before None count more e f l = tt
+short_there old new before (Some left) count more e f l =
+    let end = f.at_end e in
+    let same : new ++ left ≡ new = ap (λ t. new ++ t) end.1 ∙ append-nil new in
+    let grown : new ≡ old = f.grown ∙ ap (λ t. old ++ t) end.0 ∙ append-nil old in
+    (same, omega (arith, l, ap length (same ∙ grown)))
+
+-- ---- what stands at a front
+
+pub is_batch_there : (chain held : List ℕ) (size : ℕ) (come known : Option (List ℕ)) → StartsRecords chain size held → Keeps come (prepend_known held known) → Follows chain (take size held) (drop size held) Commit → Fronts chain come held known (record { size = size; is_batch = true })
+is_batch_there chain held size come known r k f = record {
+  kept = k;
+  records = r;
+  batch = λ b. batch_there chain held size r f;
+  none = λ b. let no : true ≡ false = b in absurd cc;
+}
+
+pub no_batch_there : (chain held : List ℕ) (size : ℕ) (come known : Option (List ℕ)) (front : Front) → front ≡ record { size = size; is_batch = false } → StartsRecords chain size held → Keeps come (prepend_known held known)
+    → IfSome (prepend_known held known) (λ text. NoBatch chain text) → Fronts chain come held known front
+no_batch_there chain held size come known front is r k free = subst (Fronts chain come held known) (sym is) (record {
+  kept = k;
+  records = r;
+  batch = λ b. let no : false ≡ true = b in absurd cc;
+  none = λ b. free;
+})

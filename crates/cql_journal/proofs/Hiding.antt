@@ -1,20 +1,21 @@
 -- Where a whole batch can begin.
-use Rattle.std.proofs.Common.{◌≡◌, ◌≢◌, ℕ, zero, suc, ◌+◌, ◌-◌, ◌<◌, ◌≤◌, ◌^◌, inl, inr, Bool, true, false, Option, Some, None, List, [], ◌∷◌, ◌++◌, length, take, drop, refl, sym, ap, subst, ◌∙◌, arith, append_assoc, append-nil, length-append, take-append-drop}
-use Rattle.std.specs.Prelude.{◌⊎◌, IfSome}
+use Rattle.std.proofs.Common.{◌≡◌, ◌≢◌, ℕ, zero, suc, ◌+◌, ◌-◌, ◌<◌, ◌≤◌, ◌^◌, inl, inr, Bool, true, false, Option, Some, None, Result, Ok, Err, List, [], ◌∷◌, ◌++◌, length, take, drop, refl, sym, ap, subst, ◌∙◌, arith, append_assoc, append-nil, length-append, take-append-drop}
+use Rattle.std.specs.Prelude.{◌⊎◌, IfSome, MatchResult}
 use Rattle.std.specs.List.{AllByRecursion}
 use Rattle.std.specs.Io.KnownBytes.{Consumes, Keeps, prepend_known}
 use Rattle.std.proofs.KnownBytes.{Consumes-trans, Consumes-nil, Consumes-kept}
 use Rattle.std.proofs.lemmas.List.{length-take, take-append-le}
 use Rattle.cql_journal.specs.Record.{Entry, Lacks, Fits, IsChain, body, record_line, record_lines, batch, batch_chain, IsBatch, NoBatch}
-use Rattle.cql_journal.specs.Reading.{StartsRecords, StartsBatch, Fills}
-use Rattle.cql_journal.specs.declared.searching.Seen.{Seen}
-use Rattle.cql_journal.specs.declared.searching.Seen.TheVariants.{Records, Other}
+use Rattle.cql_journal.specs.Reading.{StartsRecords, StartsBatch, Fills, Fronts, Reaches, Stops}
+use Rattle.cql_journal.specs.declared.reading.Front.{Front}
+use Rattle.cql_journal.specs.declared.recovery.RecoveryFault.{RecoveryFault}
+use Rattle.cql_journal.specs.declared.recovery.RecoveryFault.TheVariants.{OtherFormat, Record as unfit, Damaged, Failed, NoMemory, TooMany}
 use Rattle.cql_journal.specs.declared.searching.Searched.{Searched}
 use Rattle.cql_journal.specs.declared.searching.Searched.TheVariants.{Found, On, Over}
-use Rattle.cql_journal.specs.Hidden.{Sees, Tells, EndsLine, Hides, Parts, HidesNone, Clears, Searches, SkipsLine, SkipsPart, Searching, NoFirst, NoneStarts, ChainAt}
+use Rattle.cql_journal.specs.Hidden.{GivesUp, TooLong, Finds, Skips, Sees, Tells, EndsLine, Hides, Parts, HidesNone, Clears, Searches, SkipsLine, SkipsPart, Searching, NoFirst, NoneStarts, ChainAt}
 use Rattle.cql_journal.proofs.Parsing.{cancel, line_same, lacks_append, lacks_behind, record_feedless, after_is_chain, no_chain, size_more}
 use Rattle.cql_journal.proofs.Batches.{batch_rest, batch_size, within}
-use Rattle.cql_journal.proofs.Finding.{take_front, drop_front, come_stays, front_is, within as fits_in}
+use Rattle.cql_journal.proofs.Finding.{take_front, drop_front, keeps_more, come_stays, front_is, within as fits_in}
 
 -- ---- the first line of a batch
 
@@ -249,8 +250,6 @@ skip_many None known held n m is s = tt
 skip_many (Some x) None held n m is s = absurd s.consumed
 skip_many (Some x) (Some ys) held n m is s = omega (arith, is, s.many, ap length s.consumed ∙ length-append s.part (held ++ ys), length-append held ys)
 
--- ---- until a chain is there
-
 -- ---- what a front is
 
 no_entries : (chain : List ℕ) (es : List Entry) → length (record_lines chain es) ≡ 0 → es ≡ []
@@ -275,12 +274,7 @@ empty_starts_none (Some xs) (Some ys) ahead new chain size z k b =
     let none : b.entries ≡ [] = no_entries chain b.entries (sym b.size_is ∙ z) in
     none_behind_empty (ahead ++ xs) chain (b.behind ++ ys) (sym k ∙ ap (λ t. t ++ ys) b.held_is ∙ append_assoc (batch chain b.entries) b.behind ys ∙ ap (λ es. batch chain es ++ (b.behind ++ ys)) none)
 
-pub sees_other : (before after : Option (List ℕ)) (ahead shown chain new : List ℕ) (size : ℕ) (is_batch : Bool) → shown ≡ ahead → 16 ≤ length ahead → ChainAt shown chain → Keeps (prepend_known ahead before) (prepend_known new after)
-    → (is_batch ≡ true → StartsBatch chain size new) → (is_batch ≡ false → IfSome (prepend_known new after) (λ text. NoBatch chain text)) → size ≡ 0 → IfSome (prepend_known ahead before) NoneStarts
-sees_other before after ahead shown chain new size true is h at k b free z = empty_starts_none before after ahead new chain size z k (b refl)
-sees_other before after ahead shown chain new size false is h at k b free z = starts_none before after ahead shown chain new is h at k (free refl)
-
-pub sees_batch : (before after : Option (List ℕ)) (ahead chain new : List ℕ) (size : ℕ) → IsChain chain → 0 < size → Keeps (prepend_known ahead before) (prepend_known new after) → StartsBatch chain size new → IfSome (prepend_known ahead before) Hides
+sees_batch : (before after : Option (List ℕ)) (ahead chain new : List ℕ) (size : ℕ) → IsChain chain → 0 < size → Keeps (prepend_known ahead before) (prepend_known new after) → StartsBatch chain size new → IfSome (prepend_known ahead before) Hides
 sees_batch None after ahead chain new size c some k b = tt
 sees_batch (Some xs) None ahead chain new size c some k b = absurd k
 sees_batch (Some xs) (Some ys) ahead chain new size c some k b =
@@ -293,15 +287,37 @@ clear_run (Some xs) (Some ys) ahead chain new size c k r free =
     subst (λ f. Clears f (ahead ++ xs)) (sym (front_is chain new size r))
     (clears_records (ahead ++ xs) chain (r.rest ++ ys) r.entries c r.fit free (sym k ∙ ap (λ t. t ++ ys) r.held_is ∙ append_assoc (record_lines chain r.entries) r.rest ys))
 
-pub sees_records : (before after : Option (List ℕ)) (ahead shown chain new : List ℕ) (size : ℕ) → shown ≡ ahead → 16 ≤ length ahead → ChainAt shown chain → Keeps (prepend_known ahead before) (prepend_known new after)
-    → StartsRecords chain size new → IfSome (prepend_known new after) (λ text. NoBatch chain text) → 0 < size
-    → (0 < size) × (size ≤ length new) × EndsLine (take size new) × IfSome (prepend_known ahead before) (Clears (take size new))
-sees_records before after ahead shown chain new size is h at k r free some = (
-  some,
-  fits_in chain new size r,
-  subst EndsLine (sym (front_is chain new size r)) (lines_end chain r.entries),
-  clear_run before after ahead chain new size at.1 k r (starts_none before after ahead shown chain new is h at k free),
-)
+clear_nothing : (come : Option (List ℕ)) → IfSome come (Clears [])
+clear_nothing None = tt
+clear_nothing (Some x) = λ h parts. omega arith
+
+-- what is seen of records behind the chain there
+sees_of : (before after : Option (List ℕ)) (ahead shown chain new : List ℕ) (size : ℕ) (is_batch : Bool) → shown ≡ ahead → 16 ≤ length ahead → ChainAt shown chain → Fronts chain (prepend_known ahead before) new after (record { size = size; is_batch = is_batch })
+    → Sees (prepend_known ahead before) new after (record { size = size; is_batch = is_batch })
+sees_of before after ahead shown chain new size true is h at f = record {
+  kept = f.kept;
+  other = λ z. empty_starts_none before after ahead new chain size z f.kept (f.batch refl);
+  found = λ some b. sees_batch before after ahead chain new size at.1 some f.kept (f.batch refl);
+  within = fits_in chain new size f.records;
+  ends = subst EndsLine (sym (front_is chain new size f.records)) (lines_end chain f.records.entries);
+  clear = λ b. let no : true ≡ false = b in absurd cc;
+}
+sees_of before after ahead shown chain new size false is h at f = record {
+  kept = f.kept;
+  other = λ z. starts_none before after ahead shown chain new is h at f.kept (f.none refl);
+  found = λ some b. let no : false ≡ true = b in absurd cc;
+  within = fits_in chain new size f.records;
+  ends = subst EndsLine (sym (front_is chain new size f.records)) (lines_end chain f.records.entries);
+  clear = λ b. clear_run before after ahead chain new size at.1 f.kept f.records (starts_none before after ahead shown chain new is h at f.kept (f.none refl));
+}
+
+sees : (before after : Option (List ℕ)) (ahead shown chain new : List ℕ) (front : Front) → shown ≡ ahead → 16 ≤ length ahead → ChainAt shown chain → Fronts chain (prepend_known ahead before) new after front → Sees (prepend_known ahead before) new after front
+sees before after ahead shown chain new front is h at f = sees_of before after ahead shown chain new front.size front.is_batch is h at f
+
+pub seen : (before after : Option (List ℕ)) (ahead shown chain new : List ℕ) (over : Bool) (result : Result Front RecoveryFault) → shown ≡ ahead → 16 ≤ length ahead → ChainAt shown chain
+    → MatchResult result (Fronts chain (prepend_known ahead before) new after) (Stops over) → MatchResult result (Sees (prepend_known ahead before) new after) (Stops over)
+seen before after ahead shown chain new over (Ok front) is h at r = sees before after ahead shown chain new front is h at r
+seen before after ahead shown chain new over (Err fault) is h at r = r
 
 -- ---- one step more
 
@@ -310,20 +326,16 @@ line_clear None left line c free p = tt
 line_clear (Some x) None line c free p = absurd c
 line_clear (Some x) (Some y) line c free p = clears_line x line y free (c ∙ append_assoc line (10 ∷ []) y) p
 
-clear_nothing : (come : Option (List ℕ)) → IfSome come (Clears [])
-clear_nothing None = tt
-clear_nothing (Some x) = λ h parts. omega arith
-
 both_clear : (come mid : Option (List ℕ)) (a b : List ℕ) → Consumes come mid a → EndsLine a → IfSome come (Clears a) → IfSome mid (Clears b) → IfSome come (Clears (a ++ b))
 both_clear None mid a b c ends p q = tt
 both_clear (Some x) None a b c ends p q = absurd c
 both_clear (Some x) (Some y) a b c ends p q = clears_more x y a b c ends p q
 
 -- the bytes of a line are taken where no batch starts
-pub searches_line : (come mid now left : Option (List ℕ)) (held : List ℕ) (seen : Seen) → Keeps come mid → seen ≡ Other → Sees mid held seen → Keeps mid now → SkipsLine now left → Searches come left
-searches_line come mid now left held seen k e s l t =
+pub searches_line : (come mid now left : Option (List ℕ)) (found : Bool) → Keeps come mid → IfSome mid NoneStarts → Keeps mid now → found ≡ true → Skips now left found → Searches come left
+searches_line come mid now left found k free l e skips =
+    let t : SkipsLine now left = subst (Skips now left) e skips in
     let all = kept_then come mid left (t.line ++ 10 ∷ []) k (kept_then mid now left (t.line ++ 10 ∷ []) l t.consumed) in
-    let free : IfSome mid NoneStarts = subst (Sees mid held) e s in
     record {
       front = t.line ++ 10 ∷ [];
       consumed = all;
@@ -332,25 +344,33 @@ searches_line come mid now left held seen k e s l t =
       clear = line_clear come left t.line all (if_kept NoneStarts come mid k free) t.lacks;
     }
 
-pub searches_records : (come mid known : Option (List ℕ)) (held left : List ℕ) (size : ℕ) (seen : Seen) → Keeps come mid → Keeps mid (prepend_known held known) → seen ≡ Records size → Sees mid held seen → left ≡ drop size held → Searches come (prepend_known left known)
-searches_records come mid known held left size seen k l e f d =
-    let s : (0 < size) × (size ≤ length held) × EndsLine (take size held) × IfSome mid (Clears (take size held)) = subst (Sees mid held) e f in
+pub searches_records : (come mid known : Option (List ℕ)) (held left : List ℕ) (front : Front) → Keeps come mid → Sees mid held known front → 0 < front.size → front.is_batch ≡ false → left ≡ drop front.size held → Searches come (prepend_known left known)
+searches_records come mid known held left front k s some b d =
     record {
-      front = take size held;
-      consumed = kept_then come mid (prepend_known left known) (take size held) k
-          (kept_then mid (prepend_known held known) (prepend_known left known) (take size held) l (held_taken known held (take size held) left (sym (take-append-drop size held) ∙ ap (λ t. take size held ++ t) (sym d))));
-      ends = s.2;
-      some = omega (arith, s.0, s.1, length-take size held);
-      clear = if_kept (Clears (take size held)) come mid k s.3;
+      front = take front.size held;
+      consumed = kept_then come mid (prepend_known left known) (take front.size held) k
+          (kept_then mid (prepend_known held known) (prepend_known left known) (take front.size held) s.kept (held_taken known held (take front.size held) left (sym (take-append-drop front.size held) ∙ ap (λ t. take front.size held ++ t) (sym d))));
+      ends = s.ends;
+      some = omega (arith, some, s.within, length-take front.size held);
+      clear = if_kept (Clears (take front.size held)) come mid k (s.clear b);
     }
 
-pub over_short : (come mid : Option (List ℕ)) → Keeps come mid → IfSome mid (λ text. length text < 16) → IfSome come HidesNone
-over_short come None k s = if_kept HidesNone come None k tt
-over_short come (Some y) k s = if_kept HidesNone come (Some y) k (none_in_short y s)
+pub found_there : (come mid known : Option (List ℕ)) (held : List ℕ) (front : Front) → Keeps come mid → Sees mid held known front → 0 < front.size → front.is_batch ≡ true → IfSome come Hides
+found_there come mid known held front k s some b = if_kept Hides come mid k (s.found some b)
 
-pub over_feedless : (come mid now : Option (List ℕ)) → Keeps come mid → Keeps mid now → IfSome now (Lacks 10) → IfSome come HidesNone
-over_feedless come mid None k l s = if_kept HidesNone come mid k (if_kept HidesNone mid None l tt)
-over_feedless come mid (Some y) k l s = if_kept HidesNone come mid k (if_kept HidesNone mid (Some y) l (none_in_feedless y s))
+is_short : (come : Option (List ℕ)) (held : List ℕ) → IfSome come (λ text. (text ≡ held) × (length text < 16)) → IfSome come HidesNone
+is_short None held s = tt
+is_short (Some y) held s = none_in_short y s.1
+
+pub over_short : (old new : List ℕ) (before after : Option (List ℕ)) (reached : Bool) → reached ≡ false → Reaches old before new after 16 reached → IfSome (prepend_known old before) HidesNone
+over_short old new before after reached e r = if_kept HidesNone (prepend_known old before) (prepend_known new after) r.kept (is_short (prepend_known new after) new (r.none e))
+
+over_lacking : (come mid now : Option (List ℕ)) → Keeps come mid → Keeps mid now → IfSome now (Lacks 10) → IfSome come HidesNone
+over_lacking come mid None k l s = if_kept HidesNone come mid k (if_kept HidesNone mid None l tt)
+over_lacking come mid (Some y) k l s = if_kept HidesNone come mid k (if_kept HidesNone mid (Some y) l (none_in_feedless y s))
+
+pub over_feedless : (come mid now left : Option (List ℕ)) (found : Bool) → Keeps come mid → Keeps mid now → found ≡ false → Skips now left found → IfSome come HidesNone
+over_feedless come mid now left found k l e skips = over_lacking come mid now k l (subst (Skips now left) e skips)
 
 pub search_none : (come : Option (List ℕ)) → Searching come come 0
 search_none come = record { front = []; consumed = Consumes-nil come; ends = inl refl; clear = clear_nothing come; many = omega arith }
@@ -366,7 +386,7 @@ search_more come mid left n told s e f =
       many = omega (arith, s.many, t.some, length-append s.front t.front);
     }
 
-pub search_found : (come mid left : Option (List ℕ)) (n : ℕ) (told : Searched) → Searching come mid n → told ≡ Found → Tells mid left told → IfSome come Hides
+pub search_found : (come mid left : Option (List ℕ)) (n : ℕ) (told : Searched) → Searching come mid n → told ≡ Found → Tells mid left told → Finds come true
 search_found come mid left n told s e f =
     let h : IfSome mid Hides = subst (Tells mid left) e f in
     taken_then Hides Hides come mid s.front s.consumed h (λ x y split k. hides_behind x y s.front split s.ends k)
@@ -376,9 +396,33 @@ none_left None mid n s h = tt
 none_left (Some x) None n s h = absurd s.consumed
 none_left (Some x) (Some y) n s h = hides_none_behind x y s.front s.consumed s.ends s.clear h
 
-pub search_over : (come mid left : Option (List ℕ)) (n : ℕ) (told : Searched) → Searching come mid n → told ≡ Over → Tells mid left told → IfSome come HidesNone
+pub search_over : (come mid left : Option (List ℕ)) (n : ℕ) (told : Searched) → Searching come mid n → told ≡ Over → Tells mid left told → Finds come false
 search_over come mid left n told s e f = none_left come mid n s (subst (Tells mid left) e f)
 
--- so many steps, and a step that went on for so many bytes
-pub search_long : (come mid : Option (List ℕ)) (n m : ℕ) → Searching come mid n → IfSome mid (λ text. m ≤ length text) → IfSome come (λ text. m ≤ length text)
-search_long come mid n m s h = taken_then (λ text. m ≤ length text) (λ text. m ≤ length text) come mid s.front s.consumed h (λ x y split k. omega (arith, k, ap length split ∙ length-append s.front y))
+-- so many steps were made
+pub search_long : (come mid : Option (List ℕ)) (n m : ℕ) → m ≤ n → Searching come mid n → IfSome come (λ text. m ≤ length text)
+search_long None mid n m l s = tt
+search_long (Some x) None n m l s = absurd s.consumed
+search_long (Some x) (Some y) n m l s = omega (arith, l, s.many, ap length s.consumed ∙ length-append s.front y)
+
+-- ---- why no more is searched
+
+pub gives_up : (come : Option (List ℕ)) (over : Bool) (fault : RecoveryFault) → Stops over fault → GivesUp come over fault
+gives_up come over OtherFormat s = s
+gives_up come over (unfit stop) s = s
+gives_up come over (Damaged bytes) s = s
+gives_up come over Failed s = s
+gives_up come over NoMemory s = s
+gives_up come over TooMany s = absurd s
+
+-- the same where some was taken before, or nothing
+pub gives_up_behind : (come mid : Option (List ℕ)) (front : List ℕ) (over : Bool) (fault : RecoveryFault) → Consumes come mid front → GivesUp mid over fault → GivesUp come over fault
+gives_up_behind come mid front over OtherFormat c g = g
+gives_up_behind come mid front over (unfit stop) c g = g
+gives_up_behind come mid front over (Damaged bytes) c g = g
+gives_up_behind come mid front over Failed c g = g
+gives_up_behind come mid front over NoMemory c g = g
+gives_up_behind come mid front over TooMany c g = taken_then (λ text. 2 ^ 64 - 1 ≤ length text) (λ text. 2 ^ 64 - 1 ≤ length text) come mid front c g (λ x y split k. omega (arith, k, ap length split ∙ length-append front y))
+
+pub gives_up_kept : (come mid : Option (List ℕ)) (over : Bool) (fault : RecoveryFault) → Keeps come mid → GivesUp mid over fault → GivesUp come over fault
+gives_up_kept come mid over fault k g = gives_up_behind come mid [] over fault (kept_then come mid mid [] k (Consumes-nil mid)) g

@@ -3,11 +3,17 @@ use Rattle.std.proofs.Common.{◌≡◌, ℕ, zero, suc, ◌+◌, ◌<◌, ◌�
 use Rattle.std.proofs.lemmas.List.{take-append-le}
 use Rattle.md5.specs.Md5.{Holds}
 use Rattle.md5.specs.declared.Md5.{Md5}
-use Rattle.cql_journal.specs.Record.{Entry, Fits, chain_after, committed, record_lines, batch_chain}
+use Rattle.cql_journal.specs.Record.{Entry, Fits, body, record_line, chain_after, committed, record_lines, batch_chain}
 use Rattle.cql_journal.specs.Making.{Making, AreRecords, IsHashed, WritesBatch}
 use Rattle.cql_journal.proofs.Batches.{batch_size}
 use Rattle.cql_journal.proofs.Parsing.{after_is_chain}
 use Rattle.cql_journal.proofs.Finding.{lines_more, fit_more}
+
+-- the bytes of a record
+pub record_size : (chain tenant line : List ℕ) → length chain ≡ 16 → length (record_lines chain (record { tenant = tenant; line = line } ∷ [])) ≡ length tenant + length line + 19
+record_size chain tenant line c =
+    let e : Entry = record { tenant = tenant; line = line } in
+    omega (arith, c, length-append (record_line chain e) (10 ∷ []), length-append chain (32 ∷ body e), length-append tenant (32 ∷ line))
 
 pub no_records : (chain : List ℕ) → AreRecords chain []
 no_records chain = record { entries = []; fit = tt; text_is = refl; short = omega arith }

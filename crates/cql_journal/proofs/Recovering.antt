@@ -1,6 +1,6 @@
 -- One batch more, and all of them.
-use Rattle.std.proofs.Common.{◌≡◌, ℕ, ◌+◌, ◌-◌, ◌≤◌, Bool, List, [], ◌∷◌, ◌++◌, length, take, drop, Option, Some, None, refl, ap, subst, sym, ◌∙◌, arith, append_assoc, append-nil, length-append, true, inl, Result, Ok, Err}
-use Rattle.std.specs.Prelude.{map, ◌^◌, ◌⊎◌, IfSome, IfOk}
+use Rattle.std.proofs.Common.{◌≡◌, ℕ, ◌+◌, ◌-◌, ◌≤◌, Bool, List, [], ◌∷◌, ◌++◌, length, take, drop, Option, Some, None, refl, ap, subst, sym, ◌∙◌, arith, append_assoc, append-nil, length-append, true, false, inl, Result, Ok, Err}
+use Rattle.std.specs.Prelude.{map, ◌^◌, ◌⊎◌, IfSome, IfOk, IfErr, MatchResult}
 use Rattle.std.specs.Io.KnownBytes.{Consumes, Keeps, prepend_known}
 use Rattle.std.proofs.KnownBytes.{Consumes-trans, Consumes-nil}
 use Rattle.cql_tenants.specs.declared.tenants.Tenant.{Tenant}
@@ -10,15 +10,12 @@ use Rattle.cql_core.specs.Law.{state_from}
 use Rattle.cql_core.specs.Cql.{cql}
 use Rattle.cql_journal.specs.Record.{Entry, IsChain, first_chain, heading, chain_after, record_lines, batch, batch_chain, written, chain_behind, IsBatch, AreBatches, NoBatch}
 use Rattle.cql_journal.specs.Splits.{file_of}
-use Rattle.cql_journal.specs.Hidden.{Hides, HidesNone}
-use Rattle.cql_journal.specs.Reading.{StartsBatch}
+use Rattle.cql_journal.specs.Hidden.{TooLong, GivesUp, Finds, Hides, HidesNone}
+use Rattle.cql_journal.specs.Reading.{StartsBatch, Fronts, Stops}
+use Rattle.cql_journal.specs.declared.reading.Front.{Front}
 use Rattle.cql_journal.specs.Recovery.{call_of, AllChange, Replayed, counted, AreLines, ReplaysLines, StopsInLines}
-use Rattle.cql_journal.specs.Recovered.{all_entries, fault_of, Opens, IsFirst, TooLong, TakesBatch, StopsInBatch, StopsIn, EndsBadly, Recovering, IsWhole, Recovers, IsDamaged, Fails}
-use Rattle.cql_journal.specs.Starting.{IsNew, Begins}
-use Rattle.cql_journal.specs.declared.starting.Begin.{Begin}
-use Rattle.cql_journal.specs.declared.starting.Begin.TheVariants.{Whole, Part, Other}
-use Rattle.cql_journal.specs.declared.reading.ReadStop.{ReadStop}
-use Rattle.cql_journal.specs.declared.reading.ReadStop.TheVariants.{Failed as stopped_failed, NoMemory as stopped_memory, TooMany as stopped_many}
+use Rattle.cql_journal.specs.Recovered.{all_entries, Opens, IsFirst, TakesBatch, Takes, NothingLeft, StopsInBatch, StopsIn, Recovering, IsWhole, Recovers, IsDamaged, Fails}
+use Rattle.cql_journal.specs.Starting.{IsNew, Begins, IsNoFile}
 use Rattle.cql_journal.specs.declared.replaying.Unfit.{Unfit}
 use Rattle.cql_journal.specs.declared.recovery.RecoveryFault.{RecoveryFault}
 use Rattle.cql_journal.specs.declared.recovery.RecoveryFault.TheVariants.{OtherFormat, Record, Damaged, Failed, NoMemory, TooMany}
@@ -143,7 +140,7 @@ recovering_none table come state place f s = record {
 pub is_chain : (table : List Tenant) (before come : Option (List ℕ)) (number : ℕ) (state : State) (place : Place) → Recovering table before come number state place → IsChain place.chain
 is_chain table before come number state place r = subst IsChain (sym r.chain_is) (behind_is_chain first_chain r.batches first_is_chain)
 
-pub recovering_more : (table : List Tenant) (before come left : Option (List ℕ)) (number : ℕ) (old new : State) (from to : Place) → Recovering table before come number old from → TakesBatch table come left old new from to
+recovering_more : (table : List Tenant) (before come left : Option (List ℕ)) (number : ℕ) (old new : State) (from to : Place) → Recovering table before come number old from → TakesBatch table come left old new from to
     → Recovering table before left (number + 1) new to
 recovering_more table before come left number old new from to r t =
     let one : batch from.chain t.entries ≡ batch (chain_behind first_chain r.batches) t.entries = ap (λ c. batch c t.entries) r.chain_is in
@@ -166,6 +163,10 @@ recovering_more table before come left number old new from to r t =
       );
     }
 
+pub recovering_on : (table : List Tenant) (before come left : Option (List ℕ)) (number : ℕ) (old new : State) (from to : Place) (more : Bool) → Recovering table before come number old from → more ≡ true → Takes table come left old new from to more
+    → Recovering table before left (number + 1) new to
+recovering_on table before come left number old new from to more r e t = recovering_more table before come left number old new from to r (subst (Takes table come left old new from to) e t)
+
 -- ---- the whole file
 
 whole : (file before come left : Option (List ℕ)) (chain : List ℕ) (batches : List (List Entry)) → Consumes file before heading → AreBatches first_chain batches → chain ≡ chain_behind first_chain batches → Consumes before come (written first_chain batches) → Keeps come left
@@ -176,7 +177,7 @@ whole (Some t) (Some xs) None left chain batches h a c p k n m = absurd p
 whole (Some t) (Some xs) (Some ys) None chain batches h a c p k n m = absurd k
 whole (Some t) (Some xs) (Some ys) (Some zs) chain batches h a c p k n m = (ys, (xs, h, record { text_is = p; are = a; none = subst (λ x. NoBatch x ys) c (subst (NoBatch chain) k n) }), subst HidesNone k m)
 
-pub recovered : (table : List Tenant) (file before come left : Option (List ℕ)) (number : ℕ) (old : State) (from : Place) (state : State) (r : Recovered) → Consumes file before heading → Recovering table before come number old from → Keeps come left
+recovered : (table : List Tenant) (file before come left : Option (List ℕ)) (number : ℕ) (old : State) (from : Place) (state : State) (r : Recovered) → Consumes file before heading → Recovering table before come number old from → Keeps come left
     → IfSome left (λ text. NoBatch from.chain text) → IfSome left HidesNone → state ≡ old → r.chain ≡ from.chain → r.batches ≡ number → r.count ≡ from.count → r.bytes ≡ from.bytes → Recovers table file state r
 recovered table file before come left number old from state r h s k n m core chain batches count bytes = record {
   batches = s.batches;
@@ -242,14 +243,25 @@ kept_long None left limit bytes k h = tt
 kept_long (Some x) None limit bytes k h = absurd k
 kept_long (Some x) (Some y) limit bytes k h = omega (arith, h, ap length k)
 
-pub ends_badly : (table : List Tenant) (file before come left : Option (List ℕ)) (number : ℕ) (state : State) (place : Place) (over : Bool) (fault : RecoveryFault) → Consumes file before heading → Recovering table before come number state place → Keeps come left
-    → IfSome left (λ text. NoBatch place.chain text) → EndsBadly left place.bytes over fault → Fails table file over fault
-ends_badly table file before come left number state place over OtherFormat h r k n s = absurd s
-ends_badly table file before come left number state place over (Record stop) h r k n s = absurd s
-ends_badly table file before come left number state place over (Damaged bytes) h r k n s = damaged file before come left place.chain r.batches bytes h r.are r.chain_is r.consumed k n s.0 (s.1 ∙ r.bytes_are)
-ends_badly table file before come left number state place over Failed h r k n s = s
-ends_badly table file before come left number state place over NoMemory h r k n s = tt
-ends_badly table file before come left number state place over TooMany h r k n s = far file before come r.batches place.bytes (2 ^ 64 - 1) h r.consumed r.bytes_are (kept_long come left (2 ^ 64 - 1) place.bytes k s)
+-- no batch is left, and whether what is left hides one isn't found out, or it does, or not
+module _ (table : List Tenant) (file before come left : Option (List ℕ)) (number : ℕ) (old new : State) (from to : Place) (more : Bool) (h : Consumes file before heading) (r : Recovering table before come number old from) (e : more ≡ false) (t : Takes table come left old new from to more) where
+  n : NothingLeft come left old new from to
+  n = subst (Takes table come left old new from to) e t
+
+  pub ends_unknown : (over : Bool) (fault : RecoveryFault) → GivesUp left over fault → Fails table file over fault
+  ends_unknown over OtherFormat s = absurd s
+  ends_unknown over (Record stop) s = absurd s
+  ends_unknown over (Damaged bytes) s = absurd s
+  ends_unknown over Failed s = s
+  ends_unknown over NoMemory s = tt
+  ends_unknown over TooMany s = far file before come r.batches from.bytes (2 ^ 64 - 1) h r.consumed r.bytes_are (kept_long come left (2 ^ 64 - 1) from.bytes n.kept s)
+
+  pub ends_damaged : (found : Bool) → found ≡ true → Finds left found → IfSome file (IsDamaged to.bytes)
+  ends_damaged found f hides = damaged file before come left from.chain r.batches to.bytes h r.are r.chain_is r.consumed n.kept n.none (subst (Finds left) f hides) (ap (λ (p : Place). p.bytes) n.place_is ∙ r.bytes_are)
+
+  pub ends_whole : (found : Bool) → found ≡ false → Finds left found → Recovers table file new (record { chain = to.chain; batches = number; count = to.count; bytes = to.bytes })
+  ends_whole found f hides = recovered table file before come left number old from new (record { chain = to.chain; batches = number; count = to.count; bytes = to.bytes }) h r n.kept n.none (subst (Finds left) f hides) n.state_is (ap (λ (p : Place). p.chain) n.place_is) refl
+      (ap (λ (p : Place). p.count) n.place_is) (ap (λ (p : Place). p.bytes) n.place_is)
 
 -- there are as many bytes as batches
 batches_size : (chain : List ℕ) (batches : List (List Entry)) → length batches ≤ length (written chain batches)
@@ -268,9 +280,47 @@ too_many table file before come number state place h n r = long_file file before
 
 -- ---- where no more is read, and the beginning
 
-pub opens : (table : List Tenant) (file : Option (List ℕ)) (state : State) (r : Recovered) → IfSome file IsNew → state ≡ opening table → r.chain ≡ first_chain → r.batches ≡ 0 → r.count ≡ 0 → r.bytes ≡ 0 → Opens table file state r
-opens table file state r new core chain batches count bytes = record { new = new; chain_is = chain; state_is = core; none = (batches, count, bytes) }
+-- nothing is held yet
+nothing_held : (ahead : List ℕ) (known : Option (List ℕ)) → ahead ≡ [] → prepend_known ahead known ≡ known
+nothing_held ahead None e = refl
+nothing_held ahead (Some x) e = ap (λ t. Some (t ++ x)) e
 
-pub or_opens : (table : List Tenant) (file : Option (List ℕ)) (state : State) (r : Result Recovered RecoveryFault) → IfOk r (λ x. Recovers table file state x) → IfOk r (λ x. Recovers table file state x ⊎ Opens table file state x)
-or_opens table file state (Ok x) h = inl h
-or_opens table file state (Err e) h = tt
+pub opens_new : (table : List Tenant) (ahead : List ℕ) (file left : Option (List ℕ)) (state : State) (begun : Bool) → ahead ≡ [] → begun ≡ false → Begins (prepend_known ahead file) left begun → state ≡ opening table
+    → Opens table file state (record { chain = first_chain; batches = 0; count = 0; bytes = 0 })
+opens_new table ahead file left state begun e f b is =
+    record { new = subst (λ t. IfSome t IsNew) (nothing_held ahead file e) (subst (Begins (prepend_known ahead file) left) f b); chain_is = refl; state_is = is; none = (refl, refl, refl) }
+
+pub heading_first : (ahead : List ℕ) (file left : Option (List ℕ)) (begun : Bool) → ahead ≡ [] → begun ≡ true → Begins (prepend_known ahead file) left begun → Consumes file left heading
+heading_first ahead file left begun e f b = subst (λ t. Consumes t left heading) (nothing_held ahead file e) (subst (Begins (prepend_known ahead file) left) f b)
+
+pub or_opens : (table : List Tenant) (file : Option (List ℕ)) (state : State) (over : Bool) (r : Result Recovered RecoveryFault) → MatchResult r (Recovers table file state) (Fails table file over) → IfOk r (λ x. Recovers table file state x ⊎ Opens table file state x)
+or_opens table file state over (Ok x) h = inl h
+or_opens table file state over (Err e) h = tt
+
+pub or_fails : (table : List Tenant) (file : Option (List ℕ)) (state : State) (over : Bool) (r : Result Recovered RecoveryFault) → MatchResult r (Recovers table file state) (Fails table file over) → IfErr r (Fails table file over)
+or_fails table file state over (Ok x) h = tt
+or_fails table file state over (Err e) h = h
+
+fails_first : (table : List Tenant) (file : Option (List ℕ)) (over : Bool) (fault : RecoveryFault) → IsNoFile file over fault → Fails table file over fault
+fails_first table file over OtherFormat s = s
+fails_first table file over (Record stop) s = absurd s
+fails_first table file over (Damaged bytes) s = absurd s
+fails_first table file over Failed s = s
+fails_first table file over NoMemory s = s
+fails_first table file over TooMany s = absurd s
+
+pub fails_at_first : (table : List Tenant) (ahead : List ℕ) (file : Option (List ℕ)) (over : Bool) (fault : RecoveryFault) → ahead ≡ [] → IsNoFile (prepend_known ahead file) over fault → Fails table file over fault
+fails_at_first table ahead file over fault e s = fails_first table file over fault (subst (λ t. IsNoFile t over fault) (nothing_held ahead file e) s)
+
+-- ---- where no more is read behind some batches
+
+pub stops_in : (table : List Tenant) (come : Option (List ℕ)) (old : State) (place : Place) (over : Bool) (fault : RecoveryFault) → Stops over fault → StopsIn table come old place over fault
+stops_in table come old place over OtherFormat s = s
+stops_in table come old place over (Record stop) s = absurd s
+stops_in table come old place over (Damaged bytes) s = s
+stops_in table come old place over Failed s = s
+stops_in table come old place over NoMemory s = s
+stops_in table come old place over TooMany s = absurd s
+
+pub nothing_left : (table : List Tenant) (come after : Option (List ℕ)) (held : List ℕ) (old : State) (place : Place) (front : Front) → Fronts place.chain come held after front → front.is_batch ≡ false → NothingLeft come (prepend_known held after) old old place place
+nothing_left table come after held old place front f b = record { kept = f.kept; none = f.none b; place_is = refl; state_is = refl }

@@ -1,6 +1,6 @@
 -- One record more, and all of them.
-use Rattle.std.proofs.Common.{◌≡◌, ◌≢◌, ℕ, suc, ◌+◌, ◌<◌, true, false, inl, inr, List, [], ◌∷◌, ◌++◌, length, Some, Result, Ok, Err, refl, ap, subst, sym, ◌∙◌, arith, append_assoc, append-nil, length-append}
-use Rattle.std.specs.Prelude.{map, ◌⊎◌, ◌^◌, OnOk, IfErr}
+use Rattle.std.proofs.Common.{◌≡◌, ◌≢◌, ℕ, suc, ◌+◌, ◌<◌, true, false, inl, inr, List, [], ◌∷◌, ◌++◌, length, Some, None, Result, Ok, Err, refl, ap, subst, sym, ◌∙◌, arith, append_assoc, append-nil, length-append}
+use Rattle.std.specs.Prelude.{map, ◌⊎◌, ◌^◌, MatchResult}
 use Rattle.std.specs.List.{AllByRecursion}
 use Rattle.cql_tenants.specs.declared.tenants.Tenant.{Tenant}
 use Rattle.cql_tenants.specs.Tenants.{index_of}
@@ -25,18 +25,14 @@ means : (table : List Tenant) (e : Entry) (tenant : ℕ) (command : Command) →
 unfolding call_of
 means table e tenant command t u = rw (t, u) refl
 
-pub changed : (old new : State) (tenant : ℕ) (command : Command) (step : Step) → Steps old tenant command step new → is_change (stepped_of step) ≡ true → Changed old tenant command new
+changed : (old new : State) (tenant : ℕ) (command : Command) (step : Step) → Steps old tenant command step new → is_change (stepped_of step) ≡ true → Changed old tenant command new
 unfolding Changed
 changed old new tenant command step (inl well) h = (reads_change (step_of cql old tenant command) (subst (λ s. is_change s ≡ true) well.0 h), well.1)
 changed old new tenant command step (inr none) h = absurd (let k : true ≡ false = sym h ∙ ap is_change none.0 in cc)
 
-pub replays : (table : List Tenant) (old new : State) (e : Entry) (tenant : ℕ) (command : Command) → index_of table e.tenant ≡ Some tenant → said_by e.line ≡ Some command
+replays : (table : List Tenant) (old new : State) (e : Entry) (tenant : ℕ) (command : Command) → index_of table e.tenant ≡ Some tenant → said_by e.line ≡ Some command
     → Changed old tenant command new → Replays table old e new
 replays table old new e tenant command t u h = record { call = (tenant, command); means = means table e tenant command t u; changed = h }
-
-pub step_ok : (old new : State) (tenant : ℕ) (command : Command) (step : Step) (r : Result (Unit {0}) Unfit) → Steps old tenant command step new → OnOk r (is_change (stepped_of step) ≡ true) → OnOk r (Changed old tenant command new)
-step_ok old new tenant command step (Ok u) s h = changed old new tenant command step s h
-step_ok old new tenant command step (Err e) s h = tt
 
 -- what tells that there was no memory is no other refusal, and nothing that is read
 no_other : (told : Stepped) (e : Unfit) → told ≡ Says no_memory → Told told e → e ≡ NoMemory
@@ -51,20 +47,6 @@ unfolding Stands
 stands old new tenant command step e (inl well) h = subst (λ t. Told t e) well.0 h
 stands old new tenant command step e (inr none) h = subst (Told (step_of cql old tenant command)) (sym (no_other (stepped_of step) e none.0 h)) tt
 
--- of memory nothing is said
-pub no_room_stands : (old : State) (tenant : ℕ) (command : Command) → Stands old tenant command NoMemory
-unfolding Stands
-no_room_stands old tenant command = tt
-
-pub step_err : (old new : State) (tenant : ℕ) (command : Command) (step : Step) (r : Result (Unit {0}) Unfit) → Steps old tenant command step new → IfErr r (λ e. Told (stepped_of step) e) → IfErr r (λ e. Stands old tenant command e)
-step_err old new tenant command step (Ok u) s h = tt
-step_err old new tenant command step (Err e) s h = stands old new tenant command step e s h
-
-pub record_ok : (table : List Tenant) (old new : State) (e : Entry) (tenant : ℕ) (command : Command) (r : Result (Unit {0}) Unfit) → index_of table e.tenant ≡ Some tenant → said_by e.line ≡ Some command
-    → OnOk r (Changed old tenant command new) → OnOk r (Replays table old e new)
-record_ok table old new e tenant command (Ok u) t said h = replays table old new e tenant command t said h
-record_ok table old new e tenant command (Err x) t said h = tt
-
 its_misfit : (table : List Tenant) (old : State) (e : Entry) (tenant : ℕ) (command : Command) (x : Unfit) → call_of table e ≡ Some (tenant, command) → Stands old tenant command x → Misfits table old e x
 unfolding Stands
 its_misfit table old e tenant command (Refused refusal) m h = ((tenant, command), m, h)
@@ -73,10 +55,14 @@ its_misfit table old e tenant command NoMemory m h = tt
 its_misfit table old e tenant command UnknownTenant m h = absurd h
 its_misfit table old e tenant command NoCommand m h = absurd h
 
-pub record_err : (table : List Tenant) (old : State) (e : Entry) (tenant : ℕ) (command : Command) (r : Result (Unit {0}) Unfit) → index_of table e.tenant ≡ Some tenant → said_by e.line ≡ Some command
-    → IfErr r (λ x. Stands old tenant command x) → IfErr r (λ x. Misfits table old e x)
-record_err table old e tenant command (Ok u) t said h = tt
-record_err table old e tenant command (Err x) t said h = its_misfit table old e tenant command x (means table e tenant command t said) h
+pub record_told : (table : List Tenant) (old new : State) (e : Entry) (tenant : ℕ) (command : Command) (step : Step) (r : Result (Unit {0}) Unfit) → index_of table e.tenant ≡ Some tenant → said_by e.line ≡ Some command → Steps old tenant command step new
+    → MatchResult r (λ done. is_change (stepped_of step) ≡ true) (Told (stepped_of step)) → MatchResult r (λ done. Replays table old e new) (Misfits table old e)
+record_told table old new e tenant command step (Ok u) t said s h = replays table old new e tenant command t said (changed old new tenant command step s h)
+record_told table old new e tenant command step (Err x) t said s h = its_misfit table old e tenant command x (means table e tenant command t said) (stands old new tenant command step x s h)
+
+pub no_call : (table : List Tenant) (old : State) (e : Entry) (x : Unfit) → (x ≡ NoMemory) ⊎ ((x ≡ NoCommand) × (said_by e.line ≡ None)) → Misfits table old e x
+no_call table old e x (inl is) = subst (Misfits table old e) (sym is) tt
+no_call table old e x (inr h) = subst (Misfits table old e) (sym h.0) h.1
 
 -- ---- one more behind the others
 

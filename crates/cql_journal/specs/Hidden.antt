@@ -1,11 +1,25 @@
 -- Whole batches that stand behind a front that is none.
-use Rattle.std.specs.Prelude.{⊤, ◌≡◌, ◌≢◌, ◌≤◌, ◌<◌, ◌+◌, ◌⊎◌, ℕ, List, [], ◌∷◌, ◌++◌, length, take, Option, IfSome, Some}
-use Rattle.std.specs.Io.KnownBytes.{Consumes}
+use Rattle.std.specs.Prelude.{⊤, ◌≡◌, ◌≢◌, ◌≤◌, ◌<◌, ◌+◌, ◌-◌, ◌^◌, ◌⊎◌, ℕ, Bool, true, false, List, [], ◌∷◌, ◌++◌, length, take, Option, IfSome, Some}
+use Rattle.std.specs.Io.KnownBytes.{Consumes, Keeps, prepend_known}
 use Rattle.cql_journal.specs.Record.{Entry, Lacks, Fits, record_line, batch, IsBatch, IsChain}
-use Rattle.cql_journal.specs.declared.searching.Seen.{Seen}
-use Rattle.cql_journal.specs.declared.searching.Seen.TheVariants.{Batch, Records, Other}
+use Rattle.cql_journal.specs.declared.reading.Front.{Front}
 use Rattle.cql_journal.specs.declared.searching.Searched.{Searched}
 use Rattle.cql_journal.specs.declared.searching.Searched.TheVariants.{Found, On, Over}
+use Rattle.cql_journal.specs.declared.recovery.RecoveryFault.{RecoveryFault}
+use Rattle.cql_journal.specs.declared.recovery.RecoveryFault.TheVariants.{OtherFormat, Record as unfit, Damaged, Failed, NoMemory, TooMany}
+
+-- so many bytes have no number
+abbrev pub TooLong : Option (List ℕ) → Type 0
+TooLong come = IfSome come (λ text. 2 ^ 64 - 1 ≤ length text)
+
+-- Why no more is searched, where the reader has failed or not. Of memory nothing is said.
+abbrev pub GivesUp : Option (List ℕ) → Bool → RecoveryFault → Type 0
+GivesUp come over OtherFormat = ⊥
+GivesUp come over (unfit stop) = ⊥
+GivesUp come over (Damaged bytes) = ⊥
+GivesUp come over Failed = over ≡ true
+GivesUp come over NoMemory = ⊤
+GivesUp come over TooMany = TooLong come
 
 -- a line begins behind this
 abbrev pub EndsLine : List ℕ → Type 0
@@ -49,6 +63,11 @@ pub record SkipsLine (come left : Option (List ℕ)) : Type 0 where
   pub lacks : Lacks 10 line
   pub consumed : Consumes come left (line ++ 10 ∷ [])
 
+-- the same, or there is no line any more
+abbrev pub Skips : Option (List ℕ) → Option (List ℕ) → Bool → Type 0
+Skips come left true = SkipsLine come left
+Skips come left false = IfSome come (Lacks 10)
+
 -- a part of a line is taken, of so many bytes at least with those that are held
 pub record SkipsPart (come left : Option (List ℕ)) (held : List ℕ) (count : ℕ) : Type 0 where
   pub part : List ℕ
@@ -70,6 +89,11 @@ Tells come left Found = IfSome come Hides
 Tells come left On = Searches come left
 Tells come left Over = IfSome come HidesNone
 
+-- whether a text hides a batch
+abbrev pub Finds : Option (List ℕ) → Bool → Type 0
+Finds come true = IfSome come Hides
+Finds come false = IfSome come HidesNone
+
 -- no record of any chain stands at the front
 abbrev pub NoFirst : List ℕ → Type 0
 NoFirst text = (chain : List ℕ) (e : Entry) (behind : List ℕ) → IsChain chain → text ≢ record_line chain e ++ 10 ∷ behind
@@ -82,8 +106,11 @@ NoneStarts text = (chain : List ℕ) (first : Entry) (others : List Entry) (behi
 abbrev pub ChainAt : List ℕ → List ℕ → Type 0
 ChainAt held chain = (chain ≡ take 16 held) × IsChain chain
 
--- What the front of what is to come is; these bytes are held of it then.
-abbrev pub Sees : Option (List ℕ) → List ℕ → Seen → Type 0
-Sees come held Batch = IfSome come Hides
-Sees come held (Records size) = (0 < size) × (size ≤ length held) × EndsLine (take size held) × IfSome come (Clears (take size held))
-Sees come held Other = IfSome come NoneStarts
+-- What stands at the front of what is to come, behind whichever chain; these bytes are held of it then.
+pub record Sees (come : Option (List ℕ)) (held : List ℕ) (after : Option (List ℕ)) (front : Front) : Type 0 where
+  pub kept : Keeps come (prepend_known held after)
+  pub other : front.size ≡ 0 → IfSome come NoneStarts
+  pub found : 0 < front.size → front.is_batch ≡ true → IfSome come Hides
+  pub within : front.size ≤ length held
+  pub ends : EndsLine (take front.size held)
+  pub clear : front.is_batch ≡ false → IfSome come (Clears (take front.size held))

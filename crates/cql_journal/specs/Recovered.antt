@@ -1,15 +1,13 @@
 -- What is recovered of a journal.
-use Rattle.std.specs.Prelude.{⊤, ◌≡◌, ◌+◌, ◌-◌, ◌^◌, ◌≤◌, ℕ, Bool, true, List, [], ◌∷◌, ◌++◌, length, Option, IfSome}
+use Rattle.std.specs.Prelude.{⊤, ◌≡◌, ◌+◌, ◌-◌, ◌^◌, ◌≤◌, ℕ, Bool, true, false, List, [], ◌∷◌, ◌++◌, length, Option, IfSome}
 use Rattle.std.specs.Io.KnownBytes.{Consumes, Keeps}
 use Rattle.cql_tenants.specs.declared.tenants.Tenant.{Tenant}
 use Rattle.cql_core.specs.Machine.{State, opening}
 use Rattle.cql_journal.specs.Record.{Entry, first_chain, heading, batch, batch_chain, written, chain_behind, IsBatch, AreBatches, NoBatch}
 use Rattle.cql_journal.specs.Splits.{IsFile, file_of}
 use Rattle.cql_journal.specs.Starting.{IsNew, IsOther}
-use Rattle.cql_journal.specs.Hidden.{Hides, HidesNone}
+use Rattle.cql_journal.specs.Hidden.{TooLong, Hides, HidesNone}
 use Rattle.cql_journal.specs.Recovery.{Replayed, Misfits, counted}
-use Rattle.cql_journal.specs.declared.reading.ReadStop.{ReadStop}
-use Rattle.cql_journal.specs.declared.reading.ReadStop.TheVariants.{Failed as failed, NoMemory as no_memory, TooMany as too_many}
 use Rattle.cql_journal.specs.declared.replaying.Unfit.{Unfit}
 use Rattle.cql_journal.specs.declared.recovery.Place.{Place}
 use Rattle.cql_journal.specs.declared.recovery.Recovered.{Recovered}
@@ -21,19 +19,9 @@ abbrev pub all_entries : List (List Entry) → List Entry
 all_entries [] = []
 all_entries (es ∷ batches) = es ++ all_entries batches
 
--- why nothing is recovered where no more is read
-abbrev pub fault_of : ReadStop → RecoveryFault
-fault_of failed = Failed
-fault_of no_memory = NoMemory
-fault_of too_many = TooMany
-
 -- behind the first line
 abbrev pub IsFirst : Place → Type 0
 IsFirst place = (place.chain ≡ first_chain) × (place.count ≡ 0) × (place.bytes ≡ 17)
-
--- so many bytes have no number
-abbrev pub TooLong : Option (List ℕ) → Type 0
-TooLong come = IfSome come (λ text. 2 ^ 64 - 1 ≤ length text)
 
 -- One batch more is taken, and its records are replayed.
 pub record TakesBatch (table : List Tenant) (come left : Option (List ℕ)) (old new : State) (from to : Place) : Type 0 where
@@ -51,6 +39,11 @@ pub record NothingLeft (come left : Option (List ℕ)) (old new : State) (from t
   pub none : IfSome left (λ text. NoBatch from.chain text)
   pub place_is : to ≡ from
   pub state_is : new ≡ old
+
+-- a batch more is taken, or none stands there
+abbrev pub Takes : List Tenant → Option (List ℕ) → Option (List ℕ) → State → State → Place → Place → Bool → Type 0
+Takes table come left old new from to true = TakesBatch table come left old new from to
+Takes table come left old new from to false = NothingLeft come left old new from to
 
 -- Of a whole batch some records are replayed, and the next one leads nowhere.
 pub record StopsInBatch (table : List Tenant) (come : Option (List ℕ)) (chain : List ℕ) (old : State) (count at : ℕ) (unfit : Unfit) : Type 0 where
@@ -73,15 +66,6 @@ StopsIn table come old place over (Damaged bytes) = ⊥
 StopsIn table come old place over Failed = over ≡ true
 StopsIn table come old place over NoMemory = ⊤
 StopsIn table come old place over TooMany = IfSome come (λ text. 2 ^ 64 ≤ place.bytes + length text)
-
--- why what is left can't be cut off
-abbrev pub EndsBadly : Option (List ℕ) → ℕ → Bool → RecoveryFault → Type 0
-EndsBadly come bytes over OtherFormat = ⊥
-EndsBadly come bytes over (Record stop) = ⊥
-EndsBadly come bytes over (Damaged whole) = IfSome come Hides × (whole ≡ bytes)
-EndsBadly come bytes over Failed = over ≡ true
-EndsBadly come bytes over NoMemory = ⊤
-EndsBadly come bytes over TooMany = TooLong come
 
 -- The batches so far are taken, and their records are replayed.
 pub record Recovering (table : List Tenant) (before come : Option (List ℕ)) (number : ℕ) (state : State) (place : Place) : Type 0 where

@@ -1,18 +1,20 @@
 //! A batch that is made record by record.
-ghost use Rattle.std.specs.Prelude.{◌≡◌, ◌≤◌, ◌+◌, ℕ, List, ◌^◌, ◌↔◌, ◌++◌, ◌∷◌, [], length, take, IsTrue, IfSome, IfNone, IfOk, IfErr, OnOk, OnErr, vec_len, vec_capacity};
+ghost use Rattle.std.specs.Prelude.{◌≡◌, ◌≤◌, ◌+◌, ℕ, List, ◌↔◌, ◌++◌, ◌∷◌, [], length, take, IsTrue, IfErr, OnOk, OnErr, vec_len, vec_capacity};
 ghost use Rattle.md5.specs.Md5.{Holds};
 ghost use Rattle.cql_journal.specs.Record.{Fits, chain_after, record_lines};
 ghost use Rattle.cql_journal.specs.Taken.{entry_of};
 ghost use Rattle.cql_journal.specs.Making.{Making, AreRecords, IsHashed, LeavesOut, WritesBatch};
 
 use crate::reading::MAX_BATCH;
-use crate::record::{CHAIN, COMMIT, Chain, Record, append_record, digits_of, has_byte};
+use crate::record::{
+    CHAIN, COMMIT, Chain, Record, append_ended, append_record, digits_of, has_byte,
+};
 use md5::{Digest, Md5};
 use std::alloc::{AllocError, Global};
 use std::marker::Model;
 
 /// Why a record joins no batch.
-#[derive(Clone, Copy, Debug, PartialEq, Eq)]
+#[derive(Clone, Copy)]
 pub enum BatchFault {
     /// Its tenant's name has a space or a line feed, or its line has a line feed.
     Unfit,
@@ -60,18 +62,6 @@ impl Model for Batch {
     ghost invariant = { λ b. AreRecords b.chain b.text.items × IsHashed b.chain b.text.items b.hasher b.hashed };
 }
 
-// How many bytes a record of a batch takes, with its line feed; none from 2^64 on.
-fn size_of(given: Record<'_>) -> Option<usize>
-    ensures some { IfSome result (λ size. (chain : List ℕ) → length chain ≡ 16 → size ≡ length (record_lines chain (entry_of given.entry ∷ []))) }
-    ensures none { IfNone result ((chain : List ℕ) → length chain ≡ 16 → 2 ^ 64 ≤ length (record_lines chain (entry_of given.entry ∷ []))) }
-{
-    given
-        .tenant
-        .len()
-        .checked_add(given.line.len())?
-        .checked_add(CHAIN + 3)
-}
-
 // Whether a name has no space, and neither it nor the line has a line feed.
 fn fits(given: Record<'_>) -> bool
     ensures { IsTrue result ↔ Fits (entry_of given.entry) }
@@ -95,15 +85,6 @@ fn chain_behind(hasher: &mut Md5, hashed: usize, text: &[u8]) -> Chain
 {
     hash_rest(hasher, hashed, text);
     digits_of(&hasher.finalize_reset())
-}
-
-// Puts a commit line behind a text. There is room for it, so it takes no memory.
-fn append_commit(text: &mut Vec<u8>, chain: &Chain)
-    requires { vec_len text.old + 17 ≤ vec_capacity text.old }
-    ensures { text.new.items ≡ text.old.items ++ (chain.now ++ 10 ∷ []) }
-{
-    let _ = text.extend_from_slice(chain.as_slice());
-    let _ = text.push(b'\n');
 }
 
 impl Batch {
@@ -138,9 +119,7 @@ impl Batch {
             return Err(BatchFault::Unfit);
         }
         let room = MAX_BATCH - COMMIT - self.text.len();
-        let Some(size) = size_of(given) else {
-            return Err(BatchFault::TooLong);
-        };
+        let size = (given.tenant.len() + given.line.len()).saturating_add(CHAIN + 3);
         if size > room {
             return Err(BatchFault::TooLong);
         }
@@ -165,7 +144,7 @@ impl Batch {
     {
         self.text.reserve(COMMIT)?;
         self.chain = chain_behind(&mut self.hasher, self.hashed, &self.text);
-        append_commit(&mut self.text, &self.chain);
+        append_ended(&mut self.text, self.chain.as_slice(), b'\n');
         self.hasher.update(self.chain.as_slice());
         self.hashed = 0;
         bytes.clear();

@@ -1,12 +1,13 @@
 //! Bytes that are read in blocks, ahead of what is taken of them, and the batch that they begin with.
-ghost use Rattle.std.specs.Prelude.{◌≡◌, ◌≤◌, ◌<◌, ◌+◌, ◌++◌, [], drop, length, true, false, Ok, Err, IfOk, OnOk, OnErr, IfSome};
-ghost use Rattle.std.specs.Io.KnownBytes.{Keeps, prepend_known};
+ghost use Rattle.std.specs.Prelude.{◌≡◌, ◌≤◌, ◌++◌, [], drop, length, true, false, IfOk, MatchResult};
+ghost use Rattle.std.specs.Io.KnownBytes.{prepend_known};
 ghost use Rattle.cql_lines.specs.Watched.{inner_of, has_failed};
-ghost use Rattle.cql_journal.specs.Record.{IsChain, NoBatch};
-ghost use Rattle.cql_journal.specs.Reading.{Fills, Follows, StartsBatch, StartsRecords};
+ghost use Rattle.cql_journal.specs.Record.{IsChain};
+ghost use Rattle.cql_journal.specs.Reading.{Fills, Follows, Fronts, Reaches, Stops};
 
 use crate::record::{CHAIN, Chain, chain_after, record_in, split_line};
-use cql_lines::{ReadFault, Watched};
+use crate::recovery::RecoveryFault;
+use cql_lines::Watched;
 use std::alloc::{AllocError, Global};
 use std::io::Read;
 use std::marker::Model;
@@ -17,57 +18,24 @@ const BLOCK: usize = 65_536;
 /// The most bytes that a batch has.
 pub const MAX_BATCH: usize = 16_777_216;
 
-/// Why no more is read.
-#[derive(Clone, Copy, Debug, PartialEq, Eq)]
-pub enum ReadStop {
-    /// The reader has failed.
-    Failed,
-    /// There was no memory.
-    NoMemory,
-    /// So many bytes were read that their number isn't told any more.
-    TooMany,
-}
-
-impl From<ReadFault> for ReadStop {
-    ghost use Rattle.cql_journal.specs.declared.reading.ReadStop.TheVariants.{Failed};
-
-    ghost from_gives = { λ _ e. e ≡ Failed };
-
-    fn from(_fault: ReadFault) -> ReadStop {
-        ReadStop::Failed
-    }
-}
-
-impl From<AllocError> for ReadStop {
-    ghost use Rattle.cql_journal.specs.declared.reading.ReadStop.TheVariants.{NoMemory};
-
-    ghost from_gives = { λ _ e. e ≡ NoMemory };
-
-    fn from(_error: AllocError) -> ReadStop {
-        ReadStop::NoMemory
-    }
-}
-
-// Puts a piece behind the bytes from a place on, and lets go of those before it.
-fn grow(alloc: Global, held: &mut Vec<u8>, start: usize, piece: &[u8]) -> Result<(), AllocError>
+// Puts a piece behind the bytes from a place on, and lets go of those before it; tells whether there was memory.
+fn grow(held: &mut Vec<u8>, start: usize, piece: &[u8]) -> bool
     requires { start ≤ length held.old.items }
-    ensures ok { OnOk result (held.new.items ≡ drop start held.old.items ++ piece.now) }
-    ensures err { OnErr result (held.new.items ≡ held.old.items) }
+    ensures { result ≡ true → held.new.items ≡ drop start held.old.items ++ piece.now }
 {
     if start == 0 {
-        return held.extend_from_slice(piece);
+        return held.extend_from_slice(piece).is_ok();
     }
-    let mut rest = Vec::new(alloc);
-    rest.extend_from_slice(&held[start..])?;
-    rest.extend_from_slice(piece)?;
+    let Ok(rest) = held.split_off(start) else {
+        return false;
+    };
     *held = rest;
-    Ok(())
+    held.extend_from_slice(piece).is_ok()
 }
 
 /// The bytes that were read and not yet taken.
 #[derive(Drop)]
 pub(crate) struct ReadAhead {
-    alloc: Global,
     block: Vec<u8>,
     held: Vec<u8>,
     start: usize,
@@ -89,7 +57,6 @@ impl ReadAhead {
         ensures { IfOk result (λ ahead. ahead ≡ []) }
     {
         Ok(ReadAhead {
-            alloc,
             block: vec![in alloc; 0; BLOCK]?,
             held: Vec::new(alloc),
             start: 0,
@@ -112,15 +79,19 @@ impl ReadAhead {
     }
 
     /// Reads a block more, and tells whether anything came. After an `Err` nothing is to be taken.
-    pub fn fill<R: Read>(&mut self, reader: &mut Watched<R>) -> Result<bool, ReadStop>
-        ensures ok { IfOk result (λ more. Fills self.old self.new (R.remaining (inner_of reader.old)) (R.remaining (inner_of reader.new)) more) }
-        ensures fault { result ≡ Err ReadStop.Failed → has_failed reader.new ≡ true }
-        ensures many { result ≡ Err ReadStop.TooMany → ⊥ }
+    pub fn fill<R: Read>(&mut self, reader: &mut Watched<R>) -> Result<bool, RecoveryFault>
+        ensures { MatchResult result (λ more. Fills self.old self.new (R.remaining (inner_of reader.old)) (R.remaining (inner_of reader.new)) more) (Stops (has_failed reader.new)) }
     {
-        let count = reader.read(&mut self.block)?;
-        grow(self.alloc, &mut self.held, self.start, &self.block[..count])?;
+        let Ok(count) = reader.read(&mut self.block) else {
+            return Err(RecoveryFault::Failed);
+        };
+        let is_grown = grow(&mut self.held, self.start, &self.block[..count]);
         self.start = 0;
-        Ok(count > 0)
+        if is_grown {
+            Ok(count > 0)
+        } else {
+            Err(RecoveryFault::NoMemory)
+        }
     }
 
     /// Reads until so many bytes are there; tells whether they are.
@@ -128,16 +99,14 @@ impl ReadAhead {
         &mut self,
         reader: &mut Watched<R>,
         count: usize,
-    ) -> Result<bool, ReadStop>
-        ensures kept { OnOk result (Keeps (prepend_known self.old (R.remaining (inner_of reader.old))) (prepend_known self.new (R.remaining (inner_of reader.new)))) }
-        ensures some { IfOk result (λ reached. reached ≡ true → count ≤ length self.new) }
-        ensures none { IfOk result (λ reached. reached ≡ false → IfSome (prepend_known self.new (R.remaining (inner_of reader.new))) (λ text. (text ≡ self.new) × (length text < count))) }
-        ensures fault { result ≡ Err ReadStop.Failed → has_failed reader.new ≡ true }
-        ensures many { result ≡ Err ReadStop.TooMany → ⊥ }
+    ) -> Result<bool, RecoveryFault>
+        ensures { MatchResult result (Reaches self.old (R.remaining (inner_of reader.old)) self.new (R.remaining (inner_of reader.new)) count) (Stops (has_failed reader.new)) }
     {
         while self.as_slice().len() < count {
-            if !self.fill(reader)? {
-                return Ok(false);
+            match self.fill(reader) {
+                Ok(true) => {}
+                Ok(false) => return Ok(false),
+                Err(fault) => return Err(fault),
             }
         }
         Ok(true)
@@ -183,7 +152,7 @@ pub(crate) struct Front {
 }
 
 // So many bytes of records, and no commit line.
-fn no_batch(size: usize) -> Front
+pub(crate) fn no_batch(size: usize) -> Front
     ensures { result ≡ record { size = size; is_batch = false } }
 {
     Front {
@@ -198,16 +167,9 @@ pub(crate) fn front_at<R: Read>(
     ahead: &mut ReadAhead,
     reader: &mut Watched<R>,
     chain: &Chain,
-) -> Result<Front, ReadStop>
+) -> Result<Front, RecoveryFault>
     requires { IsChain chain.now }
-    ensures kept { OnOk result (Keeps (prepend_known ahead.old (R.remaining (inner_of reader.old))) (prepend_known ahead.new (R.remaining (inner_of reader.new)))) }
-    ensures records { IfOk result (λ f. StartsRecords chain.now f.size ahead.new) }
-    ensures batch { IfOk result (λ f. f.is_batch ≡ true → StartsBatch chain.now f.size ahead.new) }
-    ensures none { IfOk result (λ f. f.is_batch ≡ false → IfSome (prepend_known ahead.new (R.remaining (inner_of reader.new))) (λ text. NoBatch chain.now text)) }
-    ensures within { IfOk result (λ f. f.size ≤ length ahead.new) }
-    ensures room { IfOk result (λ f. f.is_batch ≡ true → f.size + 17 ≤ length ahead.new) }
-    ensures fault { result ≡ Err ReadStop.Failed → has_failed reader.new ≡ true }
-    ensures many { result ≡ Err ReadStop.TooMany → ⊥ }
+    ensures { MatchResult result (Fronts chain.now (prepend_known ahead.old (R.remaining (inner_of reader.old))) ahead.new (R.remaining (inner_of reader.new))) (Stops (has_failed reader.new)) }
 {
     let mut size = 0;
     loop {
@@ -226,8 +188,10 @@ pub(crate) fn front_at<R: Read>(
                 if held.len() >= MAX_BATCH {
                     return Ok(no_batch(size));
                 }
-                if !ahead.fill(reader)? {
-                    return Ok(no_batch(size));
+                match ahead.fill(reader) {
+                    Ok(true) => {}
+                    Ok(false) => return Ok(no_batch(size)),
+                    Err(fault) => return Err(fault),
                 }
             }
         }

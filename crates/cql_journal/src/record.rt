@@ -94,10 +94,7 @@ fn behind_chain<'a>(chain: &Chain, line: &'a [u8]) -> Option<&'a [u8]>
     let Some(spaced) = line.strip_prefix(chain.as_slice()) else {
         return None;
     };
-    match spaced.split_first() {
-        Some((first, rest)) if *first == b' ' => Some(rest),
-        _ => None,
-    }
+    spaced.strip_prefix(b" ".as_slice())
 }
 
 /// The record that a line of a batch behind a chain is; none where it is no such record.
@@ -116,16 +113,24 @@ pub fn record_in<'a>(chain: &Chain, line: &'a [u8]) -> Option<Record<'a>>
     Some(Record { tenant, line })
 }
 
+/// Appends some bytes and one that ends them. There is room for them, so it takes no memory.
+pub(crate) fn append_ended(text: &mut Vec<u8>, bytes: &[u8], end: u8)
+    requires { vec_len text.old + length bytes.now + 1 ≤ vec_capacity text.old }
+    ensures items { text.new.items ≡ text.old.items ++ (bytes.now ++ end ∷ []) }
+    ensures len { vec_len text.new ≡ vec_len text.old + length bytes.now + 1 }
+    ensures capacity { vec_capacity text.old ≤ vec_capacity text.new }
+{
+    let _ = text.extend_from_slice(bytes);
+    let _ = text.push(end);
+}
+
 /// Appends a record of a batch behind a chain, with its line feed. There is room for it, so it takes no
 /// memory.
 pub(crate) fn append_record(text: &mut Vec<u8>, chain: &Chain, given: Record<'_>)
     requires { vec_len text.old + length (record_lines chain.now (entry_of given ∷ [])) ≤ vec_capacity text.old }
     ensures { text.new.items ≡ text.old.items ++ record_lines chain.now (entry_of given.entry ∷ []) }
 {
-    let _ = text.extend_from_slice(chain.as_slice());
-    let _ = text.push(b' ');
-    let _ = text.extend_from_slice(given.tenant);
-    let _ = text.push(b' ');
-    let _ = text.extend_from_slice(given.line);
-    let _ = text.push(b'\n');
+    append_ended(text, chain.as_slice(), b' ');
+    append_ended(text, given.tenant, b' ');
+    append_ended(text, given.line, b'\n');
 }

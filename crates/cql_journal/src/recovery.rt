@@ -1,26 +1,25 @@
 //! The state that the records of a journal lead to.
-ghost use Rattle.std.specs.Prelude.{List, ℕ, Option, ◌≡◌, ◌⊎◌, ◌+◌, ◌^◌, ◌≤◌, length, take, true, false, IfErr, IfOk, OnOk, IfSome, IfNone};
+ghost use Rattle.std.specs.Prelude.{List, ℕ, Option, ◌≡◌, ◌⊎◌, ◌+◌, ◌^◌, ◌≤◌, length, take, IfErr, IfOk, IfSome, IfNone, MatchResult};
 ghost use Rattle.std.specs.Io.KnownBytes.{Consumes, prepend_known};
 ghost use Rattle.cql_lines.specs.Watched.{inner_of, has_failed};
 ghost use Rattle.cql_core.specs.Machine.{opening};
 ghost use Rattle.cql_journal.specs.Record.{IsChain, heading};
-ghost use Rattle.cql_journal.specs.Hidden.{HidesNone};
-ghost use Rattle.cql_journal.specs.Recovered.{EndsBadly, Fails, IsFirst, NothingLeft, Opens, Recovers, StopsIn, TakesBatch, fault_of};
+ghost use Rattle.cql_journal.specs.Recovered.{Fails, IsFirst, Opens, Recovers, StopsIn, Takes};
 
-use crate::reading::{ReadAhead, ReadStop, front_at};
+use crate::reading::{ReadAhead, front_at};
 use crate::record::{CHAIN, COMMIT, Chain, FIRST};
 use crate::replaying::{UnfitRecord, replay_lines};
 use crate::searching::hides_batch;
-use crate::starting::{Begin, HEADING, take_heading};
+use crate::starting::{HEADING, take_heading};
 use crate::state_machine::StateMachine;
 use cql_asked::Scratch;
 use cql_core::TenantTable;
 use cql_lines::Watched;
-use std::alloc::{AllocError, Global};
+use std::alloc::Global;
 use std::io::Read;
 
 /// Why a journal leads to no state.
-#[derive(Clone, Copy, PartialEq, Eq)]
+#[derive(Clone, Copy)]
 pub enum RecoveryFault {
     /// The first line is another one: this is no journal of this format.
     OtherFormat,
@@ -34,27 +33,6 @@ pub enum RecoveryFault {
     NoMemory,
     /// The file has 2^64 - 1 bytes or more.
     TooMany,
-}
-
-impl From<AllocError> for RecoveryFault {
-    ghost use Rattle.cql_journal.specs.declared.recovery.RecoveryFault.TheVariants.{NoMemory};
-
-    ghost from_gives = { λ _ e. e ≡ NoMemory };
-
-    fn from(_error: AllocError) -> RecoveryFault {
-        RecoveryFault::NoMemory
-    }
-}
-
-// Why nothing is recovered where no more is read.
-fn fault_of(stop: ReadStop) -> RecoveryFault
-    ensures { result ≡ fault_of stop }
-{
-    match stop {
-        ReadStop::Failed => RecoveryFault::Failed,
-        ReadStop::NoMemory => RecoveryFault::NoMemory,
-        ReadStop::TooMany => RecoveryFault::TooMany,
-    }
 }
 
 /// Is told how far a recovery is, behind each batch.
@@ -131,13 +109,11 @@ fn take_batch<R: Read, M: StateMachine>(
     reader: &mut Watched<R>,
 ) -> Result<bool, RecoveryFault>
     requires { IsChain place.old.chain }
-    ensures more { IfOk result (λ more. more ≡ true → TakesBatch table.now (prepend_known ahead.old (R.remaining (inner_of reader.old))) (prepend_known ahead.new (R.remaining (inner_of reader.new))) (M.state machine.old) (M.state machine.new) place.old place.new) }
-    ensures over { IfOk result (λ more. more ≡ false → NothingLeft (prepend_known ahead.old (R.remaining (inner_of reader.old))) (prepend_known ahead.new (R.remaining (inner_of reader.new))) (M.state machine.old) (M.state machine.new) place.old place.new) }
-    ensures err { IfErr result (λ fault. StopsIn table.now (prepend_known ahead.old (R.remaining (inner_of reader.old))) (M.state machine.old) place.old (has_failed reader.new) fault) }
+    ensures { MatchResult result (Takes table.now (prepend_known ahead.old (R.remaining (inner_of reader.old))) (prepend_known ahead.new (R.remaining (inner_of reader.new))) (M.state machine.old) (M.state machine.new) place.old place.new) (StopsIn table.now (prepend_known ahead.old (R.remaining (inner_of reader.old))) (M.state machine.old) place.old (has_failed reader.new)) }
 {
     let front = match front_at(ahead, reader, &place.chain) {
         Ok(front) => front,
-        Err(stop) => return Err(fault_of(stop)),
+        Err(fault) => return Err(fault),
     };
     if !front.is_batch {
         return Ok(false);
@@ -164,22 +140,6 @@ fn take_batch<R: Read, M: StateMachine>(
     }
 }
 
-// Whether what is left may be cut off: it hides no whole batch.
-fn end_of<R: Read>(
-    ahead: &mut ReadAhead,
-    reader: &mut Watched<R>,
-    bytes: u64,
-) -> Result<(), RecoveryFault>
-    ensures ok { OnOk result (IfSome (prepend_known ahead.old (R.remaining (inner_of reader.old))) HidesNone) }
-    ensures err { IfErr result (λ fault. EndsBadly (prepend_known ahead.old (R.remaining (inner_of reader.old))) bytes (has_failed reader.new) fault) }
-{
-    match hides_batch(ahead, reader) {
-        Ok(false) => Ok(()),
-        Ok(true) => Err(RecoveryFault::Damaged(bytes)),
-        Err(stop) => Err(fault_of(stop)),
-    }
-}
-
 // Steps the records of the whole batches behind the first line.
 fn recover_batches<R: Read, M: StateMachine, P: Onlooker>(
     alloc: Global,
@@ -190,8 +150,7 @@ fn recover_batches<R: Read, M: StateMachine, P: Onlooker>(
     onlooker: &mut P,
 ) -> Result<Recovered, RecoveryFault>
     requires { M.state machine.old ≡ opening table.now }
-    ensures ok { (file : Option (List ℕ)) → Consumes file (prepend_known ahead.old (R.remaining (inner_of reader.old))) heading → IfOk result (λ r. Recovers table.now file (M.state machine.new) r) }
-    ensures err { (file : Option (List ℕ)) → Consumes file (prepend_known ahead.old (R.remaining (inner_of reader.old))) heading → IfErr result (λ fault. Fails table.now file (has_failed reader.new) fault) }
+    ensures { (file : Option (List ℕ)) → Consumes file (prepend_known ahead.old (R.remaining (inner_of reader.old))) heading → MatchResult result (Recovers table.now file (M.state machine.new)) (Fails table.now file (has_failed reader.new)) }
 {
     let mut scratch = Scratch::new(alloc);
     let mut place = first_place();
@@ -207,9 +166,10 @@ fn recover_batches<R: Read, M: StateMachine, P: Onlooker>(
         ) {
             Err(fault) => return Err(fault),
             Ok(true) => onlooker.tell(place.count, place.bytes),
-            Ok(false) => match end_of(ahead, reader, place.bytes) {
+            Ok(false) => match hides_batch(ahead, reader) {
                 Err(fault) => return Err(fault),
-                Ok(()) => {
+                Ok(true) => return Err(RecoveryFault::Damaged(place.bytes)),
+                Ok(false) => {
                     return Ok(Recovered {
                         chain: place.chain,
                         batches,
@@ -237,16 +197,17 @@ pub fn recover<R: Read, M: StateMachine, P: Onlooker>(
     ensures ok { IfOk result (λ r. Recovers table.now (R.remaining (inner_of reader.old)) (M.state machine.new) r ⊎ Opens table.now (R.remaining (inner_of reader.old)) (M.state machine.new) r) }
     ensures err { IfErr result (λ fault. Fails table.now (R.remaining (inner_of reader.old)) (has_failed reader.new) fault) }
 {
-    let mut ahead = ReadAhead::new(alloc)?;
+    let Ok(mut ahead) = ReadAhead::new(alloc) else {
+        return Err(RecoveryFault::NoMemory);
+    };
     match take_heading(&mut ahead, reader) {
-        Err(stop) => Err(fault_of(stop)),
-        Ok(Begin::Other) => Err(RecoveryFault::OtherFormat),
-        Ok(Begin::Part) => Ok(Recovered {
+        Err(fault) => Err(fault),
+        Ok(false) => Ok(Recovered {
             chain: FIRST,
             batches: 0,
             count: 0,
             bytes: 0,
         }),
-        Ok(Begin::Whole) => recover_batches(alloc, table, machine, &mut ahead, reader, onlooker),
+        Ok(true) => recover_batches(alloc, table, machine, &mut ahead, reader, onlooker),
     }
 }

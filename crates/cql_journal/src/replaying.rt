@@ -1,10 +1,10 @@
 //! Records that are stepped on a machine.
-ghost use Rattle.std.specs.Prelude.{◌≡◌, ◌⊎◌, OnOk, IfOk, IfErr, IfSome, IfNone, Some, None, true};
+ghost use Rattle.std.specs.Prelude.{◌≡◌, ◌⊎◌, IfSome, IfNone, MatchResult, Some, None, true};
 ghost use Rattle.std.specs.Arc.{arc_value};
 ghost use Rattle.std.specs.Str.{IsUtf8};
 ghost use Rattle.cql_journal.specs.Record.{IsChain};
 ghost use Rattle.cql_journal.specs.Taken.{entry_of};
-ghost use Rattle.cql_journal.specs.Recovery.{AreLines, Changed, Misfits, ReplaysLines, Replays, Stands, StopsInLines, Told, is_change, said_by, unfit_name};
+ghost use Rattle.cql_journal.specs.Recovery.{AreLines, Misfits, ReplaysLines, Replays, StopsInLines, Told, is_change, said_by, unfit_name};
 ghost use Rattle.cql_tenants.specs.Tenants.{index_of};
 ghost use Rattle.cql_core.specs.Steps.{stepped_of};
 
@@ -16,7 +16,7 @@ use std::alloc::Global;
 use std::sync::Arc;
 
 /// Why a record leads nowhere.
-#[derive(Clone, Copy, PartialEq, Eq)]
+#[derive(Clone, Copy)]
 pub enum Unfit {
     /// No tenant of the table has its name.
     UnknownTenant,
@@ -46,7 +46,7 @@ impl Unfit {
 }
 
 /// A record that leads nowhere.
-#[derive(Clone, Copy, PartialEq, Eq)]
+#[derive(Clone, Copy)]
 pub struct UnfitRecord {
     /// How many records stand before it. The count stops at 2^64 - 1.
     pub at: u64,
@@ -57,8 +57,7 @@ pub struct UnfitRecord {
 // What a record's line asks, prepared.
 #[tactic(auto, unfolding(crate::specs::Recovery::said_by))]
 fn prepared_in(alloc: Global, line: &[u8], scratch: &mut Scratch) -> Result<Arc<Prepared>, Unfit>
-    ensures ok { IfOk result (λ prepared. said_by line.now ≡ Some (arc_value prepared)) }
-    ensures err { IfErr result (λ e. (e ≡ Unfit.NoMemory) ⊎ ((e ≡ Unfit.NoCommand) × (said_by line.now ≡ None))) }
+    ensures { MatchResult result (λ prepared. said_by line.now ≡ Some (arc_value prepared)) (λ e. (e ≡ Unfit.NoMemory) ⊎ ((e ≡ Unfit.NoCommand) × (said_by line.now ≡ None))) }
 {
     match read_call(alloc, line, scratch) {
         Ok((_kind, prepared)) => Ok(prepared),
@@ -80,8 +79,7 @@ fn tenant_in(table: &TenantTable, name: &[u8]) -> Option<TenantId>
 
 // Whether what was told tells that the core may have changed, and else why not.
 fn outcome_of(step: &Step) -> Result<(), Unfit>
-    ensures ok { OnOk result (is_change (stepped_of step.now) ≡ true) }
-    ensures err { IfErr result (λ e. Told (stepped_of step.now) e) }
+    ensures { MatchResult result (λ done. is_change (stepped_of step.now) ≡ true) (Told (stepped_of step.now)) }
 {
     match step {
         Step::Done(Reply::Ok) => Ok(()),
@@ -92,20 +90,6 @@ fn outcome_of(step: &Step) -> Result<(), Unfit>
     }
 }
 
-// Steps a command that has to change the core.
-fn step_record<M: StateMachine>(
-    alloc: Global,
-    machine: &mut M,
-    tenant: TenantId,
-    prepared: &Arc<Prepared>,
-) -> Result<(), Unfit>
-    ensures ok { OnOk result (Changed (M.state machine.old) tenant (arc_value prepared.now) (M.state machine.new)) }
-    ensures err { IfErr result (λ e. Stands (M.state machine.old) tenant (arc_value prepared.now) e) }
-{
-    let step = machine.step(alloc, tenant, prepared);
-    outcome_of(&step)
-}
-
 // One record more.
 fn replay_record<M: StateMachine>(
     alloc: Global,
@@ -114,14 +98,16 @@ fn replay_record<M: StateMachine>(
     given: Record<'_>,
     scratch: &mut Scratch,
 ) -> Result<(), Unfit>
-    ensures ok { OnOk result (Replays table.now (M.state machine.old) (entry_of given.entry) (M.state machine.new)) }
-    ensures err { IfErr result (λ e. Misfits table.now (M.state machine.old) (entry_of given.entry) e) }
+    ensures { MatchResult result (λ done. Replays table.now (M.state machine.old) (entry_of given.entry) (M.state machine.new)) (Misfits table.now (M.state machine.old) (entry_of given.entry)) }
 {
     let Some(tenant) = tenant_in(table, given.tenant) else {
         return Err(Unfit::UnknownTenant);
     };
     match prepared_in(alloc, given.line, scratch) {
-        Ok(prepared) => step_record(alloc, machine, tenant, &prepared),
+        Ok(prepared) => {
+            let step = machine.step(alloc, tenant, &prepared);
+            outcome_of(&step)
+        }
         Err(unfit) => Err(unfit),
     }
 }
@@ -138,8 +124,7 @@ pub(crate) fn replay_lines<M: StateMachine>(
 ) -> Result<u64, UnfitRecord>
     requires chain { IsChain chain.now }
     requires lines { AreLines chain.now lines.now }
-    ensures ok { IfOk result (λ counts. ReplaysLines table.now chain.now lines.now (M.state machine.old) (M.state machine.new) count counts) }
-    ensures err { IfErr result (λ stop. StopsInLines table.now chain.now lines.now (M.state machine.old) count stop.at stop.unfit) }
+    ensures { MatchResult result (ReplaysLines table.now chain.now lines.now (M.state machine.old) (M.state machine.new) count) (λ stop. StopsInLines table.now chain.now lines.now (M.state machine.old) count stop.at stop.unfit) }
 {
     let mut rest = lines;
     let mut counts = count;

@@ -1,10 +1,10 @@
 // What the records of a journal are made on.
-use cql_core::{Core, Prepared, Step, TenantId};
-use cql_hall::Past;
+use cql_core::{Prepared, Step, TenantId};
+use cql_hall::{Book, Entered, Journal};
 use std::alloc::Global;
 use std::sync::Arc;
 
-/// What steps the commands of a journal's records, one after another: a core, or one whose calls are kept.
+/// What steps the commands of a journal's records, one after another.
 pub trait StateMachine: Drop {
     ghost use Rattle.std.specs.Arc.{arc_value};
     ghost use Rattle.cql_core.specs.Machine.{State};
@@ -17,18 +17,11 @@ pub trait StateMachine: Drop {
         ensures { Steps (state self.old) tenant (arc_value prepared.now) result (state self.new) };
 }
 
-impl StateMachine for Core {
-    ghost state = { λ core. core };
+impl<J: Journal> StateMachine for Book<J> {
+    ghost state = { λ book. book.state };
 
     fn step(&mut self, alloc: Global, tenant: TenantId, prepared: &Arc<Prepared>) -> Step {
-        Core::step(self, alloc, tenant, prepared)
-    }
-}
-
-impl StateMachine for Past {
-    ghost state = { λ past. past.book.state };
-
-    fn step(&mut self, alloc: Global, tenant: TenantId, prepared: &Arc<Prepared>) -> Step {
-        Past::step(self, alloc, tenant, prepared)
+        let Entered { place: _, step } = self.enter(alloc, tenant, prepared);
+        step
     }
 }

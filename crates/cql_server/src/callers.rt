@@ -1,10 +1,12 @@
 // Sessions of a listener's callers.
-ghost use Rattle.std.specs.Prelude.{◌≡◌, All, IfErr, true, false, Err};
+ghost use Rattle.std.specs.Prelude.{◌≡◌, ◌⊎◌, All, IfErr, true, false, Err, is_some};
 ghost use Rattle.cql_ops.specs.Bench.{IsBench};
 ghost use Rattle.cql_server.specs.declared.failure.Failure.TheVariants as failure;
+ghost use Rattle.cql_server.specs.declared.journal_file.JournalFault.TheVariants as fault;
 
 use crate::auditing::{Audited, audit_sessions};
 use crate::failure::Failure;
+use crate::journal_file::{JournalFault, JournalFile};
 use crate::journal_writer::{JournalWriter, start_journal_writer};
 use crate::listener::Listener;
 use crate::serving::Serving;
@@ -13,11 +15,12 @@ use crate::workers::start_all;
 use cql_benches::SharedPool;
 use cql_connections::{ConnectionTable, Limits, Scheduler};
 use cql_core::{BenchOf, Operator, TenantTable};
-use cql_hall::{Bare, Gate, Hall, Kept};
+use cql_hall::{Bare, Gate, Hall, Journal, Kept};
 use cql_sessions::{Callable, Connection, Ending, Service};
 use std::alloc::Global;
 use std::io::Write;
 use std::sync::Wait;
+use std::sync::atomic::{AtomicBool, Ordering};
 use std::thread;
 use std::thread::Threads;
 use std::time::{Clock, Duration};
@@ -69,67 +72,59 @@ where
     if is_audited && serving.sessions == 0 {
         return Err(Failure::NoSessions);
     }
-    let (setup, pool) = serving.worker_setup(rt, alloc)?;
+    let copy = table.try_clone(alloc)?;
     if is_audited {
-        serve_kept(rt, alloc, table, setup, &pool, out, gate)
+        let hall: Hall<Kept> = Hall::new(alloc, copy)?;
+        let ends = ends_over(rt, alloc, table, &hall, serving, None, gate)?;
+        audit_told(out, alloc, table, hall, ends)
     } else {
-        serve_bare(rt, alloc, table, setup, &pool, gate)
+        let hall: Hall<Bare> = Hall::new(alloc, copy)?;
+        let _ends = ends_over(rt, alloc, table, &hall, serving, None, gate)?;
+        Ok(())
     }
 }
 
-fn serve_bare<R, G, O>(
+/// Serves sessions over a hall, and gives their ends. Where there is a journal's file, a thread writes what
+/// changes to it, and no more is served once a write or a sync of it has failed (`Journal`, 9).
+pub(crate) fn ends_over<J, R, G, O>(
     rt: &R,
     alloc: Global,
     table: &TenantTable,
-    setup: WorkerSetup<'_, O>,
-    pool: &SharedPool<O>,
+    hall: &Hall<J>,
+    serving: Serving<'_, O>,
+    file: Option<JournalFile>,
     gate: &G,
-) -> Result<(), Failure>
+) -> Result<Vec<Ending>, Failure>
 where
+    J: Journal + Send,
     R: Threads + Wait + Clock + Sync,
     G: Gate + Sync,
     O: Operator + Send,
-    ensures { IfErr result (λ f. f ≡ failure.NoMemory) }
+    ensures { IfErr result (λ f. (f ≡ failure.NoMemory) ⊎ ((is_some file ≡ true) × (f ≡ failure.Journal fault.Writing))) }
 {
-    let copy = table.try_clone(alloc)?;
-    let hall: Hall<Bare> = Hall::new(alloc, copy)?;
+    let (setup, pool) = serving.worker_setup(rt, alloc, J::is_kept())?;
     let service = Service {
         rt,
         alloc,
-        hall: &hall,
+        hall,
         table,
         gate,
     };
-    setup.serve(&service, pool, None)?;
-    Ok(())
-}
-
-fn serve_kept<R, W, G, O>(
-    rt: &R,
-    alloc: Global,
-    table: &TenantTable,
-    setup: WorkerSetup<'_, O>,
-    pool: &SharedPool<O>,
-    out: &mut W,
-    gate: &G,
-) -> Result<(), Failure>
-where
-    R: Threads + Wait + Clock + Sync,
-    W: Write,
-    G: Gate + Sync,
-    O: Operator + Send,
-{
-    let copy = table.try_clone(alloc)?;
-    let hall: Hall<Kept> = Hall::new(alloc, copy)?;
-    let service = Service {
-        rt,
-        alloc,
-        hall: &hall,
-        table,
-        gate,
+    let has_failed = AtomicBool::new(false);
+    let Some(file) = file else {
+        return setup.serve(&service, &pool, None);
     };
-    let ends = setup.serve(&service, pool, None)?;
-    audit_told(out, alloc, table, hall, ends)
+    let writer = JournalWriter {
+        file,
+        count: 0,
+        gather: setup.gather,
+        has_failed: &has_failed,
+    };
+    let ends = setup.serve(&service, &pool, Some(writer))?;
+    if has_failed.load(Ordering::SeqCst) {
+        return Err(Failure::from(JournalFault::Writing));
+    }
+    Ok(ends)
 }
 
 // Audits what sessions were told by a hall that has kept its calls, and tells what that has counted.

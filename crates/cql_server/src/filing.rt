@@ -3,23 +3,20 @@ ghost use Rattle.std.specs.Prelude.{◌≡◌, ◌⊎◌, IfErr};
 ghost use Rattle.cql_server.specs.declared.failure.Failure.TheVariants as failure;
 ghost use Rattle.cql_server.specs.declared.journal_file.JournalFault.TheVariants as fault;
 
-use crate::callers::{WorkerSetup, audit_told};
+use crate::callers::{audit_told, ends_over};
 use crate::failure::Failure;
-use crate::journal_file::{JournalFault, JournalFile, Opened};
-use crate::journal_writer::JournalWriter;
+use crate::journal_file::Opened;
 use crate::serving::Serving;
-use cql_benches::SharedPool;
-use cql_core::{Core, Operator, TenantTable};
-use cql_hall::{Bare, Book, Gate, Hall, Kept, Past, PastCaller};
-use cql_sessions::{Callable, Ending, Service};
+use cql_core::{Operator, TenantTable};
+use cql_hall::{Bare, Book, Gate, Hall, Kept};
+use cql_sessions::Ending;
 use std::alloc::Global;
 use std::io::Write;
 use std::sync::Wait;
-use std::sync::atomic::{AtomicBool, Ordering};
 use std::thread::Threads;
 use std::time::Clock;
 
-/// Serves the callers of a listener over a core that a journal's file leads to: so many sessions, or without an
+/// Serves the callers of a listener over a book that a journal's file leads to: so many sessions, or without an
 /// end where that is 0. What changes it is written to that file, and no reply goes that rests on what isn't
 /// durable there; changes are gathered for so long. Else it is as `serve` without an audit.
 ///
@@ -29,7 +26,7 @@ pub(crate) fn serve_filing<R, G, O>(
     alloc: Global,
     table: &TenantTable,
     serving: Serving<'_, O>,
-    opened: Opened<Core>,
+    opened: Opened<Book<Bare>>,
     gate: &G,
 ) -> Result<(), Failure>
 where
@@ -38,18 +35,9 @@ where
     O: Operator + Send,
     ensures { IfErr result (λ f. (f ≡ failure.NoMemory) ⊎ (f ≡ failure.Journal fault.Writing)) }
 {
-    let (setup, pool) = serving.worker_setup(rt, alloc)?;
-    let copy = table.try_clone(alloc)?;
-    let (core, file) = opened.into_parts();
-    let hall: Hall<Bare> = Hall::filing(alloc, Book::of_core(alloc, copy, core));
-    let service = Service {
-        rt,
-        alloc,
-        hall: &hall,
-        table,
-        gate,
-    };
-    serve_filed(&service, setup, &pool, file)?;
+    let (book, file) = opened.into_parts();
+    let hall = Hall::filing(alloc, book);
+    let _ends = ends_over(rt, alloc, table, &hall, serving, Some(file), gate)?;
     Ok(())
 }
 
@@ -61,7 +49,7 @@ pub(crate) fn serve_filing_kept<R, W, G, O>(
     alloc: Global,
     table: &TenantTable,
     serving: Serving<'_, O>,
-    opened: Opened<Past>,
+    opened: Opened<Book<Kept>>,
     out: &mut W,
     gate: &G,
 ) -> Result<(), Failure>
@@ -71,65 +59,15 @@ where
     G: Gate + Sync,
     O: Operator + Send,
 {
-    let (setup, pool) = serving.worker_setup(rt, alloc)?;
-    let (past, file) = opened.into_parts();
-    let (book, callers) = past.into_parts();
-    let hall: Hall<Kept> = Hall::filing(alloc, book);
-    let service = Service {
-        rt,
-        alloc,
-        hall: &hall,
-        table,
-        gate,
-    };
-    let ends = serve_filed(&service, setup, &pool, file)?;
-    audit_with_past(out, alloc, table, hall, ends, callers)
-}
-
-// Audits what sessions were told, and behind them the callers of before.
-fn audit_with_past<W: Write>(
-    out: &mut W,
-    alloc: Global,
-    table: &TenantTable,
-    hall: Hall<Kept>,
-    ends: Vec<Ending>,
-    callers: Vec<PastCaller>,
-) -> Result<(), Failure> {
-    let mut ends = ends;
-    for caller in callers {
-        let (seat, receipts) = caller.into_parts();
+    let (book, file) = opened.into_parts();
+    let past = book.past(alloc)?;
+    let hall = Hall::filing(alloc, book);
+    let mut ends = ends_over(rt, alloc, table, &hall, serving, Some(file), gate)?;
+    if let Some((seat, receipts)) = past {
         ends.push(Ending {
             seat: Some(seat),
             receipts,
         })?;
     }
     audit_told(out, alloc, table, hall, ends)
-}
-
-// Serves sessions, of which a thread writes what changes to the file.
-fn serve_filed<R, C, G, O>(
-    service: &Service<'_, R, C, G>,
-    setup: WorkerSetup<'_, O>,
-    pool: &SharedPool<O>,
-    file: JournalFile,
-) -> Result<Vec<Ending>, Failure>
-where
-    R: Threads + Wait + Clock + Sync,
-    C: Callable<R, G> + Sync,
-    G: Gate + Sync,
-    O: Operator + Send,
-    ensures { IfErr result (λ f. (f ≡ failure.NoMemory) ⊎ (f ≡ failure.Journal fault.Writing)) }
-{
-    let has_failed = AtomicBool::new(false);
-    let writer = JournalWriter {
-        file,
-        count: 0,
-        gather: setup.gather,
-        has_failed: &has_failed,
-    };
-    let ends = setup.serve(service, pool, Some(writer))?;
-    if has_failed.load(Ordering::SeqCst) {
-        return Err(Failure::from(JournalFault::Writing));
-    }
-    Ok(ends)
 }

@@ -9,7 +9,7 @@ use cql_connections::Scheduler;
 use cql_core::{TenantId, TenantTable};
 use cql_hall::{Demanded, Filings, Gate};
 use cql_journal::{Batch, Record};
-use cql_sessions::{Callable, Connection, Ending, Service};
+use cql_sessions::{Callable, Connected, Service};
 use std::sync::Wait;
 use std::sync::atomic::{AtomicBool, Ordering};
 use std::thread::{self, Builder, Scope};
@@ -64,15 +64,17 @@ fn put_behind(
 
 impl JournalWriter<'_> {
     // Writes the batch, if it has records, and has replies go that rest on them.
-    fn commit<R, C, G>(
+    fn commit<R, C, G, T, D>(
         &mut self,
         service: &Service<'_, R, C, G>,
-        scheduler: &Scheduler<'_, Connection, Ending>,
+        scheduler: &Scheduler<'_, T, D>,
     ) -> Result<(), JournalFault>
     where
         R: Wait + Clock,
         C: Callable<R, G>,
         G: Gate,
+        T: Connected<End = D>,
+        D: Drop,
     {
         if self.count == 0 {
             return Ok(());
@@ -88,16 +90,18 @@ impl JournalWriter<'_> {
 
     // Puts what is queued into the batch, and writes it where somebody waits for that or it gets long. Whether
     // more may come.
-    fn go_on<R, C, G>(
+    fn go_on<R, C, G, T, D>(
         &mut self,
         service: &Service<'_, R, C, G>,
-        scheduler: &Scheduler<'_, Connection, Ending>,
+        scheduler: &Scheduler<'_, T, D>,
         taken: &mut Filings,
     ) -> Result<bool, JournalFault>
     where
         R: Wait + Clock,
         C: Callable<R, G>,
         G: Gate,
+        T: Connected<End = D>,
+        D: Drop,
     {
         let need = service.hall.take_queued(service.rt, taken);
         let mut calls = taken.iter();
@@ -130,15 +134,17 @@ impl JournalWriter<'_> {
 
     // Writes what is queued until no more is taken. Where that fails, nobody is let in any more, and no
     // reply goes that rests on what isn't durable.
-    fn write_on<R, C, G>(
+    fn write_on<R, C, G, T, D>(
         self,
         service: &Service<'_, R, C, G>,
-        scheduler: &Scheduler<'_, Connection, Ending>,
+        scheduler: &Scheduler<'_, T, D>,
     )
     where
         R: Wait + Clock,
         C: Callable<R, G>,
         G: Gate,
+        T: Connected<End = D>,
+        D: Drop,
     {
         let mut writer = self;
         let mut taken = Filings::new(service.alloc);
@@ -157,16 +163,18 @@ impl JournalWriter<'_> {
 }
 
 /// Starts the thread that writes what changes to the journal's file, if there is one; or it can't be made.
-pub(crate) fn start_journal_writer<'s, 'a: 's, T, R, C, G>(
-    scope: &Scope<'s, T>,
+pub(crate) fn start_journal_writer<'s, 'a: 's, O, R, C, G, T, D>(
+    scope: &Scope<'s, O>,
     service: &'s Service<'a, R, C, G>,
-    scheduler: &'s Scheduler<'a, Connection, Ending>,
+    scheduler: &'s Scheduler<'a, T, D>,
     writer: Option<JournalWriter<'s>>,
 ) -> Result<(), Failure>
 where
     R: Wait + Clock + Sync + 's,
     C: Callable<R, G> + Sync + 's,
     G: Gate + Sync + 's,
+    T: Connected<End = D> + Send + 's,
+    D: Drop + Send + 's,
     ensures { IfErr result (λ f. f ≡ failure.NoMemory) }
 {
     let Some(writer) = writer else {

@@ -4,8 +4,8 @@ use crate::failure::Failure;
 use crate::filing::{serve_filing, serve_filing_kept};
 use crate::journal_file::{Opened, open_journal};
 use crate::serving::Serving;
-use cql_core::{Core, Operator, TenantTable};
-use cql_hall::{Gate, Past};
+use cql_core::{Operator, TenantTable};
+use cql_hall::{Bare, Book, Gate, Kept};
 use cql_wire::Config;
 use std::alloc::Global;
 use std::fs::{File, Files};
@@ -19,9 +19,9 @@ pub(crate) enum Start {
     /// Nothing, and nothing is kept for another start.
     Empty,
     /// What a journal's file leads to, which goes on.
-    Filed(Opened<Core>),
+    Filed(Opened<Book<Bare>>),
     /// The same, and each call is kept for an audit.
-    Kept(Opened<Past>),
+    Kept(Opened<Book<Kept>>),
 }
 
 impl Drop for Start {
@@ -48,13 +48,14 @@ impl Start {
         let Some(path) = &config.journal else {
             return Ok(Start::Empty);
         };
+        let table_too = table.try_clone(alloc)?;
         if config.audit {
-            let past = Past::new(alloc, table.try_clone(alloc)?)?;
-            let opened = open_journal(rt, alloc, table, past, path.as_str())?;
+            let book: Book<Kept> = Book::new(alloc, table_too)?;
+            let opened = open_journal(rt, alloc, table, book, path.as_str())?;
             Ok(Start::Kept(opened))
         } else {
-            let core = Core::new(alloc, table)?;
-            let opened = open_journal(rt, alloc, table, core, path.as_str())?;
+            let book: Book<Bare> = Book::new(alloc, table_too)?;
+            let opened = open_journal(rt, alloc, table, book, path.as_str())?;
             Ok(Start::Filed(opened))
         }
     }

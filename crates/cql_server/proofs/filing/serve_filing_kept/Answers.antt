@@ -1,6 +1,9 @@
-use denote.Param.Send.{sendable}
-use Rattle.cql_hall.proofs.Crosses.{hall_sync, kept_row_send}
+use denote.Param.Send.{IsSend, sendable}
+use Rattle.cql_hall.proofs.Crosses.{kept_row_send}
+use Rattle.cql_hall.specs.contracts.journal.Kept as kept_type
 use Rattle.cql_server.proofs.filing.serve_filing_kept.Goals as goal
 
-pub serve_filed-requires-sync-C : goal.serve_filed-requires-sync-C
-serve_filed-requires-sync-C g c κs within = search (sendable, hall_sync, kept_row_send) depth 20
+pub ends_over-requires-send-J : goal.ends_over-requires-send-J
+ends_over-requires-send-J g c κs within =
+    let kept : Unit {0} → IsSend kept_type.the_row = λ u. kept_row_send in
+    search (sendable, kept) depth 20

@@ -31,7 +31,7 @@ use std::sync::Arc;
 /// leave them there. Without memory the pin is given up, and so it is where the bench's flag is set
 /// meanwhile: it is cleared first, and looked at between two instants. Behind it the bench holds no row.
 /// Where the plan shows the rows of one window as they are, what comes and leaves is told as it is: the
-/// bench is left alone but for its flag.
+/// bench is left alone but for its flag; and so it is where the pin asks for no instant.
 pub fn answer<O: Operator>(
     alloc: Global,
     bench: &mut BenchOf<O>,
@@ -56,6 +56,10 @@ pub(crate) fn answer_shared<O: Operator>(
     ensures pin { IfOk result (λ a. a.pin ≡ arc_value pin) }
 {
     bench.cancellation().clear();
+    if pin.asks_nothing() {
+        let blocks = nothing_asked(alloc, &pin);
+        return Ok(Answer::new(pin, Items::from_vec(blocks), 0, false));
+    }
     if pin.is_passing() {
         let (blocks, turns) = pass(alloc, &pin, bench.cancellation())?;
         return Ok(Answer::new(pin, Items::from_vec(blocks), turns, true));
@@ -75,9 +79,9 @@ pub(crate) fn nothing_asked(alloc: Global, pin: &Pin) -> Vec<Block>
     Runs::new(alloc, pin.from()).finish()
 }
 
-/// The blocks, at how many instants the relation was computed, whether the bench went on, and what is
-/// kept of the relation for a later pin. The bench stands for what was kept of an earlier one, if
-/// anything was.
+/// The blocks of a pin that asks for an instant, at how many instants the relation was computed, whether
+/// the bench went on, and what is kept of the relation for a later pin. The bench stands for what was kept
+/// of an earlier one, if anything was.
 pub(crate) fn evaluate<O: Operator>(
     alloc: Global,
     bench: &mut BenchOf<O>,
@@ -85,15 +89,13 @@ pub(crate) fn evaluate<O: Operator>(
     kept: Option<LastAnswer>,
 ) -> Result<(Vec<Block>, u64, bool, Option<LastTold>), AllocError>
     requires bench { IsBench O.model_of bench.old }
+    requires asked { pin.now.from < pin.now.next }
     requires kept { IfSome kept (λ k. StandsBehind k (bench_model O.model_of bench.old)) }
     ensures bench { IsBench O.model_of bench.new }
     ensures answer { IfOk result (λ r. IsAnswer (record { pin = pin.now; blocks = r.0.items; turns = r.1 })) }
     ensures kept { IfOk result (λ r. IfSome r.3 (λ last. IsKept pin.now last (bench_model O.model_of bench.new))) }
 {
     let end = pin.next();
-    if pin.from() == end {
-        return Ok((nothing_asked(alloc, pin), 0, false, None));
-    }
     let mut runs = Runs::new(alloc, pin.from());
     let instants = later_changes(alloc, pin)?;
     let mut left = instants.as_slice();

@@ -1,5 +1,5 @@
 // What an answer is made of.
-ghost use Rattle.std.specs.Prelude.{◌≡◌, ◌≢◌, ◌↔◌, ◌≤◌, ◌^◌, IsTrue};
+ghost use Rattle.std.specs.Prelude.{◌≡◌, ◌≢◌, ◌↔◌, ◌<◌, ◌≤◌, ◌^◌, false, IsTrue};
 ghost use Rattle.std.specs.Arc.{arc_value};
 ghost use Rattle.cql_plan.specs.Ports.{IsPlain};
 ghost use Rattle.cql_plan.specs.declared.plan.OutputKind.TheVariants.{Rstream};
@@ -133,6 +133,14 @@ impl Pin {
         ensures { IsTrue result → IsPlain self.now.plan × (self.now.plan.output ≢ Rstream) }
     {
         !matches!(self.plan.output(), OutputKind::Rstream) && self.plan.is_plain()
+    }
+
+    // Whether it asks for no instant: then no bench is needed either.
+    pub(crate) fn asks_nothing(&self) -> bool
+        ensures nothing { IsTrue result → self.now.from ≡ self.now.next }
+        ensures some { result ≡ false → self.now.from < self.now.next }
+    {
+        self.from == self.next
     }
 
     // Whether a cursor is from the first instant on, up to behind the last.

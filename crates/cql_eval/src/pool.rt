@@ -88,7 +88,7 @@ impl<O: Operator> Pool<O> {
     pub fn take(&mut self, pin: &Pin) -> Option<Warm<O>>
         ensures { IfSome result (IsWarm O.model_of) }
     {
-        if pin.is_passing() {
+        if pin.asks_nothing() || pin.is_passing() {
             return None;
         }
         if let Some(bench) = self.take_of(pin.key()) {

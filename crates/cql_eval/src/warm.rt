@@ -193,7 +193,7 @@ impl<O: Operator> Warm<O> {
     {
         self.bench.cancellation().clear();
         let asked: &Pin = &pin;
-        if asked.from() == asked.next() {
+        if asked.asks_nothing() {
             let blocks = nothing_asked(alloc, asked);
             return Ok(Answer::new(pin, Items::from_vec(blocks), 0, false));
         }

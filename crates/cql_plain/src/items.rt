@@ -65,30 +65,48 @@ fn computed(alloc: Global, items: &[Item], row: &[Value]) -> Result<Option<Row>,
     Ok(Some(Row::new(alloc, values)?))
 }
 
-/// The items on the row of a change, unless one is outside i64: the row itself where they are its
-/// columns; else what was made of it when it came, or a new row, which is kept if it comes.
-pub(crate) fn row_of_items(
+/// A row, and the items on it, unless one is outside i64.
+#[derive(Drop)]
+pub(crate) struct Turned {
+    pub of: Row,
+    pub row: Option<Row>,
+}
+
+/// The row of a change, and the items on it, unless one is outside i64: the row itself where they are its
+/// columns; else what was made of it when it came, or a new row, which is kept if it comes. One that leaves
+/// is that which came, where that is kept: so a row that was made to tell that it leaves needn't be.
+pub(crate) fn turn_by(
     alloc: Global,
     items: &[Item],
     change: &Change,
     made: &mut VecDeque<Made>,
-) -> Result<Option<Row>, AllocError>
+) -> Result<Turned, AllocError>
     requires { AreMade items.now made.old.items }
-    ensures row { IfOk result (λ r. r ≡ items_on items.now change.now.row) }
+    ensures of { IfOk result (λ t. t.of ≡ change.now.row) }
+    ensures row { IfOk result (λ t. t.row ≡ items_on items.now change.now.row) }
     ensures made { OnOk result (AreMade items.now made.new.items) }
 {
-    let values = change.row.values();
-    if are_columns(items, values) {
-        return Ok(Some(change.row.share()?));
+    let of = &change.row;
+    if are_columns(items, of.values()) {
+        return Ok(Turned {
+            of: of.share()?,
+            row: Some(of.share()?),
+        });
     }
     if !change.plus {
-        if let Some(row) = taken(made, &change.row) {
-            return Ok(Some(row));
+        if let Some(Made { came, row }) = taken(made, of) {
+            return Ok(Turned {
+                of: came,
+                row: Some(row),
+            });
         }
     }
-    let row = computed(alloc, items, values)?;
+    let row = computed(alloc, items, of.values())?;
     if let (true, Some(row)) = (change.plus, &row) {
-        keep(made, &change.row, row)?;
+        keep(made, of, row)?;
     }
-    Ok(row)
+    Ok(Turned {
+        of: of.share()?,
+        row,
+    })
 }

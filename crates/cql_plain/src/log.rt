@@ -59,11 +59,11 @@ impl Log {
     }
 
     /// One change more, which is not told.
-    pub fn push(&mut self, alloc: Global, change: &Change) -> Result<(), AllocError>
-        ensures ok { OnOk result (self.new ≡ logged change.now self.old) }
-        ensures err { OnErr result (self.new ≡ self.old) }
+    pub fn push(&mut self, change: Change) -> Result<(), AllocError>
+        ensures { OnOk result (self.new ≡ logged change self.old) }
     {
-        add_copy(alloc, change, &mut self.changes)
+        self.changes.push(change)?;
+        Ok(())
     }
 
     /// The changes that were not told, in order. Now all are told.

@@ -25,15 +25,16 @@ pub(crate) fn keep(kept: &mut VecDeque<Made>, came: &Row, row: &Row) -> Result<(
     Ok(())
 }
 
-/// What the items made of a row that leaves, where none of those that are kept came before it. The
-/// first of these is let go. Takes no memory.
-pub(crate) fn taken(kept: &mut VecDeque<Made>, leaves: &Row) -> Option<Row>
-    ensures row { IfSome result (λ row. (items : List Item) → AreMade items kept.old.items → items_on items leaves.now ≡ Some row) }
+/// A row that leaves as it came, with what the items made of it, where none of those that are kept came
+/// before it. The first of these is let go. Takes no memory.
+pub(crate) fn taken(kept: &mut VecDeque<Made>, leaves: &Row) -> Option<Made>
+    ensures came { IfSome result (λ m. m.came ≡ leaves.now) }
+    ensures row { IfSome result (λ m. (items : List Item) → AreMade items kept.old.items → items_on items leaves.now ≡ Some m.row) }
     ensures rest { (items : List Item) → AreMade items kept.old.items → AreMade items kept.new.items }
 {
-    let Made { came, row } = kept.pop_front()?;
-    if came.is_equal(leaves) {
-        Some(row)
+    let first = kept.pop_front()?;
+    if first.came.is_equal(leaves) {
+        Some(first)
     } else {
         None
     }

@@ -9,7 +9,7 @@ ghost use Rattle.cql_ops.specs.Clauses.{fault_in};
 ghost use Rattle.cql_plain.specs.Logs.{logged, logged_bag, told_all, told_image};
 ghost use Rattle.cql_plain.specs.Shaped.{KeepsRows, TellsShape, FailsToShape};
 
-use crate::items::row_of_items;
+use crate::items::{Turned, turn_by};
 use crate::log::{Log, adds_law, tells_law};
 use crate::made::Made;
 use cql_algebra::law::item_types_law;
@@ -72,12 +72,13 @@ impl Projected {
     {
         adds_law();
         let plus = change.plus;
-        match row_of_items(alloc, shape.items.as_slice(), change, &mut self.made)? {
+        let Turned { of, row } = turn_by(alloc, shape.items.as_slice(), change, &mut self.made)?;
+        match row {
             Some(row) => self.untold.push(Change { plus, row })?,
             None if plus => self.lacking = one_more(self.lacking)?,
             None => self.lacking -= 1,
         }
-        self.log.push(alloc, change)
+        self.log.push(Change { plus, row: of })
     }
 
     /// `Overflow` where an item is outside i64 on some row of the port; else none.

@@ -23,8 +23,8 @@ returns-in-Ok-clause-pin g c = grind (arith, common_steps)
 pub returns-in-Ok-clause-warm : goal.returns-in-Ok-clause-warm
 returns-in-Ok-clause-warm g c = grind (arith, common_steps)
 
-pub returns-then-from-next-clause-pin : goal.returns-then-from-next-clause-pin
-returns-then-from-next-clause-pin g c = grind (arith, common_steps)
+pub returns-then-asks_nothing-clause-pin : goal.returns-then-asks_nothing-clause-pin
+returns-then-asks_nothing-clause-pin g c = grind (arith, common_steps)
 
 pub keep-requires-clause-kept : goal.keep-requires-clause-kept
 keep-requires-clause-kept g c = grind (arith, common_steps)

@@ -1,4 +1,1 @@
 pub mod Numbers
-pub mod Ones
-pub mod Pairs
-pub mod Twos

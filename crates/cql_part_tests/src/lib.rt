@@ -11,4 +11,8 @@ mod looks;
 #[cfg(test)]
 mod lookups;
 #[cfg(test)]
+mod made;
+#[cfg(test)]
+mod operators;
+#[cfg(test)]
 mod stores;

@@ -2,9 +2,10 @@
 ghost use Rattle.std.specs.Prelude.{◌≡◌, IfOk, length};
 ghost use Rattle.cql_store.specs.Next.{FitsWindow};
 
+use crate::made::{holds, number_row};
 use cql_chunks::Chunks;
 use cql_store::{Store, StubId};
-use cql_value::{Items, Row, Timed, Value, slices_equal};
+use cql_value::{Items, Timed, slices_equal};
 use cql_window::{Count, Length, Window, WindowPin};
 use std::alloc::{AllocError, AllocFailed, Global};
 use std::marker::Model;
@@ -29,6 +30,16 @@ impl<T: Drop> From<AllocFailed<T>> for Refused {
     fn from(_failed: AllocFailed<T>) -> Refused {
         Refused::NoMemory
     }
+}
+
+// What is made, tried twice, for one request for memory may be refused.
+macro_rules! at_last {
+    ($make:expr) => {
+        match $make {
+            Ok(made) => made,
+            Err(_why) => $make?,
+        }
+    };
 }
 
 // A store to which rows of one number come, none before `opened`.
@@ -86,73 +97,73 @@ impl Tried {
         self.opened = self.opened.max(to);
         Ok(())
     }
+}
 
-    fn pin(&self, id: StubId, until: u64) -> Result<WindowPin, Refused> {
-        if !self.store.may_advance(id, until) {
-            return Err(Refused::Wrong);
-        }
-        Ok(self.store.pin(id, until)?)
+// A window over rows of one number.
+#[derive(Clone, Copy)]
+enum Span {
+    // A length and a slide, in ticks.
+    Range(u64, u64),
+    // So many rows, and a slide.
+    Rows(u64, u64),
+    All,
+    // So many rows of each part, by the number.
+    Parts(u64),
+}
+
+// The window that is meant.
+fn window(alloc: Global, span: Span) -> Result<Window, Refused>
+    ensures { IfOk result (λ w. FitsWindow (λ row. length row ≡ 1) w) }
+{
+    match span {
+        Span::Range(length, slide) => match (Length::new(length), Count::new(slide)) {
+            (Some(length), Some(slide)) => Ok(Window::Range { length, slide }),
+            _ => Err(Refused::Wrong),
+        },
+        Span::Rows(count, slide) => match (Count::new(count), Count::new(slide)) {
+            (Some(count), Some(slide)) => Ok(Window::Rows { count, slide }),
+            _ => Err(Refused::Wrong),
+        },
+        Span::All => Ok(Window::All),
+        Span::Parts(count) => match Count::new(count) {
+            Some(count) => {
+                let columns = Items::from_slice(alloc, &[0])?;
+                Ok(Window::Parts { columns, count })
+            }
+            None => Err(Refused::Wrong),
+        },
     }
 }
 
-fn range(ticks: u64, slide: u64) -> Result<Window, Refused>
-    ensures { IfOk result (λ w. FitsWindow (λ row. length row ≡ 1) w) }
-{
-    let length = Length::new(ticks).ok_or(Refused::Wrong)?;
-    let slide = Count::new(slide).ok_or(Refused::Wrong)?;
-    Ok(Window::Range { length, slide })
-}
-
-fn rows(count: u64, slide: u64) -> Result<Window, Refused>
-    ensures { IfOk result (λ w. FitsWindow (λ row. length row ≡ 1) w) }
-{
-    let count = Count::new(count).ok_or(Refused::Wrong)?;
-    let slide = Count::new(slide).ok_or(Refused::Wrong)?;
-    Ok(Window::Rows { count, slide })
-}
-
-fn all() -> Window
-    ensures { FitsWindow (λ row. length row ≡ 1) result }
-{
-    Window::All
-}
-
-fn parts(alloc: Global, count: u64) -> Result<Window, Refused>
-    ensures { IfOk result (λ w. FitsWindow (λ row. length row ≡ 1) w) }
-{
-    let count = Count::new(count).ok_or(Refused::Wrong)?;
-    let columns = Items::from_slice(alloc, &[0])?;
-    Ok(Window::Parts { columns, count })
-}
-
-fn shared(alloc: Global, number: i64) -> Result<Row, Refused>
-    ensures { IfOk result (λ r. length r ≡ 1) }
-{
-    Ok(Row::new(alloc, vec![in alloc; Value::Number(number)]?)?)
-}
-
-fn row(alloc: Global, at: u64, number: i64) -> Result<Timed, Refused>
-    ensures { IfOk result (λ t. length t.row ≡ 1) }
-{
-    Ok(Timed::new(at, shared(alloc, number)?))
-}
-
-// A stub of each window.
-fn of_each(alloc: Global, tried: &mut Tried) -> Result<Vec<StubId>, Refused> {
+// So many stubs of each of these windows.
+fn attach_all(
+    alloc: Global,
+    tried: &mut Tried,
+    spans: &[Span],
+    times: u64,
+    hold: u64,
+) -> Result<Vec<StubId>, Refused> {
     let mut ids = Vec::new(alloc);
-    ids.push(tried.attach(range(2, 1)?, 100)?)?;
-    ids.push(tried.attach(range(1, 3)?, 100)?)?;
-    ids.push(tried.attach(rows(2, 1)?, 100)?)?;
-    ids.push(tried.attach(rows(1, 2)?, 100)?)?;
-    ids.push(tried.attach(all(), 100)?)?;
-    ids.push(tried.attach(parts(alloc, 1)?, 100)?)?;
+    for span in spans {
+        for _ in 0..times {
+            ids.push(tried.attach(window(alloc, *span)?, hold)?)?;
+        }
+    }
     Ok(ids)
+}
+
+fn put(alloc: Global, tried: &mut Tried, at: u64, number: i64) -> Result<(), Refused> {
+    let row = number_row(alloc, number)?;
+    tried.put(Timed::new(at, row))
 }
 
 fn pins_of(alloc: Global, tried: &Tried, ids: &[StubId]) -> Result<Vec<WindowPin>, Refused> {
     let mut pins = Vec::new(alloc);
     for id in ids {
-        pins.push(tried.pin(*id, GREATEST)?)?;
+        if !tried.store.may_advance(*id, GREATEST) {
+            return Err(Refused::Wrong);
+        }
+        pins.push(tried.store.pin(*id, GREATEST)?)?;
     }
     Ok(pins)
 }
@@ -173,7 +184,7 @@ enum Call {
 
 fn make(alloc: Global, tried: &mut Tried, call: &Call) -> Result<(), Refused> {
     match call {
-        Call::Put(at) => tried.put(row(alloc, *at, 7)?),
+        Call::Put(at) => put(alloc, tried, *at, 7),
         Call::Go(id, to) => tried.go(*id, *to),
     }
 }
@@ -186,10 +197,7 @@ fn make_or_same(
     ids: &[StubId],
     call: &Call,
 ) -> Result<bool, Refused> {
-    let before = match pins_of(alloc, tried, ids) {
-        Ok(pins) => pins,
-        Err(_why) => pins_of(alloc, tried, ids)?,
-    };
+    let before = at_last!(pins_of(alloc, tried, ids));
     let Err(_why) = make(alloc, tried, call) else {
         return Ok(true);
     };
@@ -198,60 +206,41 @@ fn make_or_same(
     Ok(slices_equal(&before, &after))
 }
 
-// A row, and each stub goes to the instant after it.
-fn round_or_same(
+// Rows of the instants from 1 to this one, and behind each of them each stub goes to the instant after
+// it.
+fn rounds_or_same(
     alloc: Global,
     tried: &mut Tried,
     ids: &[StubId],
-    at: u64,
+    last: u64,
 ) -> Result<bool, Refused> {
-    let mut same = make_or_same(alloc, tried, ids, &Call::Put(at))?;
-    for id in ids {
-        let went = make_or_same(alloc, tried, ids, &Call::Go(*id, at.saturating_add(1)))?;
-        same = same && went;
+    let mut same = true;
+    for at in 0..last {
+        same = make_or_same(alloc, tried, ids, &Call::Put(at + 1))? && same;
+        for id in ids {
+            let call = Call::Go(*id, at.saturating_add(2));
+            same = make_or_same(alloc, tried, ids, &call)? && same;
+        }
     }
     Ok(same)
 }
 
-// With one allocation refused, whichever it is, the call that needed it has changed nothing:
-// `rt try --test --fail-alloc` passes here with every number.
-#[test]
-fn a_refused_call(rt: HostRuntime) -> Result<(), Fail> {
-    let alloc = rt.alloc();
-    let mut tried = Tried::new(alloc);
-    let ids = match of_each(alloc, &mut tried) {
-        Ok(ids) => ids,
-        Err(_why) => of_each(alloc, &mut tried)?,
-    };
-    for at in 1..7 {
-        assert!(rt; round_or_same(alloc, &mut tried, &ids, at)?);
-    }
-    assert!(rt; tried.store.rows_held() == 6);
-    Ok(())
+// Whether all stubs are as before, whatever is refused, and then as many rows are held as came.
+fn calls_or_same(alloc: Global, tried: &mut Tried, ids: &[StubId]) -> Result<bool, Refused> {
+    let same = rounds_or_same(alloc, tried, ids, 6)?;
+    Ok(same && tried.store.rows_held() == 6)
 }
 
 const PARTS: i64 = 24;
 
-fn of_parts(alloc: Global, tried: &mut Tried) -> Result<StubId, Refused> {
-    tried.attach(parts(alloc, 1)?, 100)
-}
-
-// A row of a part, of the first instant.
-fn put_first(alloc: Global, tried: &mut Tried, number: i64) -> Result<(), Refused> {
-    tried.put(row(alloc, 0, number)?)
-}
-
-// A row of each part, and the stub goes behind them. What is refused is done once more.
-fn fill(alloc: Global, tried: &mut Tried, id: StubId) -> Result<(), Refused> {
+// A row of each part, of the first instant, and the stubs go behind them. What is refused is done once
+// more.
+fn fill(alloc: Global, tried: &mut Tried, ids: &[StubId]) -> Result<(), Refused> {
     for number in 0..PARTS {
-        if let Err(_why) = put_first(alloc, tried, number) {
-            put_first(alloc, tried, number)?;
-        }
+        at_last!(put(alloc, tried, 0, number));
     }
-    match tried.go(id, 1) {
-        Ok(()) => Ok(()),
-        Err(_why) => tried.go(id, 1),
-    }
+    at_last!(go_all(tried, ids, 1));
+    Ok(())
 }
 
 // Whether the last row is of that instant, and all others, which are as many as the other parts,
@@ -267,50 +256,35 @@ fn is_newest(content: &Chunks, at: u64) -> bool {
     content.len() == 24
 }
 
-// Of many parts one has a row more, and the stub passes it: with one allocation refused, whichever
-// it is, the call that needed it has changed nothing.
-#[test]
-fn a_refused_ack_of_few_rows(rt: HostRuntime) -> Result<(), Fail> {
-    let alloc = rt.alloc();
-    let mut tried = Tried::new(alloc);
-    let id = match of_parts(alloc, &mut tried) {
-        Ok(id) => id,
-        Err(_why) => of_parts(alloc, &mut tried)?,
-    };
-    fill(alloc, &mut tried, id)?;
-    for at in 1..5 {
-        assert!(rt; round_or_same(alloc, &mut tried, &[id], at)?);
+// Whether the first stub has such rows.
+fn has_newest(alloc: Global, tried: &Tried, ids: &[StubId], at: u64) -> Result<bool, Refused> {
+    let pins = at_last!(pins_of(alloc, tried, ids));
+    match pins.first() {
+        Some(pin) => Ok(is_newest(pin.content(), at)),
+        None => Ok(false),
     }
-    let pin = match tried.pin(id, GREATEST) {
-        Ok(pin) => pin,
-        Err(_why) => tried.pin(id, GREATEST)?,
-    };
-    assert!(rt; is_newest(pin.content(), 4));
-    Ok(())
 }
 
-// All rows are one shared row.
-fn rounds(alloc: Global, number: u64) -> Result<u64, Refused> {
-    let mut tried = Tried::new(alloc);
-    let mut ids = Vec::new(alloc);
-    for _ in 0..64 {
-        ids.push(tried.attach(range(0, 1)?, 100)?)?;
-    }
-    let row = shared(alloc, 7)?;
+// Whether all stubs are as before, whatever is refused, as one part of many has rows more.
+fn acks_or_same(alloc: Global, tried: &mut Tried, ids: &[StubId]) -> Result<bool, Refused> {
+    fill(alloc, tried, ids)?;
+    let same = rounds_or_same(alloc, tried, ids, 4)?;
+    Ok(has_newest(alloc, tried, ids, 4)? && same)
+}
+
+// Whether one row is held behind so many, which are all one shared row.
+fn rounds_hold_one(
+    alloc: Global,
+    tried: &mut Tried,
+    ids: &[StubId],
+    number: u64,
+) -> Result<bool, Refused> {
+    let row = number_row(alloc, 7)?;
     for at in 0..number {
         tried.put(Timed::new(at, row.share()?))?;
-        go_all(&mut tried, &ids, at.saturating_add(1))?;
+        go_all(tried, ids, at.saturating_add(1))?;
     }
-    Ok(tried.store.rows_held())
-}
-
-// Many rounds ask for memory no more often than few: `rt try --test --fail-alloc` with a number
-// above that passes.
-#[test]
-fn many_rounds(rt: HostRuntime) -> Result<(), Fail> {
-    assert!(rt; rounds(rt.alloc(), 1_000)? == 1);
-    assert!(rt; rounds(rt.alloc(), 11_000)? == 1);
-    Ok(())
+    Ok(tried.store.rows_held() == 1)
 }
 
 const STUBS: u64 = 301;
@@ -318,15 +292,6 @@ const STUBS: u64 = 301;
 // Whether the stub at an index is one of so many, which are spread over all.
 fn is_early(index: usize, few: u64) -> bool {
     (index as u64 % STUBS * 10) % STUBS < few
-}
-
-// Stubs of the last instant, each of which may hold two rows.
-fn of_two_rows(alloc: Global, tried: &mut Tried) -> Result<Vec<StubId>, Refused> {
-    let mut ids = Vec::new(alloc);
-    for _ in 0..STUBS {
-        ids.push(tried.attach(range(0, 1)?, 2)?)?;
-    }
-    Ok(ids)
 }
 
 // All but so many let go of the row of the first instant.
@@ -358,7 +323,7 @@ fn live_behind(
     few: u64,
     at: u64,
 ) -> Result<bool, Refused> {
-    tried.put(row(alloc, at, 7)?)?;
+    put(alloc, tried, at, 7)?;
     let held = tried.store.rows_held();
     Ok(match at {
         2 => are_live(tried, ids, few, true, true) && held == 2,
@@ -367,25 +332,113 @@ fn live_behind(
     })
 }
 
-// Of all stubs so many have a row more than the others, and are overrun by the row for which the
-// others still have room; the next one overruns these.
-fn are_overrun(alloc: Global, few: u64) -> Result<bool, Refused> {
-    let mut tried = Tried::new(alloc);
-    let ids = of_two_rows(alloc, &mut tried)?;
-    tried.put(row(alloc, 0, 7)?)?;
-    pass_first(&mut tried, &ids, few)?;
+// Of all stubs, which are of the last instant and hold two rows at most, so many have a row more than
+// the others, and are overrun by the row for which the others still have room; the next one overruns
+// these.
+fn are_overrun(
+    alloc: Global,
+    tried: &mut Tried,
+    ids: &[StubId],
+    few: u64,
+) -> Result<bool, Refused> {
+    put(alloc, tried, 0, 7)?;
+    pass_first(tried, ids, few)?;
     let mut right = true;
     for at in 2..5 {
-        right = live_behind(alloc, &mut tried, &ids, few, at)? && right;
+        right = live_behind(alloc, tried, ids, few, at)? && right;
     }
     Ok(right)
+}
+
+// What a store has to do.
+#[derive(Clone, Copy)]
+enum Does {
+    // Calls of six instants, of which one that is refused changes nothing.
+    Call,
+    // The same as few of many rows are passed.
+    PassFew,
+    // It holds one row after so many rounds.
+    HoldOne(u64),
+    // One row overruns so many stubs at once, and the next one all others.
+    OverrunAtOnce(u64),
+}
+
+fn is_done(alloc: Global, tried: &mut Tried, ids: &[StubId], does: Does) -> Result<bool, Refused> {
+    match does {
+        Does::Call => calls_or_same(alloc, tried, ids),
+        Does::PassFew => acks_or_same(alloc, tried, ids),
+        Does::HoldOne(number) => rounds_hold_one(alloc, tried, ids, number),
+        Does::OverrunAtOnce(few) => are_overrun(alloc, tried, ids, few),
+    }
+}
+
+// Whether a new store does it, with so many stubs of each of these windows.
+fn new_store_does(
+    alloc: Global,
+    spans: &[Span],
+    times: u64,
+    hold: u64,
+    does: Does,
+) -> Result<bool, Refused> {
+    let mut tried = Tried::new(alloc);
+    let ids = at_last!(attach_all(alloc, &mut tried, spans, times, hold));
+    is_done(alloc, &mut tried, &ids, does)
+}
+
+static EACH: [Span; 6] = [
+    Span::Range(2, 1),
+    Span::Range(1, 3),
+    Span::Rows(2, 1),
+    Span::Rows(1, 2),
+    Span::All,
+    Span::Parts(1),
+];
+
+// With one allocation refused, whichever it is, the call that needed it has changed nothing:
+// `rt try --test --fail-alloc` passes here with every number.
+#[test]
+fn a_refused_call(rt: HostRuntime) -> Result<(), Fail> {
+    holds(new_store_does(rt.alloc(), &EACH, 1, 100, Does::Call))
+}
+
+static LAST_OF_PARTS: [Span; 1] = [Span::Parts(1)];
+
+// Of many parts one has a row more, and the stub passes it: with one allocation refused, whichever
+// it is, the call that needed it has changed nothing.
+#[test]
+fn a_refused_ack_of_few_rows(rt: HostRuntime) -> Result<(), Fail> {
+    holds(new_store_does(rt.alloc(), &LAST_OF_PARTS, 1, 100, Does::PassFew))
+}
+
+static LAST_INSTANT: [Span; 1] = [Span::Range(0, 1)];
+
+// Many rounds ask for memory no more often than few: `rt try --test --fail-alloc` with a number
+// above that passes.
+#[test]
+fn many_rounds(rt: HostRuntime) -> Result<(), Fail> {
+    for number in [1_000, 11_000] {
+        assert!(rt;
+            new_store_does(rt.alloc(), &LAST_INSTANT, 64, 100, Does::HoldOne(number))?,
+            "{number}"
+        );
+    }
+    Ok(())
 }
 
 // Of 301 stubs one append overruns so many, which are marked one by one or in one walk.
 #[test]
 fn many_overrun_at_once(rt: HostRuntime) -> Result<(), Fail> {
     for few in [63, 64, 65, 300] {
-        assert!(rt; are_overrun(rt.alloc(), few)?, "{few}");
+        assert!(rt;
+            new_store_does(
+                rt.alloc(),
+                &LAST_INSTANT,
+                STUBS,
+                2,
+                Does::OverrunAtOnce(few)
+            )?,
+            "{few}"
+        );
     }
     Ok(())
 }

@@ -1,4 +1,5 @@
-use Rattle.std.proofs.Common.{◌≡◌, ◌∙◌, ap, ℕ, ◌+◌, ◌<◌, ◌≤◌, [], ◌∷◌, ◌++◌, List, length, arith, slice_index_or, slice_set, map, subst}
+use Rattle.std.proofs.lemmas.Grind.{common_steps}
+use Rattle.std.proofs.Common.{◌∙◌, ap, ◌<◌, ◌≤◌, length, arith, slice_set, map, subst}
 use Rattle.std.specs.Prelude.{◌==◌}
 use Rattle.std.specs.Global.{Global}
 use Rattle.std.specs.declared.collections.VecDeque.{VecDeque}
@@ -42,3 +43,6 @@ returns-in_err-item-clause-none g c =
     let some : 0 < length c.self.inside.order.items = grind arith in
     let n : 1 ≤ length c.in_ok-line.line.now.items = next_some (λ (line : VecDeque g.row.T.Denot Global). line.items) c.self.inside.lines.items c.self.inside.order.items c.in_ok-owner.field-0.now c.in_ok-line.line.now c.self.invariant.0 c.in_ok-owner.ensures.lookup some c.in_ok-line.ensures.value in
     absurd (grind (arith, n, c.in_err-item.ensures.variant))
+
+pub returns-in_err-owner-clause-none : goal.returns-in_err-owner-clause-none
+returns-in_err-owner-clause-none g c = grind (arith, common_steps)

@@ -1,3 +1,4 @@
+use Rattle.std.proofs.lemmas.Grind.{common_steps}
 use Rattle.std.proofs.Common.{◌-◌, ◌<◌, length, arith}
 use Rattle.std.proofs.lemmas.List.Edits.{map_over_more}
 use Rattle.cql_connections.proofs.run_queue.RunQueue.forgive.Goals as goal
@@ -13,3 +14,6 @@ loop-owner-preserved g c =
       busy = was.busy;
       busy_of = was.busy_of;
     }
+
+pub returns-clause-spent : goal.returns-clause-spent
+returns-clause-spent g c = grind (arith, common_steps)

@@ -16,3 +16,9 @@ returns-in-Some c =
     ∙ calls_pop rest s.text.items last are
     ∙ ap (λ ps. take (length (calls_in ps s.text.items) - 1) (calls_in ps s.text.items)) (sym pieces)
     ∙ ap (λ l. take (length l - 1) l) c.self.view_is
+
+pub invariant_of-self : goal.invariant_of-self
+invariant_of-self c = grind (arith, common_steps)
+
+pub overflow_sub-len : goal.overflow_sub-len
+overflow_sub-len c = grind (arith, common_steps)

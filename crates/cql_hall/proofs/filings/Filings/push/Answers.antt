@@ -16,3 +16,6 @@ returns-clause-ok c =
     ∙ ap (calls_in (s.pieces.items ++ piece ∷ [])) text
     ∙ calls_push s.pieces.items s.text.items piece line c.self.invariant refl
     ∙ ap (λ calls. calls ++ record { tenant = c.args.tenant; line = line } ∷ []) c.self.view_is
+
+pub invariant_of-self-2 : goal.invariant_of-self-2
+invariant_of-self-2 c = grind (arith, common_steps)

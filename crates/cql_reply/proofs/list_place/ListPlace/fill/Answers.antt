@@ -1,5 +1,6 @@
+use Rattle.std.proofs.lemmas.Bool.{false≢true}
 use Rattle.std.proofs.lemmas.Grind.{common_steps}
-use Rattle.std.proofs.Common.{arith}
+use Rattle.std.proofs.Common.{arith, sym}
 use Rattle.cql_reply.proofs.list_place.ListPlace.fill.Goals as goal
 
 pub loop-whole-preserved : goal.loop-whole-preserved
@@ -28,3 +29,6 @@ loop-whole-smaller g c = grind (arith, common_steps)
 
 pub returns-then-not-has_room : goal.returns-then-not-has_room
 returns-then-not-has_room g c = grind (arith, common_steps)
+
+pub returns-in-Shut-clause-full : goal.returns-in-Shut-clause-full
+returns-in-Shut-clause-full g c = λ e. absurd (false≢true (sym e))

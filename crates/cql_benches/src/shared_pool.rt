@@ -237,17 +237,13 @@ impl<R: Wait + Clock, O: Operator> Borrower<'_, R, O> {
 
 impl<'a, R: Wait + Clock, O: Operator> Lender<O> for Borrower<'a, R, O> {
     fn lend(&mut self, _alloc: Global, pin: &Pin) -> Option<Warm<O>> {
-        let lent = self.shared.pool.lock(self.rt).take(pin);
-        match lent {
-            Some(bench) => {
-                self.begin(bench.bench.cancellation());
-                Some(bench)
-            }
-            None => {
-                self.begin(&self.own);
-                None
-            }
-        }
+        let bench = self.shared.pool.lock(self.rt).take(pin)?;
+        self.begin(bench.bench.cancellation());
+        Some(bench)
+    }
+
+    fn lend_none(&mut self) {
+        self.begin(&self.own);
     }
 
     // The slot is left before another thread may borrow the bench.

@@ -127,20 +127,25 @@ impl Pin {
         self.from
     }
 
-    // Whether its plan tells what comes into one window and leaves it, row for row: then no bench is
-    // needed, nor anything of an earlier answer.
+    // Whether its plan tells what comes into one window and leaves it, row for row: then nothing of an
+    // earlier answer is needed.
     pub(crate) fn is_passing(&self) -> bool
         ensures { IsTrue result → IsPlain self.now.plan × (self.now.plan.output ≢ Rstream) }
     {
         !matches!(self.plan.output(), OutputKind::Rstream) && self.plan.is_plain()
     }
 
-    // Whether it asks for no instant: then no bench is needed either.
+    // Whether it asks for no instant.
     pub(crate) fn asks_nothing(&self) -> bool
         ensures nothing { IsTrue result → self.now.from ≡ self.now.next }
         ensures some { result ≡ false → self.now.from < self.now.next }
     {
         self.from == self.next
+    }
+
+    // Whether a bench answers it that may go on: where something is asked that no window tells as it is.
+    pub(crate) fn needs_bench(&self) -> bool {
+        !self.asks_nothing() && !self.is_passing()
     }
 
     // Whether a cursor is from the first instant on, up to behind the last.

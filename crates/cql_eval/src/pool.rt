@@ -88,7 +88,7 @@ impl<O: Operator> Pool<O> {
     pub fn take(&mut self, pin: &Pin) -> Option<Warm<O>>
         ensures { IfSome result (IsWarm O.model_of) }
     {
-        if pin.asks_nothing() || pin.is_passing() {
+        if !pin.needs_bench() {
             return None;
         }
         if let Some(bench) = self.take_of(pin.key()) {
@@ -231,6 +231,9 @@ pub trait Lender<O: Operator>: Drop {
     fn lend(&mut self, alloc: Global, pin: &Pin) -> Option<Warm<O>>
         ensures { IfSome result (IsWarm O.model_of) };
 
+    /// An answer begins for which none is lent.
+    fn lend_none(&mut self);
+
     /// Takes back a bench that was lent. It lets go of what others keep that were used before it, as far
     /// as that wants the room; and of what the bench keeps where there is no room for it, or another one
     /// stands for its query: then of nothing that others keep.
@@ -245,6 +248,8 @@ impl<O: Operator> Lender<O> for Pool<O> {
     fn lend(&mut self, _alloc: Global, pin: &Pin) -> Option<Warm<O>> {
         self.take(pin)
     }
+
+    fn lend_none(&mut self) {}
 
     fn take_back(&mut self, alloc: Global, bench: Warm<O>)
         requires { IsWarm O.model_of bench }
@@ -306,20 +311,45 @@ impl<O: Operator, L: Lender<O>> Pooled<O, L> {
         Pooled { cold, lender }
     }
 
+    // The blocks of a pin by the bench that starts anew, or why there are none.
+    fn reply_anew(&mut self, alloc: Global, pin: Arc<Pin>) -> Result<Answer, Unanswered>
+        requires { IsBench O.model_of self.old.cold }
+        ensures ready { IsBench O.model_of self.new.cold }
+        ensures pin { IfOk result (λ a. a.pin ≡ arc_value pin) }
+    {
+        self.lender.lend_none();
+        let answered = answer_shared(alloc, &mut self.cold, pin);
+        told(answered, self.cold.cancellation().is_set())
+    }
+
+    // The blocks of a pin by a bench that is lent, or why there are none. It stands apart since the room
+    // of a bench is set to zero at each call.
+    #[inline(never)]
+    fn reply_lent(&mut self, alloc: Global, pin: Arc<Pin>) -> Result<Answer, Unanswered>
+        requires { IsBench O.model_of self.old.cold }
+        ensures ready { IsBench O.model_of self.new.cold }
+        ensures pin { IfOk result (λ a. a.pin ≡ arc_value pin) }
+    {
+        let Some(mut bench) = self.lender.lend(alloc, &pin) else {
+            return self.reply_anew(alloc, pin);
+        };
+        let answered = bench.answer_shared(alloc, pin);
+        let is_given_up = bench.bench.cancellation().is_set();
+        self.lender.take_back(alloc, bench);
+        told(answered, is_given_up)
+    }
+
     // The blocks of a pin, or why there are none.
     fn try_reply(&mut self, alloc: Global, pin: Arc<Pin>) -> Result<Answer, Unanswered>
         requires { IsBench O.model_of self.old.cold }
         ensures ready { IsBench O.model_of self.new.cold }
         ensures pin { IfOk result (λ a. a.pin ≡ arc_value pin) }
     {
-        let Some(mut bench) = self.lender.lend(alloc, &pin) else {
-            let answered = answer_shared(alloc, &mut self.cold, pin);
-            return told(answered, self.cold.cancellation().is_set());
-        };
-        let answered = bench.answer_shared(alloc, pin);
-        let is_given_up = bench.bench.cancellation().is_set();
-        self.lender.take_back(alloc, bench);
-        told(answered, is_given_up)
+        if pin.needs_bench() {
+            self.reply_lent(alloc, pin)
+        } else {
+            self.reply_anew(alloc, pin)
+        }
     }
 }
 

@@ -39,7 +39,7 @@ module _ (adds : IsAddsLaw) (shape : Shape) (rows : Projected) (c : Change) (has
   pub some_lacking : f c.row ≡ None → c.plus ≡ false → 1 ≤ rows.lacking
   some_lacking none minus = omega (arith, counted_as false None minus none)
 
-  module _ (after : Projected) (log : after.log ≡ logged c rows.log) (made : AreMade shape.items after.made.items) where
+  module _ (after : Projected) (log : after.log ≡ logged c rows.log) (made : AreMade shape.items after.made.rows.items) where
     keeps : (o : Option (List Value)) → f c.row ≡ o → after.untold.items ≡ rows.untold.items ++ with_change c.plus o [] → after.lacking ≡ many (logged c rows.log) → KeepsRows shape after
     keeps o is untold lacking =
         let adding = adds rows.log c has.is_log can in

@@ -28,7 +28,7 @@ pub record KeepsRows (shape : Shape) (rows : Projected) : Type 0 where
   pub columns : AreChangesOf shape.columns rows.log.untold
   pub untold : rows.untold.items ≡ turned_changes (items_on shape.items) rows.log.untold
   pub lacking : rows.lacking ≡ how_many (lacks shape.items) (logged_bag rows.log)
-  pub made : AreMade shape.items rows.made.items
+  pub made : AreMade shape.items rows.made.rows.items
 
 -- a shape without groups
 abbrev pub is_plain : Node → Bool

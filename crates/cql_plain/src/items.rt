@@ -4,13 +4,12 @@ ghost use Rattle.cql_value.specs.declared.value.Value.{Value as CqlValue};
 ghost use Rattle.cql_algebra.specs.Shape.{item_value, items_on};
 ghost use Rattle.cql_plain.specs.Made.{AreMade};
 
-use crate::made::{Made, keep, taken};
+use crate::made::{Made, MadeRows};
 use cql_algebra::{evaluate, number_of};
 use cql_bag::Change;
 use cql_plan::{Expr, Item};
 use cql_value::{Row, Value};
 use std::alloc::{AllocError, Global};
-use std::collections::VecDeque;
 
 // The item on the row; an aggregate has none.
 fn item_on(alloc: Global, item: &Item, row: &[Value]) -> Result<Option<Value>, AllocError>
@@ -79,12 +78,12 @@ pub(crate) fn turn_by(
     alloc: Global,
     items: &[Item],
     change: &Change,
-    made: &mut VecDeque<Made>,
+    made: &mut MadeRows,
 ) -> Result<Turned, AllocError>
-    requires { AreMade items.now made.old.items }
+    requires { AreMade items.now made.old.rows.items }
     ensures of { IfOk result (λ t. t.of ≡ change.now.row) }
     ensures row { IfOk result (λ t. t.row ≡ items_on items.now change.now.row) }
-    ensures made { OnOk result (AreMade items.now made.new.items) }
+    ensures made { OnOk result (AreMade items.now made.new.rows.items) }
 {
     let of = &change.row;
     if are_columns(items, of.values()) {
@@ -94,7 +93,7 @@ pub(crate) fn turn_by(
         });
     }
     if !change.plus {
-        if let Some(Made { came, row }) = taken(made, of) {
+        if let Some(Made { came, row }) = made.take(of) {
             return Ok(Turned {
                 of: came,
                 row: Some(row),
@@ -103,7 +102,7 @@ pub(crate) fn turn_by(
     }
     let row = computed(alloc, items, of.values())?;
     if let (true, Some(row)) = (change.plus, &row) {
-        keep(made, of, row)?;
+        made.keep(of, row)?;
     }
     Ok(Turned {
         of: of.share()?,

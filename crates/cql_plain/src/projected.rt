@@ -11,14 +11,13 @@ ghost use Rattle.cql_plain.specs.Shaped.{KeepsRows, TellsShape, FailsToShape};
 
 use crate::items::{Turned, turn_by};
 use crate::log::{Log, adds_law, tells_law};
-use crate::made::Made;
+use crate::made::MadeRows;
 use cql_algebra::law::item_types_law;
 use cql_bag::Change;
 use cql_bag::law::{put_all_counts, same_counts, take_counts};
 use cql_ops::OpError;
 use cql_plan::{Fault, Shape};
 use std::alloc::{AllocError, Global};
-use std::collections::VecDeque;
 
 /// The changes of the port, what the items make of those that are not told, and on how many of the
 /// port's rows some item has no value; beside them what the items made of rows that came.
@@ -26,7 +25,7 @@ pub(crate) struct Projected {
     pub log: Log,
     pub untold: Vec<Change>,
     pub lacking: u64,
-    pub made: VecDeque<Made>,
+    pub made: MadeRows,
 }
 
 impl Drop for Projected {
@@ -52,13 +51,13 @@ impl Projected {
         ensures log { result.log ≡ record { told = []; untold = [] } }
         ensures untold { result.untold.items ≡ [] }
         ensures lacking { result.lacking ≡ 0 }
-        ensures made { result.made.items ≡ [] }
+        ensures made { result.made.rows.items ≡ [] }
     {
         Projected {
             log: Log::new(alloc),
             untold: Vec::new(alloc),
             lacking: 0,
-            made: VecDeque::new(alloc),
+            made: MadeRows::new(alloc),
         }
     }
 
@@ -78,7 +77,7 @@ impl Projected {
             None if plus => self.lacking = one_more(self.lacking)?,
             None => self.lacking -= 1,
         }
-        self.log.push(Change { plus, row: of })
+        self.log.push(alloc, Change { plus, row: of })
     }
 
     /// `Overflow` where an item is outside i64 on some row of the port; else none.

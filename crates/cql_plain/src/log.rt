@@ -139,6 +139,14 @@ impl Log {
         self.changes = room;
     }
 
+    /// Tells its changes, and lets go of them.
+    pub fn pass(&mut self, alloc: Global)
+        ensures { self.new ≡ told_all self.old }
+    {
+        self.told = self.changes.len();
+        self.forget(alloc);
+    }
+
     /// The changes that were not told, in order. Now all are told.
     pub fn tell(&mut self) -> &[Change]
         ensures* all { sem 𝓛 (Rests the_row self.entry (λ new. new ≡ told_all self.old)) }

@@ -96,7 +96,12 @@ impl Projected {
 
     /// Tells what the items made of the changes since it last told any, or `Overflow` where an item
     /// is outside i64 on some row of the port.
-    pub fn tell(&mut self, shape: &Shape, out: &mut Vec<Change>) -> Result<(), OpError>
+    pub fn tell(
+        &mut self,
+        alloc: Global,
+        shape: &Shape,
+        out: &mut Vec<Change>,
+    ) -> Result<(), OpError>
         requires { KeepsRows shape.now self.old }
         ensures told { OnOk result (TellsShape shape.now (logged_bag self.old.log) (told_image (items_on shape.now.items) self.old.log) (told_image (items_on shape.now.items) self.new.log) out.old.items out.new.items) }
         ensures log { OnOk result (self.new.log ≡ told_all self.old.log) }
@@ -113,7 +118,7 @@ impl Projected {
             return Err(OpError::Overflow);
         }
         out.append(&mut self.untold)?;
-        self.log.tell();
+        self.log.pass(alloc);
         Ok(())
     }
 }

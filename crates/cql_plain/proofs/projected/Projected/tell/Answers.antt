@@ -16,7 +16,7 @@ returns-clause-told c =
     let f = items_on shape.items in
     let none : rows.lacking ≡ 0 = omega arith in
     let told = rows_told c.same_counts.ensures c.put_all_counts.ensures c.take_counts.ensures shape rows c.requires c.tells_law.ensures c.item_types_law.ensures c.args.out.now.items c.append.new.self.items none c.in_ok-append.ensures.items in
-    subst (λ l. TellsShape shape (logged_bag rows.log) (told_image f rows.log) (told_image f l) c.args.out.now.items c.append.new.self.items) (sym c.tell.follows.holds-at-none) told
+    subst (λ l. TellsShape shape (logged_bag rows.log) (told_image f rows.log) (told_image f l) c.args.out.now.items c.append.new.self.items) (sym c.pass.ensures) told
 
 pub returns-clause-keeps : goal.returns-clause-keeps
 returns-clause-keeps c = grind (arith, common_steps)

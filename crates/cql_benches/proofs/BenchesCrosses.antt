@@ -9,7 +9,7 @@ use Rattle.std.proofs.alloc.Global.TheSendSync as heap
 use Rattle.std.proofs.Crossing.{crosses}
 use Rattle.std.below.std_heap.proofs.GlobalAllocator.TheSendSync as frees
 use Rattle.lru.proofs.cache.LruCache.TheSendSync as lru
-use Rattle.cql_ops.proofs.bench.BenchOf.TheSendSync as bench
+use Rattle.cql_ops.proofs.bench.BlockOf.TheSendSync as block
 use Rattle.cql_ops.proofs.cancellation.Cancellation.TheSendSync as cancellation
 use Rattle.cql_ops.specs.contracts.bench.BenchOf as bench_type
 use Rattle.cql_ops.specs.declared.operator.Operator.{Ghosts as OperatorGhosts}
@@ -46,16 +46,15 @@ answers_sync = search (crosses, sendable, desk_row_send) depth 30
 pub answers_row_sync : IsSync answers.the_row
 answers_row_sync = search (sendable, answers_sync) depth 20
 
-module _ (O : RattleType) where
-  pub bench_send : IsSend O → IsSend (bench_type.the_row O)
-  bench_send s = search (sendable, bench.the_field_send) depth 20
-
-  pub warm_send : IsSend O → IsSend (warm.the_row O)
-  warm_send s = search (sendable, bench.the_field_send, vec.the_send, heap.the_send, frees.the_frees, kept_send) depth 20
-
 module _ (O : RattleType) (g : OperatorGhosts O.Denot) where
+  pub bench_send : IsSend O → IsSend (bench_type.the_row O g)
+  bench_send s = search (crosses, sendable, block.the_field_send, cancellation.the_field_send) depth 20
+
+  pub warm_send : IsSend O → IsSend (warm.the_row O g)
+  warm_send s = let b = bench_send s in search (crosses, sendable, vec.the_send, heap.the_send, frees.the_frees, kept_send) depth 20
+
   pub pool_send : IsSend O → IsSend (pool.the_row O g)
-  pool_send s = let w = warm_send O s in search (crosses, sendable, vec.the_send, lru.the_send, heap.the_send, heap.the_sync, frees.the_frees) depth 30
+  pool_send s = let w = warm_send s in search (crosses, sendable, vec.the_send, lru.the_send, heap.the_send, heap.the_sync, frees.the_frees) depth 30
 
   pub pool_sync : IsSend O → IsSync (shared_pool.the_row O g)
   pool_sync s = let p = pool_send s in search (sendable, mutex.the_sync, answers_sync) depth 20
@@ -64,5 +63,5 @@ module _ (a : NamedLft) (R O : RattleType) (g : OperatorGhosts O.Denot) where
   pub borrower_send : IsSync R → IsSend O → IsSend (borrower.the_row a R O g)
   borrower_send r s = let p = pool_sync O g s in search (sendable, cancellation.the_field_send) depth 20
 
-  pub borrowing_send : IsSync R → IsSend O → IsSend (pooled.the_row O (borrower.the_row a R O g))
-  borrowing_send r s = let w = borrower_send r s in search (sendable, bench.the_field_send) depth 20
+  pub borrowing_send : IsSync R → IsSend O → IsSend (pooled.the_row O (borrower.the_row a R O g) g)
+  borrowing_send r s = let b = bench_send O g s in let w = borrower_send r s in search sendable depth 20

@@ -1,7 +1,4 @@
 // Benches that go on, which all threads borrow.
-ghost use Rattle.std.specs.Prelude.{All, IfOk, IfSome};
-ghost use Rattle.cql_ops.specs.Bench.{IsBench};
-ghost use Rattle.cql_eval.specs.Warm.{IsWarm};
 
 use crate::answers::Answers;
 use cql_core::{BenchOf, Lender, Operator, Pin, Pool, Pooled, Warm};
@@ -58,9 +55,7 @@ impl<O: Operator> SharedPool<O> {
         benches: Vec<BenchOf<O>>,
         answers: Answers,
         rooms: Rooms,
-    ) -> Result<SharedPool<O>, AllocError>
-        requires { All (IsBench O.model_of) benches.items }
-    {
+    ) -> Result<SharedPool<O>, AllocError> {
         let count = benches.len();
         let benches = with_flags(alloc, benches, rooms.answer)?;
         let pool = Pool::new(alloc, benches, rooms.warm)?;
@@ -91,32 +86,23 @@ impl<O: Operator> SharedPool<O> {
     }
 
     // Takes out a bench that keeps something, and that nobody used since then or whose query is gone.
-    fn take_unused<R: Wait>(&self, rt: &R, since: u64) -> Option<Warm<O>>
-        ensures { IfSome result (IsWarm O.model_of) }
-    {
+    fn take_unused<R: Wait>(&self, rt: &R, since: u64) -> Option<Warm<O>> {
         self.pool.lock(rt).take_unused(since)
     }
 
     // Takes out the bench that was used longest ago, where there is no room for so many bytes more.
-    fn take_excess<R: Wait>(&self, rt: &R, weight: u64) -> Option<Warm<O>>
-        ensures { IfSome result (IsWarm O.model_of) }
-    {
+    fn take_excess<R: Wait>(&self, rt: &R, weight: u64) -> Option<Warm<O>> {
         self.pool.lock(rt).take_excess(weight)
     }
 
     // Puts a bench back, or gives it back where there is no room for what it keeps, or no place for it.
-    fn put<R: Wait + Clock>(&self, rt: &R, bench: Warm<O>) -> Option<Warm<O>>
-        requires { IsWarm O.model_of bench }
-        ensures { IfSome result (IsWarm O.model_of) }
-    {
+    fn put<R: Wait + Clock>(&self, rt: &R, bench: Warm<O>) -> Option<Warm<O>> {
         let now = self.seconds(rt);
         self.pool.lock(rt).put(bench, now)
     }
 
     // Puts a bench back that keeps nothing any more, which is let go of outside the lock.
-    fn put_cleared<R: Wait + Clock>(&self, rt: &R, bench: Warm<O>)
-        requires { IsWarm O.model_of bench }
-    {
+    fn put_cleared<R: Wait + Clock>(&self, rt: &R, bench: Warm<O>) {
         let mut bench = bench;
         bench.clear(self.alloc);
         let _ = self.put(rt, bench);
@@ -134,7 +120,7 @@ impl<O: Operator> SharedPool<O> {
             return;
         }
         for _ in 0..self.count {
-            let Some(other) = self.take_excess(rt, bench.weight) else {
+            let Some(other) = self.take_excess(rt, bench.weight()) else {
                 break;
             };
             self.put_cleared(rt, other);
@@ -143,9 +129,7 @@ impl<O: Operator> SharedPool<O> {
 
     // Puts a bench back. Others let go of what they keep, where there is no room for it; and it does so
     // itself where others took that room meanwhile, or another one stands for its query.
-    fn put_back<R: Wait + Clock>(&self, rt: &R, bench: Warm<O>)
-        requires { IsWarm O.model_of bench }
-    {
+    fn put_back<R: Wait + Clock>(&self, rt: &R, bench: Warm<O>) {
         self.make_room(rt, &bench);
         if let Some(bench) = self.put(rt, bench) {
             self.put_cleared(rt, bench);
@@ -189,10 +173,7 @@ fn with_flags<O: Operator>(
     alloc: Global,
     benches: Vec<BenchOf<O>>,
     room: u64,
-) -> Result<Vec<BenchOf<O>>, AllocError>
-    requires { All (IsBench O.model_of) benches.items }
-    ensures { IfOk result (λ v. All (IsBench O.model_of) v.items) }
-{
+) -> Result<Vec<BenchOf<O>>, AllocError> {
     let mut all = Vec::with_capacity(alloc, benches.len())?;
     for bench in benches {
         let one = with_flag(alloc, bench, room)?;
@@ -206,10 +187,7 @@ fn with_flag<O: Operator>(
     alloc: Global,
     bench: BenchOf<O>,
     room: u64,
-) -> Result<BenchOf<O>, AllocError>
-    requires { IsBench O.model_of bench }
-    ensures { IfOk result (IsBench O.model_of) }
-{
+) -> Result<BenchOf<O>, AllocError> {
     let mut bench = bench;
     bench.bound(room);
     bench.heed(Cancellation::new(alloc)?)?;
@@ -235,10 +213,10 @@ impl<R: Wait + Clock, O: Operator> Borrower<'_, R, O> {
     }
 }
 
-impl<'a, R: Wait + Clock, O: Operator> Lender<O> for Borrower<'a, R, O> {
+impl<'a, R: Wait + Clock, O: Operator> Lender<Warm<O>> for Borrower<'a, R, O> {
     fn lend(&mut self, _alloc: Global, pin: &Pin) -> Option<Warm<O>> {
         let bench = self.shared.pool.lock(self.rt).take(pin)?;
-        self.begin(bench.bench.cancellation());
+        self.begin(bench.cancellation());
         Some(bench)
     }
 
@@ -247,9 +225,7 @@ impl<'a, R: Wait + Clock, O: Operator> Lender<O> for Borrower<'a, R, O> {
     }
 
     // The slot is left before another thread may borrow the bench.
-    fn take_back(&mut self, _alloc: Global, bench: Warm<O>)
-        requires { IsWarm O.model_of bench }
-    {
+    fn take_back(&mut self, _alloc: Global, bench: Warm<O>) {
         self.shared.answers.end(self.rt, self.thread);
         self.shared.put_back(self.rt, bench);
     }
@@ -273,8 +249,6 @@ pub fn borrowing<'a, R, O>(
 where
     R: Wait + Clock,
     O: Operator,
-    requires { IsBench O.model_of own }
-    ensures { IfOk result (λ p. IsBench O.model_of p.cold) }
 {
     let bench = with_flag(alloc, own, shared.room)?;
     let own = bench.cancellation().share()?;

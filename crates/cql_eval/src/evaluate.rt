@@ -3,7 +3,6 @@ ghost use Rattle.std.specs.Prelude.{◌≡◌, ◌↔◌, ◌⊎◌, ◌≤◌, 
 ghost use Rattle.std.specs.Arc.{arc_value};
 ghost use Rattle.std.specs.List.{All, Contains};
 ghost use Rattle.cql_bag.specs.Bag.{Counts};
-ghost use Rattle.cql_ops.specs.Bench.{IsBench, bench_model};
 ghost use Rattle.cql_algebra.specs.Runs.{StandFor};
 ghost use Rattle.cql_plan.specs.declared.plan.OutputKind.TheVariants.{Rstream};
 ghost use Rattle.cql_eval.specs.Answer.{IsAnswer, rows_in};
@@ -37,9 +36,7 @@ pub fn answer<O: Operator>(
     bench: &mut BenchOf<O>,
     pin: Pin,
 ) -> Result<Answer, AllocError>
-    requires { IsBench O.model_of bench.old }
-    ensures bench { IsBench O.model_of bench.new }
-    ensures pin { IfOk result (λ a. a.pin ≡ pin) }
+    ensures { IfOk result (λ a. a.pin ≡ pin) }
 {
     let pin = Arc::new(alloc, pin)?;
     answer_shared(alloc, bench, pin)
@@ -51,9 +48,7 @@ pub(crate) fn answer_shared<O: Operator>(
     bench: &mut BenchOf<O>,
     pin: Arc<Pin>,
 ) -> Result<Answer, AllocError>
-    requires { IsBench O.model_of bench.old }
-    ensures bench { IsBench O.model_of bench.new }
-    ensures pin { IfOk result (λ a. a.pin ≡ arc_value pin) }
+    ensures { IfOk result (λ a. a.pin ≡ arc_value pin) }
 {
     bench.cancellation().clear();
     if pin.asks_nothing() {
@@ -88,12 +83,10 @@ pub(crate) fn evaluate<O: Operator>(
     pin: &Pin,
     kept: Option<LastAnswer>,
 ) -> Result<(Vec<Block>, u64, bool, Option<LastTold>), AllocError>
-    requires bench { IsBench O.model_of bench.old }
     requires asked { pin.now.from < pin.now.next }
-    requires kept { IfSome kept (λ k. StandsBehind k (bench_model O.model_of bench.old)) }
-    ensures bench { IsBench O.model_of bench.new }
+    requires kept { IfSome kept (λ k. StandsBehind k bench.old) }
     ensures answer { IfOk result (λ r. IsAnswer (record { pin = pin.now; blocks = r.0.items; turns = r.1 })) }
-    ensures kept { IfOk result (λ r. IfSome r.3 (λ last. IsKept pin.now last (bench_model O.model_of bench.new))) }
+    ensures kept { IfOk result (λ r. IfSome r.3 (λ last. IsKept pin.now last bench.new)) }
 {
     let end = pin.next();
     let mut runs = Runs::new(alloc, pin.from());
@@ -229,11 +222,9 @@ fn change<'a, O: Operator>(
     rows: &mut Room,
     until: u64,
 ) -> Result<(), AllocError>
-    requires bench { IsBench O.model_of bench.old }
-    requires come { HasCome pin.now runs.old.next runs.old shown.old.walks.items shown.old.last (bench_model O.model_of bench.old) }
+    requires come { HasCome pin.now runs.old.next runs.old shown.old.walks.items shown.old.last bench.old }
     requires still { IsStill pin.now (runs.old.next + 1) until }
-    ensures bench { IsBench O.model_of bench.new }
-    ensures come { OnOk result (HasCome pin.now until runs.new shown.new.walks.items shown.new.last (bench_model O.model_of bench.new)) }
+    ensures { OnOk result (HasCome pin.now until runs.new shown.new.walks.items shown.new.last bench.new) }
 {
     let at = runs.next();
     let walks = &mut shown.walks;
@@ -255,13 +246,11 @@ fn begin<'a, O: Operator>(
     rows: &mut Room,
     until: u64,
 ) -> Result<(WalkState<'a>, bool), AllocError>
-    requires bench { IsBench O.model_of bench.old }
-    requires kept { IfSome kept (λ k. StandsBehind k (bench_model O.model_of bench.old)) }
+    requires kept { IfSome kept (λ k. StandsBehind k bench.old) }
     requires next { runs.old.next ≡ pin.now.from }
     requires still { IsStill pin.now (first_change pin.now) until }
     requires stand { StandFor (output_at pin.now) pin.now.from runs.old }
-    ensures bench { IsBench O.model_of bench.new }
-    ensures come { IfOk result (λ r. HasCome pin.now until runs.new r.0.walks.items r.0.last (bench_model O.model_of bench.new)) }
+    ensures { IfOk result (λ r. HasCome pin.now until runs.new r.0.walks.items r.0.last bench.new) }
 {
     if let Some(kept) = kept {
         if let Some(resumed) = resume(alloc, bench, pin, kept)? {

@@ -1,9 +1,6 @@
 // Benches of which each goes on with the query that it answered last.
-ghost use Rattle.std.specs.Prelude.{◌≡◌, None, IfOk, IfSome};
+ghost use Rattle.std.specs.Prelude.{◌≡◌, None, IfOk};
 ghost use Rattle.std.specs.Arc.{arc_value};
-ghost use Rattle.std.specs.List.{All};
-ghost use Rattle.cql_ops.specs.Bench.{IsBench};
-ghost use Rattle.cql_eval.specs.Warm.{IsWarm};
 
 use crate::answered::Answer;
 use crate::evaluate::answer_shared;
@@ -46,25 +43,22 @@ impl<O: Operator> Model for Pool<O> {
     ghost use Rattle.cql_plan.specs.contracts.condition.Condition as condition;
     ghost use Rattle.std.specs.Coded.{codes};
     ghost use Rattle.std.specs.Prelude.{List};
-    ghost use Rattle.cql_eval.specs.declared.warm.Warm.{Warm};
-    ghost use Rattle.cql_eval.specs.Warm.{IsWarm};
+    ghost use Rattle.cql_eval.specs.Warm.{WarmModel};
     ghost use Rattle.cql_eval.specs.Pool.{all_of, AreWithin};
 
-    ghost Value = { List (Warm O) };
+    ghost Value = { List WarmModel };
 
     ghost coded = { Prim.hlevel (codes, expr.the_row.coded, condition.the_row.coded) };
 
     ghost view = { λ p. all_of p.spare.items p.kept };
 
-    ghost invariant = { λ p. AreWithin (IsWarm O.model_of) p.spare.items p.kept p.left p.room };
+    ghost invariant = { λ p. AreWithin p.spare.items p.kept p.left p.room };
 }
 
 impl<O: Operator> Pool<O> {
     /// A pool of these benches, of which none stands for a query. Those that nobody has taken out keep
     /// no more than so many bytes together.
-    pub fn new(alloc: Global, benches: Vec<BenchOf<O>>, room: u64) -> Result<Pool<O>, AllocError>
-        requires { All (IsBench O.model_of) benches.items }
-    {
+    pub fn new(alloc: Global, benches: Vec<BenchOf<O>>, room: u64) -> Result<Pool<O>, AllocError> {
         let Some(many) = NonZeroUsize::new(benches.len().max(1)) else {
             return Err(AllocError);
         };
@@ -85,9 +79,7 @@ impl<O: Operator> Pool<O> {
     /// again has no more than it needs; else one that stands for no query, or the one that was put back
     /// before all others, which then goes on with none. None where all are taken out, and where the pin
     /// needs none: what is kept for others stays.
-    pub fn take(&mut self, pin: &Pin) -> Option<Warm<O>>
-        ensures { IfSome result (IsWarm O.model_of) }
-    {
+    pub fn take(&mut self, pin: &Pin) -> Option<Warm<O>> {
         if !pin.needs_bench() {
             return None;
         }
@@ -95,14 +87,12 @@ impl<O: Operator> Pool<O> {
             return Some(bench);
         }
         let mut bench = self.take_other()?;
-        bench.kept = None;
+        bench.forget();
         Some(bench)
     }
 
     // Takes out one that stands for no query, or the one that was put back before all others.
-    fn take_other(&mut self) -> Option<Warm<O>>
-        ensures { IfSome result (IsWarm O.model_of) }
-    {
+    fn take_other(&mut self) -> Option<Warm<O>> {
         match self.spare.pop() {
             Some(bench) => Some(bench),
             None => self.take_last(),
@@ -110,20 +100,16 @@ impl<O: Operator> Pool<O> {
     }
 
     // Takes out the bench that stands for the query of a key.
-    fn take_of(&mut self, key: QueryKey) -> Option<Warm<O>>
-        ensures { IfSome result (IsWarm O.model_of) }
-    {
+    fn take_of(&mut self, key: QueryKey) -> Option<Warm<O>> {
         let bench = self.kept.pop(&key)?;
-        self.left = self.left.saturating_add(bench.weight);
+        self.left = self.left.saturating_add(bench.weight());
         Some(bench)
     }
 
     // Takes out the bench that was put back before all others of those that stand for queries.
-    fn take_last(&mut self) -> Option<Warm<O>>
-        ensures { IfSome result (IsWarm O.model_of) }
-    {
+    fn take_last(&mut self) -> Option<Warm<O>> {
         let (_key, last) = self.kept.pop_lru()?;
-        self.left = self.left.saturating_add(last.weight);
+        self.left = self.left.saturating_add(last.weight());
         Some(last)
     }
 
@@ -149,18 +135,14 @@ impl<O: Operator> Pool<O> {
     /// Takes out a bench that stands for a query and was put back before the time, in seconds, or whose
     /// query is gone: the one that was put back before all others, or else the first of those, for which
     /// all that stand for a query are looked at.
-    pub fn take_unused(&mut self, since: u64) -> Option<Warm<O>>
-        ensures { IfSome result (IsWarm O.model_of) }
-    {
+    pub fn take_unused(&mut self, since: u64) -> Option<Warm<O>> {
         let key = self.unused(since)?;
         self.take_of(key)
     }
 
     /// Takes out a bench that keeps something, the one that was put back before all others, where those
     /// that are there leave no room for so many bytes more. None where all of them left none.
-    pub fn take_excess(&mut self, weight: u64) -> Option<Warm<O>>
-        ensures { IfSome result (IsWarm O.model_of) }
-    {
+    pub fn take_excess(&mut self, weight: u64) -> Option<Warm<O>> {
         if weight <= self.left || weight > self.room {
             return None;
         }
@@ -179,11 +161,9 @@ impl<O: Operator> Pool<O> {
     /// Puts back a bench that was taken out, at the time, in seconds; or gives it back where there is no
     /// room for what it keeps, or no place for it. For one that keeps nothing there is room.
     pub fn put(&mut self, bench: Warm<O>, now: u64) -> Option<Warm<O>>
-        requires { IsWarm O.model_of bench }
-        ensures warm { IfSome result (IsWarm O.model_of) }
-        ensures empty { bench.weight ≡ 0 → result ≡ None }
+        ensures { bench.weight ≡ 0 → result ≡ None }
     {
-        if bench.weight == 0 {
+        if bench.weight() == 0 {
             // there was room for all of them from the start
             let _ = self.spare.push(bench);
             return None;
@@ -191,14 +171,14 @@ impl<O: Operator> Pool<O> {
         let Some(key) = bench.key() else {
             return Some(bench);
         };
-        let Some(left) = self.left.checked_sub(bench.weight) else {
+        let Some(left) = self.left.checked_sub(bench.weight()) else {
             return Some(bench);
         };
         if self.kept.contains(&key) {
             return Some(bench);
         }
         let mut bench = bench;
-        bench.used = now;
+        bench.used_at(now);
         match self.kept.put(key, bench) {
             Ok(_none) => {
                 self.left = left;
@@ -215,7 +195,7 @@ impl<O: Operator> Pool<O> {
             return;
         }
         for _ in 0..self.kept.len() {
-            let Some(mut other) = self.take_excess(bench.weight) else {
+            let Some(mut other) = self.take_excess(bench.weight()) else {
                 break;
             };
             other.clear(alloc);
@@ -224,12 +204,11 @@ impl<O: Operator> Pool<O> {
     }
 }
 
-/// Who lends benches that go on, each to one answer at a time.
-pub trait Lender<O: Operator>: Drop {
+/// Who lends benches that go on, as `Warm`, each to one answer at a time.
+pub trait Lender<B: Drop>: Drop {
     /// The bench that stands for the pin's query, or one that then stands for none. None where all are
     /// lent, or where none is needed.
-    fn lend(&mut self, alloc: Global, pin: &Pin) -> Option<Warm<O>>
-        ensures { IfSome result (IsWarm O.model_of) };
+    fn lend(&mut self, alloc: Global, pin: &Pin) -> Option<B>;
 
     /// An answer begins for which none is lent.
     fn lend_none(&mut self);
@@ -237,23 +216,20 @@ pub trait Lender<O: Operator>: Drop {
     /// Takes back a bench that was lent. It lets go of what others keep that were used before it, as far
     /// as that wants the room; and of what the bench keeps where there is no room for it, or another one
     /// stands for its query: then of nothing that others keep.
-    fn take_back(&mut self, alloc: Global, bench: Warm<O>)
-        requires { IsWarm O.model_of bench };
+    fn take_back(&mut self, alloc: Global, bench: B);
 
     /// Lets go of what all benches keep that aren't lent. Whether there was anything.
     fn let_go(&mut self, alloc: Global) -> bool;
 }
 
-impl<O: Operator> Lender<O> for Pool<O> {
+impl<O: Operator> Lender<Warm<O>> for Pool<O> {
     fn lend(&mut self, _alloc: Global, pin: &Pin) -> Option<Warm<O>> {
         self.take(pin)
     }
 
     fn lend_none(&mut self) {}
 
-    fn take_back(&mut self, alloc: Global, bench: Warm<O>)
-        requires { IsWarm O.model_of bench }
-    {
+    fn take_back(&mut self, alloc: Global, bench: Warm<O>) {
         self.make_room(alloc, &bench);
         if let Some(mut heavy) = self.put(bench, 0) {
             heavy.clear(alloc);
@@ -302,20 +278,15 @@ pub struct Pooled<O: Operator, L> {
     lender: L,
 }
 
-impl<O: Operator, L: Lender<O>> Pooled<O, L> {
+impl<O: Operator, L: Lender<Warm<O>>> Pooled<O, L> {
     /// Of a bench and a lender, which may have none.
-    pub fn new(cold: BenchOf<O>, lender: L) -> Pooled<O, L>
-        requires { IsBench O.model_of cold }
-        ensures { IsBench O.model_of result.cold }
-    {
+    pub fn new(cold: BenchOf<O>, lender: L) -> Pooled<O, L> {
         Pooled { cold, lender }
     }
 
     // The blocks of a pin by the bench that starts anew, or why there are none.
     fn reply_anew(&mut self, alloc: Global, pin: Arc<Pin>) -> Result<Answer, Unanswered>
-        requires { IsBench O.model_of self.old.cold }
-        ensures ready { IsBench O.model_of self.new.cold }
-        ensures pin { IfOk result (λ a. a.pin ≡ arc_value pin) }
+        ensures { IfOk result (λ a. a.pin ≡ arc_value pin) }
     {
         self.lender.lend_none();
         let answered = answer_shared(alloc, &mut self.cold, pin);
@@ -326,24 +297,20 @@ impl<O: Operator, L: Lender<O>> Pooled<O, L> {
     // of a bench is set to zero at each call.
     #[inline(never)]
     fn reply_lent(&mut self, alloc: Global, pin: Arc<Pin>) -> Result<Answer, Unanswered>
-        requires { IsBench O.model_of self.old.cold }
-        ensures ready { IsBench O.model_of self.new.cold }
-        ensures pin { IfOk result (λ a. a.pin ≡ arc_value pin) }
+        ensures { IfOk result (λ a. a.pin ≡ arc_value pin) }
     {
         let Some(mut bench) = self.lender.lend(alloc, &pin) else {
             return self.reply_anew(alloc, pin);
         };
         let answered = bench.answer_shared(alloc, pin);
-        let is_given_up = bench.bench.cancellation().is_set();
+        let is_given_up = bench.cancellation().is_set();
         self.lender.take_back(alloc, bench);
         told(answered, is_given_up)
     }
 
     // The blocks of a pin, or why there are none.
     fn try_reply(&mut self, alloc: Global, pin: Arc<Pin>) -> Result<Answer, Unanswered>
-        requires { IsBench O.model_of self.old.cold }
-        ensures ready { IsBench O.model_of self.new.cold }
-        ensures pin { IfOk result (λ a. a.pin ≡ arc_value pin) }
+        ensures { IfOk result (λ a. a.pin ≡ arc_value pin) }
     {
         if pin.needs_bench() {
             self.reply_lent(alloc, pin)
@@ -353,9 +320,7 @@ impl<O: Operator, L: Lender<O>> Pooled<O, L> {
     }
 }
 
-impl<O: Operator, L: Lender<O>> Evaluator for Pooled<O, L> {
-    ghost is_ready = { λ p. IsBench O.model_of p.cold };
-
+impl<O: Operator, L: Lender<Warm<O>>> Evaluator for Pooled<O, L> {
     /// Where a request for memory is refused, what other benches keep is let go, and the pin is answered
     /// once more.
     fn reply(&mut self, alloc: Global, pin: Pin) -> Result<Answer, AllocError> {

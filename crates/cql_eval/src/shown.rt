@@ -4,7 +4,6 @@ ghost use Rattle.std.specs.List.Sorted.{IsSorted};
 ghost use Rattle.cql_value.specs.Order.{row_cmp};
 ghost use Rattle.cql_bag.specs.Bag.{Counts, IsBag, bag_of};
 ghost use Rattle.cql_bag.specs.Changes.{changed_by, CanChangeBy};
-ghost use Rattle.cql_ops.specs.Bench.{IsBench, bench_model};
 ghost use Rattle.cql_ops.specs.Running.{told_of};
 ghost use Rattle.cql_algebra.specs.declared.relation.Relation.{Relation as relation};
 ghost use Rattle.cql_algebra.specs.declared.relation.Relation.TheVariants.{Bag as bag};
@@ -63,9 +62,7 @@ pub(crate) fn nothing_shown<'a, O: Operator>(
     bench: &mut BenchOf<O>,
     pin: &'a Pin,
 ) -> Result<WalkState<'a>, AllocError>
-    requires { IsBench O.model_of bench.old }
-    ensures bench { IsBench O.model_of bench.new }
-    ensures shown { IfOk result (λ s. (c : ℕ) → c ≤ pin.now.base → IsShown pin.now c s.walks.items s.last (bench_model O.model_of bench.new)) }
+    ensures { IfOk result (λ s. (c : ℕ) → c ≤ pin.now.base → IsShown pin.now c s.walks.items s.last bench.new) }
 {
     bench.clear(alloc);
     bench.start(pin.plan(), pin.limit())?;
@@ -253,13 +250,11 @@ pub(crate) fn ask<O: Operator>(
     cursor: u64,
     changes: &mut Vec<Change>,
 ) -> Result<Outcome, AllocError>
-    requires bench { IsBench O.model_of bench.old }
     requires based { pin.now.base < cursor }
-    requires ready { IsReady pin.now cursor walks.now (bench_model O.model_of bench.old) }
+    requires ready { IsReady pin.now cursor walks.now bench.old }
     requires bags { bags_held walks.now ≡ bags_at cursor (projected_windows pin.now) }
-    ensures bench { IsBench O.model_of bench.new }
-    ensures ready { OnOk result (IsReady pin.now cursor walks.now (bench_model O.model_of bench.new)) }
-    ensures leads { IfOk result (λ r. LeadsTo r changes.new.items (told_of pin.now.plan (bench_model O.model_of bench.old)) (told_of pin.now.plan (bench_model O.model_of bench.new)) (relation_at pin.now cursor)) }
+    ensures ready { OnOk result (IsReady pin.now cursor walks.now bench.new) }
+    ensures leads { IfOk result (λ r. LeadsTo r changes.new.items (told_of pin.now.plan bench.old) (told_of pin.now.plan bench.new) (relation_at pin.now cursor)) }
 {
     let outcome = bench.emit(pin.plan(), pin.limit(), changes)?;
     match outcome {
@@ -281,12 +276,10 @@ pub(crate) fn reach<'a, O: Operator>(
     cursor: u64,
     changes: &mut Vec<Change>,
 ) -> Result<Outcome, AllocError>
-    requires bench { IsBench O.model_of bench.old }
     requires based { pin.now.base < cursor }
-    requires ready { IsReady pin.now cursor walks.old.items (bench_model O.model_of bench.old) }
-    ensures bench { IsBench O.model_of bench.new }
-    ensures ready { OnOk result (IsReady pin.now cursor walks.new.items (bench_model O.model_of bench.new)) }
-    ensures leads { IfOk result (λ r. LeadsTo r changes.new.items (told_of pin.now.plan (bench_model O.model_of bench.old)) (told_of pin.now.plan (bench_model O.model_of bench.new)) (relation_at pin.now cursor)) }
+    requires ready { IsReady pin.now cursor walks.old.items bench.old }
+    ensures ready { OnOk result (IsReady pin.now cursor walks.new.items bench.new) }
+    ensures leads { IfOk result (λ r. LeadsTo r changes.new.items (told_of pin.now.plan bench.old) (told_of pin.now.plan bench.new) (relation_at pin.now cursor)) }
 {
     advance(alloc, bench, pin, walks, cursor)?;
     ask(alloc, bench, pin, walks, cursor, changes)
@@ -301,11 +294,9 @@ pub(crate) fn open<'a, O: Operator>(
     shown: &mut WalkState<'a>,
     cursor: u64,
 ) -> Result<(), AllocError>
-    requires bench { IsBench O.model_of bench.old }
     requires based { pin.now.base < cursor }
-    requires shown { (c : ℕ) × (c ≤ cursor) × IsShown pin.now c shown.old.walks.items shown.old.last (bench_model O.model_of bench.old) }
-    ensures bench { IsBench O.model_of bench.new }
-    ensures shown { OnOk result (IsShown pin.now cursor shown.new.walks.items shown.new.last (bench_model O.model_of bench.new)) }
+    requires shown { (c : ℕ) × (c ≤ cursor) × IsShown pin.now c shown.old.walks.items shown.old.last bench.old }
+    ensures { OnOk result (IsShown pin.now cursor shown.new.walks.items shown.new.last bench.new) }
 {
     let mut rows = Room::new(alloc);
     let walks = &mut shown.walks;

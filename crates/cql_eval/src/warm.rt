@@ -1,10 +1,10 @@
 // A bench that goes on from its last answer.
 ghost use Rattle.std.specs.Prelude.{◌≡◌, ◌<◌, IfOk, IfSome, IsTrue, map};
 ghost use Rattle.std.specs.Arc.{arc_value};
-ghost use Rattle.cql_ops.specs.Bench.{BenchModel, IsBench, bench_model};
+ghost use Rattle.cql_ops.specs.Bench.{BenchModel};
 ghost use Rattle.cql_eval.specs.Projected.{reached, started, projected_windows};
 ghost use Rattle.cql_eval.specs.Shown.{bags_held, IsShown};
-ghost use Rattle.cql_eval.specs.Warm.{IsKept, StandsBehind, Meets, IsWarm};
+ghost use Rattle.cql_eval.specs.Warm.{IsKept, StandsBehind, Meets};
 
 use crate::answered::Answer;
 use crate::evaluate::{evaluate, nothing_asked};
@@ -14,7 +14,7 @@ use crate::query_key::QueryKey;
 use crate::shown::{LastTold, WalkState, ask, keep};
 use crate::walks::{advance, retreat};
 use cql_bag::Room;
-use cql_ops::{BenchOf, Operator, PLACE};
+use cql_ops::{BenchOf, Cancellation, Operator, PLACE};
 use cql_value::Items;
 use cql_window::Window;
 use std::alloc::{AllocError, Global};
@@ -84,19 +84,19 @@ impl LastAnswer {
 /// A bench that answers pins in turn. Where a pin begins on the last one's way, that is where its
 /// windows hold at its first cursor what those of the last one held there, the bench goes on, taken
 /// back from the last one's end, unless that costs more than what the windows hold; else it is started
-/// anew. `new` makes one that `IsWarm`, and every call keeps that.
-pub struct Warm<O> {
-    pub bench: BenchOf<O>,
-    pub kept: Option<LastAnswer>,
-    /// About how many bytes it keeps since it was put back last.
-    pub weight: u64,
+/// anew. Contracts see what it keeps of its last answer, which the bench stands for, and what that weighs.
+pub struct Warm<O: Operator> {
+    bench: BenchOf<O>,
+    kept: Option<LastAnswer>,
+    // About how many bytes it keeps since it was put back last.
+    weight: u64,
     // No more rows were pushed since the operators were started.
     pushed: usize,
     // When it was put back, in seconds.
-    pub(crate) used: u64,
+    used: u64,
 }
 
-impl<O: Drop> Drop for Warm<O> {
+impl<O: Operator> Drop for Warm<O> {
     fn drop(self) {
         let Warm {
             bench: _,
@@ -108,12 +108,25 @@ impl<O: Drop> Drop for Warm<O> {
     }
 }
 
+impl<O: Operator> Model for Warm<O> {
+    ghost use Rattle.cql_plan.specs.contracts.expr.Expr as expr;
+    ghost use Rattle.cql_plan.specs.contracts.condition.Condition as condition;
+    ghost use Rattle.std.specs.Coded.{codes};
+    ghost use Rattle.std.specs.Prelude.{IfSome};
+    ghost use Rattle.cql_eval.specs.Warm.{WarmModel, StandsBehind};
+
+    ghost Value = { WarmModel };
+
+    ghost coded = { Prim.hlevel (codes, expr.the_row.coded, condition.the_row.coded) };
+
+    ghost view = { λ w. record { bench = w.bench; kept = w.kept; weight = w.weight } };
+
+    ghost invariant = { λ w. IfSome w.kept (λ k. StandsBehind k w.bench) };
+}
+
 impl<O: Operator> Warm<O> {
     /// A bench that stands for nothing.
-    pub fn new(bench: BenchOf<O>) -> Warm<O>
-        requires { IsBench O.model_of bench }
-        ensures { IsWarm O.model_of result }
-    {
+    pub fn new(bench: BenchOf<O>) -> Warm<O> {
         Warm {
             bench,
             kept: None,
@@ -121,6 +134,35 @@ impl<O: Operator> Warm<O> {
             pushed: 0,
             used: 0,
         }
+    }
+
+    /// About how many bytes it keeps since it was put back last.
+    pub fn weight(&self) -> u64
+        ensures { result ≡ self.now.weight }
+    {
+        self.weight
+    }
+
+    /// Whether it stands for what is kept of an answer.
+    pub fn goes_on(&self) -> bool {
+        self.kept.is_some()
+    }
+
+    /// The flag by which an answer of its is given up.
+    pub fn cancellation(&self) -> &Cancellation {
+        self.bench.cancellation()
+    }
+
+    // It is put back at a time, in seconds.
+    pub(crate) fn used_at(&mut self, now: u64)
+        ensures { self.new ≡ self.old }
+    {
+        self.used = now;
+    }
+
+    // What is kept is forgotten, and the operators hold on to their rows: it stands for nothing.
+    pub(crate) fn forget(&mut self) {
+        self.kept = None;
     }
 
     // The key of the query that it stands for, if it stands for a pin: benches of pins of no query have one key.
@@ -142,10 +184,7 @@ impl<O: Operator> Warm<O> {
     }
 
     /// Lets go of what is kept, and of the rows that the operators hold.
-    pub fn clear(&mut self, alloc: Global)
-        requires { IsWarm O.model_of self.old }
-        ensures { IsWarm O.model_of self.new }
-    {
+    pub fn clear(&mut self, alloc: Global) {
         self.kept = None;
         self.weight = 0;
         self.bench.clear(alloc);
@@ -154,9 +193,7 @@ impl<O: Operator> Warm<O> {
     // Keeps what stands for the relation at the end of a pin, where that isn't too large; else the
     // operators let go of their rows.
     fn keep(&mut self, alloc: Global, pin: &Arc<Pin>, last: Option<LastTold>)
-        requires bench { IsBench O.model_of self.old.bench }
-        requires kept { IfSome last (λ r. IsKept (arc_value pin.now) r (bench_model O.model_of self.old.bench)) }
-        ensures { IsWarm O.model_of self.new }
+        requires { IfSome last (λ r. IsKept (arc_value pin.now) r self.old.bench) }
     {
         self.kept = kept_of(pin, last, self.pushed, self.bench.is_past());
         let Some(kept) = &self.kept else {
@@ -173,9 +210,7 @@ impl<O: Operator> Warm<O> {
     /// The blocks of a pin, as `answer` gives them. Without memory the pin is given up, and what was
     /// kept too; and so they are where the bench's flag is set meanwhile, as by `answer`.
     pub fn answer(&mut self, alloc: Global, pin: Pin) -> Result<Answer, AllocError>
-        requires { IsWarm O.model_of self.old }
-        ensures warm { IsWarm O.model_of self.new }
-        ensures pin { IfOk result (λ a. a.pin ≡ pin) }
+        ensures { IfOk result (λ a. a.pin ≡ pin) }
     {
         let pin = Arc::new(alloc, pin)?;
         self.answer_shared(alloc, pin)
@@ -187,9 +222,7 @@ impl<O: Operator> Warm<O> {
         alloc: Global,
         pin: Arc<Pin>,
     ) -> Result<Answer, AllocError>
-        requires { IsWarm O.model_of self.old }
-        ensures warm { IsWarm O.model_of self.new }
-        ensures pin { IfOk result (λ a. a.pin ≡ arc_value pin) }
+        ensures { IfOk result (λ a. a.pin ≡ arc_value pin) }
     {
         self.bench.cancellation().clear();
         let asked: &Pin = &pin;
@@ -322,12 +355,10 @@ fn go_back<O: Operator>(
     walks: &[ProjectedWalk<'_>],
     kept: LastAnswer,
 ) -> Result<LastTold, AllocError>
-    requires bench { IsBench O.model_of bench.old }
-    requires kept { StandsBehind kept (bench_model O.model_of bench.old) }
+    requires kept { StandsBehind kept bench.old }
     requires meets { Meets kept pin.now }
     requires walks { walks.now ≡ map (reached pin.now.from) (projected_windows pin.now) }
-    ensures bench { IsBench O.model_of bench.new }
-    ensures shown { IfOk result (λ last. IsShown pin.now pin.now.from walks.now last (bench_model O.model_of bench.new)) }
+    ensures { IfOk result (λ last. IsShown pin.now pin.now.from walks.now last bench.new) }
 {
     let begins = pin.from();
     let before = kept.pin();
@@ -350,11 +381,9 @@ pub(crate) fn resume<'a, O: Operator>(
     pin: &'a Pin,
     kept: LastAnswer,
 ) -> Result<Option<WalkState<'a>>, AllocError>
-    requires bench { IsBench O.model_of bench.old }
-    requires kept { StandsBehind kept (bench_model O.model_of bench.old) }
-    ensures bench { IsBench O.model_of bench.new }
+    requires kept { StandsBehind kept bench.old }
     ensures based { IfOk result (λ r. IfSome r (λ s. pin.now.base < pin.now.from)) }
-    ensures shown { IfOk result (λ r. IfSome r (λ s. IsShown pin.now pin.now.from s.walks.items s.last (bench_model O.model_of bench.new))) }
+    ensures shown { IfOk result (λ r. IfSome r (λ s. IsShown pin.now pin.now.from s.walks.items s.last bench.new)) }
 {
     let Some(walks) = walks_from(alloc, pin, &kept)? else {
         return Ok(None);
@@ -371,11 +400,9 @@ pub(crate) fn remember<O: Operator>(
     pin: &Pin,
     shown: WalkState<'_>,
 ) -> Option<LastTold>
-    requires bench { IsBench O.model_of bench.old }
     requires based { pin.now.base < pin.now.next }
-    requires shown { IsShown pin.now pin.now.next shown.walks.items shown.last (bench_model O.model_of bench.old) }
-    ensures bench { IsBench O.model_of bench.new }
-    ensures kept { IfSome result (λ last. IsKept pin.now last (bench_model O.model_of bench.new)) }
+    requires shown { IsShown pin.now pin.now.next shown.walks.items shown.last bench.old }
+    ensures { IfSome result (λ last. IsKept pin.now last bench.new) }
 {
     let (mut walks, last) = shown.into_parts();
     match advance(alloc, bench, pin, &mut walks, pin.next()) {

@@ -1,7 +1,5 @@
 // Answers that another thread gives up: what is joined has 8,000,000,000 combinations of rows, and the
 // same bench answers the next pin.
-ghost use Rattle.cql_ops.specs.Bench.{IsBench};
-ghost use Rattle.cql_eval.specs.Warm.{IsWarm};
 
 use crate::made::{Unmade, many_table};
 use cql_core::{
@@ -99,10 +97,7 @@ fn give_up<R: Threads + Clock + Sync, O: Operator>(
     bench: Warm<O>,
     flag: &Cancellation,
     pin: Pin,
-) -> (Warm<O>, bool)
-    requires { IsWarm O.model_of bench }
-    ensures { IsWarm O.model_of result.0 }
-{
+) -> (Warm<O>, bool) {
     let done = AtomicBool::new(false);
     let told = &done;
     let (_, answered) = thread::join(
@@ -146,9 +141,7 @@ fn goes_on<R: Threads + Clock + Sync, O: Operator>(
     alloc: Global,
     bench: BenchOf<O>,
     text: &str,
-) -> Result<bool, Unmade>
-    requires { IsBench O.model_of bench }
-{
+) -> Result<bool, Unmade> {
     let (mut core, tenant) = core_of(alloc, text)?;
     let flag = Cancellation::new(alloc)?;
     let mut bench = bench;

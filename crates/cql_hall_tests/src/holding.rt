@@ -100,8 +100,6 @@ pub struct Looker<'a, C> {
 }
 
 impl<C: Clock> Evaluator for Looker<'_, C> {
-    ghost is_ready = { λ _. Unit {0} };
-
     fn reply(&mut self, _alloc: Global, _pin: Pin) -> Result<Answer, AllocError> {
         self.gate.look();
         Err(AllocError)

@@ -1,7 +1,6 @@
 // The operators of a bench whose joins and whose shapes are of any make, without a box.
 ghost use Rattle.std.specs.Prelude.{◌≡◌};
 ghost use Rattle.cql_plan.specs.declared.node.OperatorKind.TheVariants.{Join as join_kind, Shape as shape_kind};
-ghost use Rattle.cql_ops.specs.Bench.{IsBench};
 ghost use Rattle.cql_ops.specs.Mixed.{mixed_model};
 
 use crate::bench::{BenchOf, BlockOf};
@@ -10,7 +9,7 @@ use crate::distinct::DistinctOp;
 use crate::error::OpError;
 use crate::operator::Operator;
 use crate::set_operation::SetOperation;
-use crate::weight::{Load, Weight};
+use crate::weight::Weight;
 use cql_bag::Change;
 use cql_plan::{Fault, Node, OperatorKind};
 use std::alloc::Global;
@@ -117,24 +116,20 @@ pub fn mixed_bench<J: Operator, S: Operator>(
 ) -> BenchOf<Mixed<J, S>>
     requires joins { ((J.model_of joins.0).kind ≡ join_kind) × ((J.model_of joins.1).kind ≡ join_kind) }
     requires shapes { ((S.model_of shapes.0).kind ≡ shape_kind) × ((S.model_of shapes.1).kind ≡ shape_kind) }
-    ensures { IsBench (mixed_model J.model_of S.model_of) result }
 {
     let (left_join, right_join) = joins;
     let (left_shape, right_shape) = shapes;
-    BenchOf {
-        left: BlockOf {
+    BenchOf::of_blocks(
+        BlockOf {
             join: Mixed::Join(left_join),
             shape: Mixed::Shape(left_shape),
             distinct: Mixed::Distinct(DistinctOp::new(alloc)),
         },
-        right: BlockOf {
+        BlockOf {
             join: Mixed::Join(right_join),
             shape: Mixed::Shape(right_shape),
             distinct: Mixed::Distinct(DistinctOp::new(alloc)),
         },
-        set_op: Mixed::SetOp(SetOperation::new(alloc)),
-        cancellation: Cancellation::never(),
-        load: Load::none(),
-        room: u64::MAX,
-    }
+        Mixed::SetOp(SetOperation::new(alloc)),
+    )
 }

@@ -1,6 +1,4 @@
 // The bench of the plain operators.
-ghost use Rattle.cql_ops.specs.Bench.{IsBench};
-ghost use Rattle.cql_plain.specs.Plain.{plain_model};
 
 use crate::plain_join::PlainJoin;
 use crate::plain_shape::PlainShape;
@@ -11,9 +9,7 @@ use std::alloc::Global;
 pub type PlainOperator = Mixed<PlainJoin, PlainShape>;
 
 /// A bench of the plain operators. Takes no memory.
-pub fn plain_bench(alloc: Global) -> BenchOf<PlainOperator>
-    ensures { IsBench plain_model result }
-{
+pub fn plain_bench(alloc: Global) -> BenchOf<PlainOperator> {
     mixed_bench(
         alloc,
         (PlainJoin::new(alloc), PlainJoin::new(alloc)),

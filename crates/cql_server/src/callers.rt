@@ -1,6 +1,5 @@
 // Sessions of a listener's callers.
-ghost use Rattle.std.specs.Prelude.{◌≡◌, ◌⊎◌, All, IfErr, true, false, Err, is_some};
-ghost use Rattle.cql_ops.specs.Bench.{IsBench};
+ghost use Rattle.std.specs.Prelude.{◌≡◌, ◌⊎◌, IfErr, true, false, Err, is_some};
 ghost use Rattle.cql_server.specs.declared.failure.Failure.TheVariants as failure;
 ghost use Rattle.cql_server.specs.declared.journal_file.JournalFault.TheVariants as fault;
 
@@ -153,7 +152,6 @@ pub(crate) struct WorkerSetup<'a, O: Operator> {
     pub sessions: u16,
     /// Whether each call is kept.
     pub is_kept: bool,
-    ghost benches: { All (IsBench O.model_of) own.items },
 }
 
 impl<O: Operator> Drop for WorkerSetup<'_, O> {
@@ -213,7 +211,6 @@ impl<O: Operator> WorkerSetup<'_, O> {
             thread::scope_env(),
             rt,
             move |scope| -> Result<(), Failure>
-                requires { All (IsBench O.model_of) own.items }
                 ensures { IfErr result (λ f. f ≡ failure.NoMemory) }
             {
                 start_sweeper(scope, service, pool, stopped)?;

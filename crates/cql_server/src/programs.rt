@@ -1,6 +1,4 @@
 // What `cqld` does.
-ghost use Rattle.std.specs.Prelude.{All, IfOk};
-ghost use Rattle.cql_ops.specs.Bench.{IsBench};
 
 use crate::failure::Failure;
 use crate::files::callers_with_files;
@@ -162,10 +160,7 @@ fn benches_by<O: Operator>(
     config: &Config,
     own: Vec<Vec<O>>,
     shared: Vec<Vec<O>>,
-) -> Result<Benches<O>, AllocError>
-    ensures own { IfOk result (λ b. All (IsBench O.model_of) b.own.items) }
-    ensures shared { IfOk result (λ b. All (IsBench O.model_of) b.shared.items) }
-{
+) -> Result<Benches<O>, AllocError> {
     let own = benches_of(alloc, own)?;
     let shared = benches_of(alloc, shared)?;
     let rooms = Rooms {

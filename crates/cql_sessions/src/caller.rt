@@ -151,8 +151,6 @@ impl Caller {
         buffer: &mut ReplyBuffer,
         writer: &mut Watched<W>,
     ) -> Result<(), WriteFault>
-        requires bench { E.is_ready bench.old }
-        ensures bench { E.is_ready bench.new }
         ensures kept { self.new.is_kept ≡ self.old.is_kept }
         ensures calls { Calls (Ok (arc_value request.entry.prepared)) (of_caller self.old) (of_caller self.new) }
         ensures told { self.old.taking.held ≡ None → TellsLine self.old.is_kept (of_caller self.old) (of_caller self.new) (Ok (arc_value request.entry.prepared))
@@ -199,8 +197,6 @@ impl Caller {
         scratch: &mut Scratch,
         writer: &mut Watched<W>,
     ) -> Result<LineOutcome, WriteFault>
-        requires bench { E.is_ready bench.old }
-        ensures bench { E.is_ready bench.new }
         ensures kept { self.new.is_kept ≡ self.old.is_kept }
         ensures calls { Calls (request_of (text_of line.entry)) (of_caller self.old) (of_caller self.new) }
         ensures waits { IfOk result (λ outcome. (may_fetch ≡ true → outcome ≢ LineOutcome.Held)

@@ -154,9 +154,7 @@ impl SessionState {
         scratch: &mut Scratch,
         writer: &mut Watched<W>,
     ) -> Result<Progress, ScriptError>
-        requires bench { E.is_ready bench.old }
-        requires going { self.old.is_held ≡ false }
-        ensures bench { E.is_ready bench.new }
+        requires { self.old.is_held ≡ false }
         ensures same { (self.new.is_kept ≡ self.old.is_kept) × (self.new.is_ended ≡ self.old.is_ended) }
         ensures going { may_fetch ≡ true → OnOk result (self.new.is_held ≡ false) }
         ensures seats { IfOk result (λ step. self.old.is_over ≡ false → (came : List ℕ)
@@ -190,8 +188,6 @@ impl SessionState {
         scratch: &mut Scratch,
         writer: &mut Watched<W>,
     ) -> Result<LineOutcome, ScriptError>
-        requires bench { E.is_ready bench.old }
-        ensures bench { E.is_ready bench.new }
         ensures same { (self.new.is_kept ≡ self.old.is_kept) × (self.new.is_ended ≡ self.old.is_ended) }
         ensures going { may_fetch ≡ true → OnOk result (self.new.is_held ≡ false) }
         ensures seats { OnOk result (self.old.is_over ≡ false → (came : List ℕ)
@@ -234,8 +230,6 @@ impl SessionState {
         scratch: &mut Scratch,
         writer: &mut Watched<W>,
     ) -> Result<LineOutcome, ScriptError>
-        requires bench { E.is_ready bench.old }
-        ensures bench { E.is_ready bench.new }
         ensures same { (self.new.is_kept ≡ self.old.is_kept) × (self.new.intake ≡ self.old.intake) × (self.new.is_held ≡ self.old.is_held) × (self.new.is_ended ≡ self.old.is_ended) }
         ensures answers { IfOk result (λ outcome. (may_fetch ≡ true → outcome ≢ LineOutcome.Held)
             × (outcome ≡ LineOutcome.Held → account_of self.new.caller ≡ account_of self.old.caller)

@@ -57,8 +57,6 @@ where
     J: Journal,
     E: Evaluator,
     G: Gate,
-    requires bench { E.is_ready bench.old }
-    ensures bench { E.is_ready bench.new }
     ensures counted { J.keeps ≡ true → IfSome result.seat (λ s. placed result.receipts.items ≡ s.count) }
     ensures whose { IfSome result.seat (λ s. All (λ r. r.tenant ≡ s.tenant) result.receipts.items) }
     ensures bare { J.keeps ≡ false → result.receipts.items ≡ [] }
@@ -91,9 +89,7 @@ fn attend<H: Wait, C: Callable<H, G>, E: Evaluator, G: Gate, R: Read, W: Write>(
     reader: &mut Watched<R>,
     writer: &mut Watched<W>,
 ) -> Result<(), ScriptError>
-    requires bench { E.is_ready bench.old }
-    requires going { state.old.is_held ≡ false }
-    ensures bench { E.is_ready bench.new }
+    requires { state.old.is_held ≡ false }
     ensures kept { state.new.is_kept ≡ state.old.is_kept }
     ensures served { IsNew state.old → ServedOf service.now.table.now (R.remaining (inner_of reader.old)) (account_of state.new.caller) }
 {
@@ -119,10 +115,8 @@ fn read_once<H: Wait, C: Callable<H, G>, E: Evaluator, G: Gate, R: Read, W: Writ
     reader: &mut Watched<R>,
     writer: &mut Watched<W>,
 ) -> Result<(), ScriptError>
-    requires bench { E.is_ready bench.old }
     requires going { state.old.is_held ≡ false }
     requires room { 0 < vec_len buffers.old.chunk }
-    ensures bench { E.is_ready bench.new }
     ensures kept { state.new.is_kept ≡ state.old.is_kept }
     ensures going { OnOk result (state.new.is_held ≡ false) }
     ensures room { vec_len buffers.new.chunk ≡ vec_len buffers.old.chunk }
@@ -163,9 +157,7 @@ fn take_lines<H: Wait, C: Callable<H, G>, E: Evaluator, G: Gate, W: Write>(
     scratch: &mut Scratch,
     writer: &mut Watched<W>,
 ) -> Result<(), ScriptError>
-    requires bench { E.is_ready bench.old }
-    requires going { state.old.is_held ≡ false }
-    ensures bench { E.is_ready bench.new }
+    requires { state.old.is_held ≡ false }
     ensures same { (state.new.is_kept ≡ state.old.is_kept) × (state.new.is_ended ≡ state.old.is_ended) }
     ensures going { OnOk result (state.new.is_held ≡ false) }
     ensures served { state.old.is_ended ≡ false → (came : List ℕ) → HasReached service.now.table.now came state.old

@@ -1,5 +1,5 @@
 // Benches that no line can make.
-use cql_ops::{Bench, DistinctOp, Operator, SetOperation};
+use cql_ops::{BenchOf, DistinctOp, Operator, SetOperation};
 use cql_plain::{PlainJoin, PlainShape};
 use cql_plan::OperatorKind;
 use cql_plan::OperatorKind::{Distinct, Join, SetOp, Shape};
@@ -36,8 +36,8 @@ fn operators(alloc: Global, kinds: &[OperatorKind]) -> Result<Boxes, Fail> {
 }
 
 // Whether the operators are refused at that index, and given back in their order.
-fn is_no_bench(boxes: Boxes, kinds: &[OperatorKind], wrong: usize) -> bool {
-    let Err(found) = Bench::new(boxes) else {
+fn is_no_bench<O: Operator>(boxes: Vec<O>, kinds: &[OperatorKind], wrong: usize) -> bool {
+    let Err(found) = BenchOf::new(boxes) else {
         return false;
     };
     found.index == wrong

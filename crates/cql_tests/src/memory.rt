@@ -56,10 +56,7 @@ fn list_of<E: Evaluator>(
     core: &mut Core,
     bench: &mut E,
     by: TenantId,
-) -> Result<Reply, Unmade>
-    requires { E.is_ready bench.old }
-    ensures { E.is_ready bench.new }
-{
+) -> Result<Reply, Unmade> {
     let list = serve(alloc, core, bench, by, Command::List);
     if matches!(&list, Reply::Listing(_)) {
         Ok(list)
@@ -73,10 +70,7 @@ fn shown_of<E: Evaluator>(
     core: &mut Core,
     bench: &mut E,
     table: &TenantTable,
-) -> Result<Shown, Unmade>
-    requires { E.is_ready bench.old }
-    ensures { E.is_ready bench.new }
-{
+) -> Result<Shown, Unmade> {
     let a = table.find("a").ok_or(Unmade::Wrong)?;
     let b = table.find("b").ok_or(Unmade::Wrong)?;
     let held = (core.rows_held(a, "s"), core.rows_held(b, "t"));
@@ -112,10 +106,7 @@ fn is_served<E: Evaluator>(
     bench: &mut E,
     table: &TenantTable,
     call: &Call,
-) -> Result<bool, Unmade>
-    requires { E.is_ready bench.old }
-    ensures { E.is_ready bench.new }
-{
+) -> Result<bool, Unmade> {
     let (by, say, told, _) = *call;
     let by = table.find(by).ok_or(Unmade::Wrong)?;
     let before = match shown_of(alloc, core, bench, table) {
@@ -137,9 +128,7 @@ fn are_all_served<E: Evaluator>(
     alloc: Global,
     bench: &mut E,
     script: &Script,
-) -> Result<bool, Unmade>
-    requires { E.is_ready bench.old }
-{
+) -> Result<bool, Unmade> {
     let table = table_at_last(alloc, script)?;
     let owner = table.find("a").ok_or(Unmade::Wrong)?;
     let mut core = match core_of(alloc, script) {
@@ -176,10 +165,7 @@ fn replies_to<E: Evaluator>(
     bench: &mut E,
     script: &Script,
     without: Option<usize>,
-) -> Result<Vec<Reply>, Unmade>
-    requires { E.is_ready bench.old }
-    ensures { E.is_ready bench.new }
-{
+) -> Result<Vec<Reply>, Unmade> {
     let table = table_of(alloc, script)?;
     let commands = commands(alloc, &table, script, without)?;
     Ok(run(alloc, &table, commands, bench)?)
@@ -218,9 +204,7 @@ fn are_all_told(alloc: Global, script: &Script, replies: &[Reply]) -> Result<boo
 // Whether each command of a run is told what it is to be told, or one that there was no memory, and
 // the others what they are told in a run without it. The run is made once more where it had no memory
 // itself.
-fn is_run<E: Evaluator>(alloc: Global, bench: &mut E, script: &Script) -> Result<bool, Unmade>
-    requires { E.is_ready bench.old }
-{
+fn is_run<E: Evaluator>(alloc: Global, bench: &mut E, script: &Script) -> Result<bool, Unmade> {
     let replies = match replies_to(alloc, bench, script, None) {
         Ok(replies) => replies,
         Err(_why) => replies_to(alloc, bench, script, None)?,
@@ -244,9 +228,7 @@ fn is_right<E: Evaluator>(
     bench: &mut E,
     sent: Sent,
     script: &Script,
-) -> Result<bool, Unmade>
-    requires { E.is_ready bench.old }
-{
+) -> Result<bool, Unmade> {
     match sent {
         Sent::OneByOne => are_all_served(alloc, bench, script),
         Sent::AsAList => is_run(alloc, bench, script),

@@ -145,7 +145,7 @@ fn kept_of<O: Operator>(alloc: Global, pool: &mut Pool<O>, number: usize) -> Res
     };
     let is_answered = bench.answer(alloc, pin).is_ok();
     drop(query);
-    let weight = bench.weight;
+    let weight = bench.weight();
     if is_answered && pool.put(bench, 1).is_none() {
         return Ok(weight);
     }
@@ -156,7 +156,7 @@ fn kept_of<O: Operator>(alloc: Global, pool: &mut Pool<O>, number: usize) -> Res
 fn goes_on<O: Operator>(alloc: Global, pool: &mut Pool<O>, number: usize) -> Result<bool, Fail> {
     let (pin, query) = pin_of(alloc, number)?;
     let goes_on = match pool.take(&pin) {
-        Some(bench) => bench.kept.is_some(),
+        Some(bench) => bench.goes_on(),
         None => false,
     };
     drop(query);

@@ -1,6 +1,5 @@
 // Runs each script that lies in the program's folder by benches of every make, which begin each answer
 // anew or go on with the last one, and tells where its replies aren't the expected ones.
-ghost use Rattle.cql_ops.specs.Bench.{IsBench};
 
 use cql_core::{Evaluator, Warm};
 use cql_groups::GroupShape;
@@ -13,9 +12,11 @@ use std::process::ExitCode;
 use std::{fs, io};
 
 // The replies to a script, or what keeps it from its end.
-fn replies<E: Evaluator>(alloc: Global, text: &[u8], bench: &mut E) -> Result<Vec<u8>, &'static str>
-    requires { E.is_ready bench.old }
-{
+fn replies<E: Evaluator>(
+    alloc: Global,
+    text: &[u8],
+    bench: &mut E,
+) -> Result<Vec<u8>, &'static str> {
     let mut reader = Watched::new(text);
     let mut writer = Watched::new(Vec::new(alloc));
     let told = program(alloc, &[], &mut reader, &mut writer, bench);
@@ -31,9 +32,7 @@ fn replies_by<O: Operator>(
     text: &[u8],
     goes_on: bool,
     bench: BenchOf<O>,
-) -> Result<Vec<u8>, &'static str>
-    requires { IsBench O.model_of bench }
-{
+) -> Result<Vec<u8>, &'static str> {
     if goes_on {
         replies(alloc, text, &mut Warm::new(bench))
     } else {

@@ -1,7 +1,7 @@
 // A bench lets go of what its operators hold.
 ghost use Rattle.std.specs.Prelude.{◌≡◌};
 ghost use Rattle.cql_plan.specs.Node.{kind_of_node};
-ghost use Rattle.cql_ops.specs.Bench.{AreKinds, IsBench, block_model};
+ghost use Rattle.cql_ops.specs.Bench.{AreKinds, block_model};
 
 use crate::bench::{BenchOf, BlockOf};
 use crate::operator::Operator;
@@ -57,10 +57,7 @@ impl<O: Operator> BlockOf<O> {
 impl<O: Operator> BenchOf<O> {
     /// Lets go of all that its operators hold, whatever plans they ran: each is started over a node
     /// without columns, for which the given ones take no memory.
-    pub fn clear(&mut self, alloc: Global)
-        requires { IsBench O.model_of self.old }
-        ensures { IsBench O.model_of self.new }
-    {
+    pub fn clear(&mut self, alloc: Global) {
         self.load = Load::none();
         self.left.clear(alloc);
         self.right.clear(alloc);

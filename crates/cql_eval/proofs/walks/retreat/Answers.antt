@@ -3,7 +3,7 @@ use Rattle.std.proofs.Common.{◌≡◌, ◌<◌, ◌++◌, [], length, drop, ma
 use Rattle.cql_bag.specs.Bag.{bag_of}
 use Rattle.cql_plan.specs.Ports.{ports}
 use Rattle.cql_algebra.specs.Ports.{port_of}
-use Rattle.cql_ops.specs.Bench.{BenchModel, bench_model}
+use Rattle.cql_ops.specs.Bench.{BenchModel}
 use Rattle.cql_ops.specs.OperatorModel.{columns_at}
 use Rattle.cql_ops.specs.Running.{contents_of}
 use Rattle.cql_eval.specs.Projected.{ProjectedWalkModel, projected_content, projected_windows, reached}
@@ -16,10 +16,9 @@ pub loop-walk-init : goal.loop-walk-init
 loop-walk-init g c =
     let p = c.args.pin.now in
     let all = map (reached c.args.cursor) (projected_windows p) in
-    let o : BenchModel = bench_model g.O.Operator.model_of c.args.bench.now in
+    let o : BenchModel = c.args.bench.now in
     let is : c.in_ok-walks.walks.items ≡ all = c.in_ok-walks.ensures in
     record {
-      bench = c.requires.bench;
       whole = subst (λ l. l ++ drop (length l) all ≡ all) (sym is) (whole_at_first all);
       ready = subst (λ l. IsReady p p.next (returning p.next all l) o) (sym is) (back_starts p c.args.cursor all o c.windows.ensures.pin.windows refl c.requires.runs c.requires.ended);
       told = refl;
@@ -29,7 +28,7 @@ pub retreat_one-requires-clause-input : goal.retreat_one-requires-clause-input
 retreat_one-requires-clause-input g c =
     let p = c.args.pin.now in
     let all = map (reached c.args.cursor) (projected_windows p) in
-    let o : BenchModel = bench_model g.O.Operator.model_of c.loop-walk.bench in
+    let o : BenchModel = c.loop-walk.bench in
     let ks = c.pop.new.self.items in
     let k : ProjectedWalkModel = c.in-Some.walk in
     let t : IsTurn p all ks k o = turn p c.args.cursor all ks k o c.windows.ensures.pin.windows c.requires.earlier refl
@@ -42,7 +41,7 @@ pub retreat_one-requires-clause-walk : goal.retreat_one-requires-clause-walk
 retreat_one-requires-clause-walk g c =
     let p = c.args.pin.now in
     let all = map (reached c.args.cursor) (projected_windows p) in
-    let o : BenchModel = bench_model g.O.Operator.model_of c.loop-walk.bench in
+    let o : BenchModel = c.loop-walk.bench in
     let ks = c.pop.new.self.items in
     let k : ProjectedWalkModel = c.in-Some.walk in
     let t : IsTurn p all ks k o = turn p c.args.cursor all ks k o c.windows.ensures.pin.windows c.requires.earlier refl
@@ -55,7 +54,7 @@ pub retreat_one-requires-clause-ended : goal.retreat_one-requires-clause-ended
 retreat_one-requires-clause-ended g c =
     let p = c.args.pin.now in
     let all = map (reached c.args.cursor) (projected_windows p) in
-    let o : BenchModel = bench_model g.O.Operator.model_of c.loop-walk.bench in
+    let o : BenchModel = c.loop-walk.bench in
     let ks = c.pop.new.self.items in
     let k : ProjectedWalkModel = c.in-Some.walk in
     let t : IsTurn p all ks k o = turn p c.args.cursor all ks k o c.windows.ensures.pin.windows c.requires.earlier refl
@@ -68,28 +67,27 @@ pub loop-walk-preserved : goal.loop-walk-preserved
 loop-walk-preserved g c =
     let p = c.args.pin.now in
     let all = map (reached c.args.cursor) (projected_windows p) in
-    let o : BenchModel = bench_model g.O.Operator.model_of c.loop-walk.bench in
-    let next : BenchModel = bench_model g.O.Operator.model_of c.retreat_one.new.bench in
+    let o : BenchModel = c.loop-walk.bench in
+    let next : BenchModel = c.retreat_one.new.bench in
     let ks = c.pop.new.self.items in
     let k : ProjectedWalkModel = c.in-Some.walk in
     let t : IsTurn p all ks k o = turn p c.args.cursor all ks k o c.windows.ensures.pin.windows c.requires.earlier refl
     (subst (λ l. l ++ drop (length l) all ≡ all) c.in-Some.ensures.items c.loop-walk.invariant.whole)
     (subst (λ l. IsReady p p.next (returning p.next all l) o) c.in-Some.ensures.items c.loop-walk.invariant.ready) in
     let size : c.len.result ≡ length ks = omega (arith, c.len.ensures, c.pop.new.self.ok) in
-    let pushed : HasPushed p (length ks) (bag_of (rows_of k.held)) o next = subst (λ n. HasPushed p n (bag_of (rows_of k.held)) o next) size c.in_ok-retreat_one.ensures.pushed in
+    let pushed : HasPushed p (length ks) (bag_of (rows_of k.held)) o next = subst (λ n. HasPushed p n (bag_of (rows_of k.held)) o next) size c.in_ok-retreat_one.ensures in
     record {
-      bench = c.in_ok-retreat_one.ensures.bench;
       whole = t.whole;
       ready = t.after next pushed;
       told = pushed.told ∙ c.loop-walk.invariant.told;
     }
 
-pub returns-clause-back : goal.returns-clause-back
-returns-clause-back g c =
+pub returns : goal.returns
+returns g c =
     let p = c.args.pin.now in
     let all = map (reached c.args.cursor) (projected_windows p) in
     let none : c.loop-walk.walks.items ≡ [] = no_length c.loop-walk.walks.items (omega (arith, c.in_default.ensures.cases.0, c.loop-walk.walks.ok)) in
-    all_back p c.args.cursor all c.loop-walk.walks.items (bench_model g.O.Operator.model_of c.args.bench.now) (bench_model g.O.Operator.model_of c.loop-walk.bench) refl none c.loop-walk.invariant.ready c.loop-walk.invariant.told
+    all_back p c.args.cursor all c.loop-walk.walks.items c.args.bench.now c.loop-walk.bench refl none c.loop-walk.invariant.ready c.loop-walk.invariant.told
 
 pub loop-walk-smaller : goal.loop-walk-smaller
 loop-walk-smaller g c = grind (arith, common_steps)

@@ -5,7 +5,7 @@ use Rattle.cql_plan.specs.Ports.{ports}
 use Rattle.cql_algebra.specs.Ports.{port_of}
 use Rattle.cql_bag.specs.Bag.{bag_of}
 use Rattle.cql_bag.specs.Changes.{changed_by, CanChangeBy}
-use Rattle.cql_ops.specs.Bench.{BenchModel, bench_model}
+use Rattle.cql_ops.specs.Bench.{BenchModel}
 use Rattle.cql_ops.specs.OperatorModel.{columns_at}
 use Rattle.cql_ops.specs.Running.{contents_of}
 use Rattle.cql_eval.specs.Pin.{AreOf}
@@ -24,7 +24,7 @@ push_rows-requires-clause-columns g c =
     subst (λ l. AreOf columns (projected_by k l)) (sym (left_is k c.in_ok-moved.moved c.deref.result.now c.rows-left.result c.deref.ensures.value c.rows-left.ensures)) has.left
 
 pub push_rows-requires-clause-there : goal.push_rows-requires-clause-there
-push_rows-requires-clause-there g c = can_come (projected_by c.advance.new.self c.rows-left.result) (port_of (contents_of c.args.pin.now.plan (bench_model g.O.Operator.model_of c.args.bench.now)) c.args.input)
+push_rows-requires-clause-there g c = can_come (projected_by c.advance.new.self c.rows-left.result) (port_of (contents_of c.args.pin.now.plan c.args.bench.now) c.args.input)
 
 pub push_rows-requires-2-clause-columns : goal.push_rows-requires-2-clause-columns
 push_rows-requires-2-clause-columns g c =
@@ -36,8 +36,8 @@ push_rows-requires-2-clause-columns g c =
 pub push_rows-requires-2-clause-there : goal.push_rows-requires-2-clause-there
 push_rows-requires-2-clause-there g c =
     let p = c.args.pin.now in
-    let o : BenchModel = bench_model g.O.Operator.model_of c.args.bench.now in
-    let mid : BenchModel = bench_model g.O.Operator.model_of c.push_rows.new.bench in
+    let o : BenchModel = c.args.bench.now in
+    let mid : BenchModel = c.push_rows.new.bench in
     let k : ProjectedWalkModel = c.advance.new.self in
     let m : Moved = c.in_ok-moved.moved in
     let back : Exchanged k.held (left_of k m) (came_of k m) c.args.walk.held
@@ -46,17 +46,17 @@ push_rows-requires-2-clause-there g c =
     let held : port_of (contents_of p.plan o) c.args.input ≡ bag_of (rows_of k.held) = c.requires.ended ∙ sym (ap (λ l. bag_of (rows_of l)) ends) in
     let gone = left_is k m c.deref.result.now c.rows-left.result c.deref.ensures.value c.rows-left.ensures in
     let here : port_of (contents_of p.plan mid) c.args.input ≡ changed_by (changes_of true (left_of k m)) (bag_of (rows_of k.held))
-    = port_after p c.args.input _ o mid c.requires.within c.in_ok-push_rows.ensures.pushed
+    = port_after p c.args.input _ o mid c.requires.within c.in_ok-push_rows.ensures
     ∙ (λ i. changed_by (changes_of true (projected_by k (gone i))) (held i)) in
     subst (λ l. CanChangeBy (changes_of false (projected_by k l)) (port_of (contents_of p.plan mid) c.args.input)) (sym c.rows-came.ensures)
     (subst (CanChangeBy (changes_of false (came_of k m))) (sym here) back.can)
 
-pub returns-clause-pushed : goal.returns-clause-pushed
-returns-clause-pushed g c =
+pub returns : goal.returns
+returns g c =
     let p = c.args.pin.now in
-    let o : BenchModel = bench_model g.O.Operator.model_of c.args.bench.now in
-    let mid : BenchModel = bench_model g.O.Operator.model_of c.push_rows.new.bench in
-    let after : BenchModel = bench_model g.O.Operator.model_of c.push_rows-2.new.bench in
+    let o : BenchModel = c.args.bench.now in
+    let mid : BenchModel = c.push_rows.new.bench in
+    let after : BenchModel = c.push_rows-2.new.bench in
     let k : ProjectedWalkModel = c.advance.new.self in
     let m : Moved = c.in_ok-moved.moved in
     let back : Exchanged k.held (left_of k m) (came_of k m) c.args.walk.held
@@ -65,21 +65,18 @@ returns-clause-pushed g c =
     let held : port_of (contents_of p.plan o) c.args.input ≡ bag_of (rows_of k.held) = c.requires.ended ∙ sym (ap (λ l. bag_of (rows_of l)) ends) in
     let gone = left_is k m c.deref.result.now c.rows-left.result c.deref.ensures.value c.rows-left.ensures in
     let here : port_of (contents_of p.plan mid) c.args.input ≡ changed_by (changes_of true (left_of k m)) (bag_of (rows_of k.held))
-    = port_after p c.args.input _ o mid c.requires.within c.in_ok-push_rows.ensures.pushed
+    = port_after p c.args.input _ o mid c.requires.within c.in_ok-push_rows.ensures
     ∙ (λ i. changed_by (changes_of true (projected_by k (gone i))) (held i)) in
     on_ok_weaker c.push_rows-2.result
-    (λ pushed. pushed_both p c.args.input _ _ (bag_of (rows_of c.args.walk.held)) o mid after c.in_ok-push_rows.ensures.pushed pushed
+    (λ pushed. pushed_both p c.args.input _ _ (bag_of (rows_of c.args.walk.held)) o mid after c.in_ok-push_rows.ensures pushed
     ((λ i. changed_by (changes_of false (projected_by k (c.rows-came.ensures i))) (here i)) ∙ back.done))
-    c.push_rows-2.ensures.pushed
+    c.push_rows-2.ensures
 
 pub push_rows-requires-2-clause-input : goal.push_rows-requires-2-clause-input
 push_rows-requires-2-clause-input g c = c.requires.input
 
 pub push_rows-requires-2-clause-within : goal.push_rows-requires-2-clause-within
-push_rows-requires-2-clause-within g c = within_after c.args.pin.now c.args.input _ (bench_model g.O.Operator.model_of c.args.bench.now) (bench_model g.O.Operator.model_of c.push_rows.new.bench) c.in_ok-push_rows.ensures.pushed c.requires.within
+push_rows-requires-2-clause-within g c = within_after c.args.pin.now c.args.input _ c.args.bench.now c.push_rows.new.bench c.in_ok-push_rows.ensures c.requires.within
 
 pub rows-came-requires : goal.rows-came-requires
 rows-came-requires g c = c.in_ok-moved.ensures.moved.came
-
-pub returns-clause-bench : goal.returns-clause-bench
-returns-clause-bench g c = c.push_rows-2.ensures.bench

@@ -1,5 +1,5 @@
 use Rattle.std.proofs.Common.{◌≡◌, sym, ap, subst, ◌∙◌, arith}
-use Rattle.cql_ops.specs.Bench.{BenchModel, bench_model}
+use Rattle.cql_ops.specs.Bench.{BenchModel}
 use Rattle.cql_ops.specs.Running.{told_of}
 use Rattle.cql_eval.specs.Pin.{PinModel}
 use Rattle.cql_eval.specs.Relation.{bags_at, relation_at}
@@ -9,12 +9,12 @@ use Rattle.cql_eval.proofs.Resumed.{resumed}
 use Rattle.cql_eval.proofs.Back.{met_bags, met_ready, met_stands}
 use Rattle.cql_eval.proofs.warm.go_back.Goals as goal
 
-pub returns-then-begins-next-clause-shown : goal.returns-then-begins-next-clause-shown
-returns-then-begins-next-clause-shown g c =
+pub returns-then-begins-next : goal.returns-then-begins-next
+returns-then-begins-next g c =
     let p : PinModel = c.args.kept.pin in
     let q : PinModel = c.args.pin.now in
     let ks = c.args.walks.now in
-    let o : BenchModel = bench_model g.O.Operator.model_of c.args.bench.now in
+    let o : BenchModel = c.args.bench.now in
     let meets = c.requires.meets in
     let ends : p.next ≡ q.from = omega (arith, c.if-begins-next.true, c.from-begins.ensures.value, c.next.ensures.value, ap (λ (r : PinModel). r.next) c.pin-before.ensures) in
     subst (λ l. IsShown q q.from ks l o) (sym c.into_last.ensures)
@@ -26,28 +26,28 @@ ask-requires-clause-ready g c =
     let p : PinModel = c.args.kept.pin in
     let q : PinModel = c.args.pin.now in
     let ks = c.args.walks.now in
-    let o : BenchModel = bench_model g.O.Operator.model_of c.args.bench.now in
-    let mid : BenchModel = bench_model g.O.Operator.model_of c.retreat.new.bench in
+    let o : BenchModel = c.args.bench.now in
+    let mid : BenchModel = c.retreat.new.bench in
     let back : IsBack p q.from o mid
-    = subst (λ r. IsBack r q.from o mid) c.pin-before.ensures (subst (λ n. IsBack c.pin-before.result.now n o mid) c.from-begins.ensures.value c.in_ok-retreat.ensures.back) in
+    = subst (λ r. IsBack r q.from o mid) c.pin-before.ensures (subst (λ n. IsBack c.pin-before.result.now n o mid) c.from-begins.ensures.value c.in_ok-retreat.ensures) in
     subst (λ n. IsReady q n ks mid) (sym c.from-begins.ensures.value) (met_ready c.args.kept q ks o mid c.requires.meets c.requires.walks c.from-begins.ensures.pin.windows back)
 
 pub ask-requires-clause-bags : goal.ask-requires-clause-bags
 ask-requires-clause-bags g c =
     let q : PinModel = c.args.pin.now in
-    let o : BenchModel = bench_model g.O.Operator.model_of c.args.bench.now in
+    let o : BenchModel = c.args.bench.now in
     met_bags c.args.kept q c.args.walks.now o o c.requires.meets c.requires.walks ∙ ap (λ n. bags_at n (projected_windows q)) (sym c.from-begins.ensures.value)
 
-pub returns-clause-shown : goal.returns-clause-shown
-returns-clause-shown g c =
+pub returns : goal.returns
+returns g c =
     let p : PinModel = c.args.kept.pin in
     let q : PinModel = c.args.pin.now in
     let ks = c.args.walks.now in
-    let o : BenchModel = bench_model g.O.Operator.model_of c.args.bench.now in
-    let mid : BenchModel = bench_model g.O.Operator.model_of c.retreat.new.bench in
-    let after : BenchModel = bench_model g.O.Operator.model_of c.ask.new.bench in
+    let o : BenchModel = c.args.bench.now in
+    let mid : BenchModel = c.retreat.new.bench in
+    let after : BenchModel = c.ask.new.bench in
     let back : IsBack p q.from o mid
-    = subst (λ r. IsBack r q.from o mid) c.pin-before.ensures (subst (λ n. IsBack c.pin-before.result.now n o mid) c.from-begins.ensures.value c.in_ok-retreat.ensures.back) in
+    = subst (λ r. IsBack r q.from o mid) c.pin-before.ensures (subst (λ n. IsBack c.pin-before.result.now n o mid) c.from-begins.ensures.value c.in_ok-retreat.ensures) in
     let kind : c.output.result ≡ q.plan.output = c.output.ensures ∙ ap (λ r. r.output) c.plan.ensures.value in
     let before = relation_at p p.next in
     let stands : StandsFor c.output.result c.into_last-last.result (told_of q.plan mid) before

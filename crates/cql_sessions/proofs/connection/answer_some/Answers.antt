@@ -5,11 +5,8 @@ use Rattle.cql_sessions.proofs.connection.answer_some.Goals as goal
 pub loop-line-preserved : goal.loop-line-preserved
 loop-line-preserved g c = grind (arith, common_steps)
 
-pub returns-then-ne-clause-bench : goal.returns-then-ne-clause-bench
-returns-then-ne-clause-bench g c = grind (arith, common_steps)
-
 pub overflow_add-used : goal.overflow_add-used
 overflow_add-used g c = grind (arith, common_steps)
 
-pub returns-then-ne-clause-within : goal.returns-then-ne-clause-within
-returns-then-ne-clause-within g c = grind (arith, common_steps)
+pub returns-then-ne : goal.returns-then-ne
+returns-then-ne g c = grind (arith, common_steps)

@@ -3,6 +3,5 @@ use Rattle.cql_sessions.proofs.connection.answer_some.Given as goal
 
 abbrev pub invariant-loop-line : goal.invariant-loop-line
 invariant-loop-line g l = record {
-  bench : g.E.Evaluator.is_ready l.bench;
   within : l.used ≤ length l.bytes;
 }

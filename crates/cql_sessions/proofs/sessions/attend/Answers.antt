@@ -5,9 +5,8 @@ use Rattle.cql_sessions.proofs.sessions.attend.Goals as goal
 
 pub loop-init : goal.loop-init
 loop-init g c = record {
-  bench = c.requires.bench;
   kept = refl;
-  going = c.requires.going;
+  going = c.requires;
   room = omega (arith, c.in_ok-buffers.ensures.room);
   so_far = λ new. begins c.args.service.now.table.now _ _ (record { caller = new.caller; line = c.in_ok-state.ensures; held = new.held; ended = new.ended; over = new.over });
 }
@@ -26,7 +25,6 @@ returns-then-state-clause-served g c = λ new.
 
 pub loop-preserved : goal.loop-preserved
 loop-preserved g c = record {
-  bench = c.in_ok-read_once.ensures.bench;
   kept = c.in_ok-read_once.ensures.kept ∙ c.loop.invariant.kept;
   going = c.in_ok-read_once.ensures.going;
   room = omega (arith, c.in_ok-read_once.ensures.room, c.loop.invariant.room);
@@ -50,9 +48,6 @@ returns-in_err-flush-clause-kept g c = grind (arith, common_steps)
 pub returns-then-state-clause-kept : goal.returns-then-state-clause-kept
 returns-then-state-clause-kept g c = grind (arith, common_steps)
 
-pub returns-then-state-clause-bench : goal.returns-then-state-clause-bench
-returns-then-state-clause-bench g c = grind (arith, common_steps)
-
 pub returns-in_err-read_once-clause-kept : goal.returns-in_err-read_once-clause-kept
 returns-in_err-read_once-clause-kept g c = grind (arith, common_steps)
 
@@ -61,15 +56,3 @@ returns-clause-kept g c = grind (arith, common_steps)
 
 pub read_once-requires-clause-room : goal.read_once-requires-clause-room
 read_once-requires-clause-room g c = grind (arith, common_steps)
-
-pub returns-in_err-buffers-clause-bench : goal.returns-in_err-buffers-clause-bench
-returns-in_err-buffers-clause-bench g c = grind (arith, common_steps)
-
-pub returns-in_err-flush-clause-bench : goal.returns-in_err-flush-clause-bench
-returns-in_err-flush-clause-bench g c = grind (arith, common_steps)
-
-pub returns-in_err-read_once-clause-bench : goal.returns-in_err-read_once-clause-bench
-returns-in_err-read_once-clause-bench g c = grind (arith, common_steps)
-
-pub returns-clause-bench : goal.returns-clause-bench
-returns-clause-bench g c = grind (arith, common_steps)

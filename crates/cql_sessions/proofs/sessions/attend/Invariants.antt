@@ -6,7 +6,6 @@ use Rattle.cql_sessions.proofs.sessions.attend.Given as goal
 
 abbrev pub invariant-loop : goal.invariant-loop
 invariant-loop g l = record {
-  bench : g.E.Evaluator.is_ready l.bench;
   kept : l.state.is_kept ≡ l.initial.state.is_kept;
   going : l.state.is_held ≡ false;
   room : 0 < vec_len l.buffers.chunk;

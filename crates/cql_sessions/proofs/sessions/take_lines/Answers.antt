@@ -5,9 +5,8 @@ use Rattle.cql_sessions.proofs.sessions.take_lines.Goals as goal
 
 pub loop-rest-init : goal.loop-rest-init
 loop-rest-init g c = record {
-  bench = c.requires.bench;
   kept = refl;
-  going = c.requires.going;
+  going = c.requires;
   input = refl;
   seats = ([], refl, nowhere c.args.service.now.table.now c.args.state.now);
 }
@@ -18,7 +17,6 @@ loop-rest-preserved g c =
     let rest = c.loop-rest.rest.now in
     let count = c.in_ok-step.step.count in
     record {
-      bench = c.in_ok-step.ensures.bench;
       kept = c.in_ok-step.ensures.same.0 ∙ c.loop-rest.invariant.kept;
       going = c.in_ok-step.ensures.going refl;
       input = c.in_ok-step.ensures.same.1 ∙ c.loop-rest.invariant.input;

@@ -4,7 +4,6 @@ use Rattle.cql_sessions.proofs.sessions.take_lines.Given as goal
 
 abbrev pub invariant-loop-rest : goal.invariant-loop-rest
 invariant-loop-rest g l = record {
-  bench : g.E.Evaluator.is_ready l.bench;
   kept : l.state.is_kept ≡ l.initial.state.is_kept;
   going : l.state.is_held ≡ false;
   input : l.state.is_ended ≡ l.initial.state.is_ended;

@@ -14,17 +14,11 @@ new-requires g c = grind (arith, common_steps)
 pub nothing_asked-blocks-requires : goal.nothing_asked-blocks-requires
 nothing_asked-blocks-requires g c = grind (arith, common_steps)
 
-pub returns-in-Err-clause-warm : goal.returns-in-Err-clause-warm
-returns-in-Err-clause-warm g c = grind (arith, common_steps)
+pub returns-in-Ok : goal.returns-in-Ok
+returns-in-Ok g c = grind (arith, common_steps)
 
-pub returns-in-Ok-clause-pin : goal.returns-in-Ok-clause-pin
-returns-in-Ok-clause-pin g c = grind (arith, common_steps)
+pub returns-then-asks_nothing : goal.returns-then-asks_nothing
+returns-then-asks_nothing g c = grind (arith, common_steps)
 
-pub returns-in-Ok-clause-warm : goal.returns-in-Ok-clause-warm
-returns-in-Ok-clause-warm g c = grind (arith, common_steps)
-
-pub returns-then-asks_nothing-clause-pin : goal.returns-then-asks_nothing-clause-pin
-returns-then-asks_nothing-clause-pin g c = grind (arith, common_steps)
-
-pub keep-requires-clause-kept : goal.keep-requires-clause-kept
-keep-requires-clause-kept g c = grind (arith, common_steps)
+pub keep-requires : goal.keep-requires
+keep-requires g c = grind (arith, common_steps)

@@ -8,17 +8,11 @@ returns-clause-stop c = grind (arith, common_steps)
 pub returns-clause-told : goal.returns-clause-told
 returns-clause-told c = grind (arith, common_steps)
 
-pub returns-clause-bench : goal.returns-clause-bench
-returns-clause-bench c = grind (arith, common_steps)
-
 pub returns-clause-first : goal.returns-clause-first
 returns-clause-first c = grind (arith, common_steps)
 
 pub returns-in_err-emit-clause-stop : goal.returns-in_err-emit-clause-stop
 returns-in_err-emit-clause-stop c = grind (arith, common_steps)
-
-pub returns-in_err-feed-2-clause-bench : goal.returns-in_err-feed-2-clause-bench
-returns-in_err-feed-2-clause-bench c = grind (arith, common_steps)
 
 pub returns-in_err-feed-2-clause-stop : goal.returns-in_err-feed-2-clause-stop
 returns-in_err-feed-2-clause-stop c = grind (arith, common_steps)

@@ -56,11 +56,11 @@ impl Model for Plain {
 // full ones.
 fn close(alloc: Global, full: &mut VecDeque<Chunk>, last: &mut Vec<Timed>) -> Result<(), AllocError>
     requires are_full { AreFull full.old.items }
-    requires short { length last.old.items ≤ 128 }
+    requires short { length last.old.items ≤ SIZE }
     ensures rows { rows_of full.new.items last.new.items ≡ rows_of full.old.items last.old.items }
     ensures are_full { AreFull full.new.items }
-    ensures short { length last.new.items ≤ 128 }
-    ensures room { OnOk result (length last.new.items < 128) }
+    ensures short { length last.new.items ≤ SIZE }
+    ensures room { OnOk result (length last.new.items < SIZE) }
 {
     if last.len() < SIZE {
         return Ok(());

@@ -1,4 +1,5 @@
 -- Who comes next, and what a change of the lines leaves.
+use Rattle.cql_connections.specs.declared.run_queue.TheConstants.{LITTLE}
 use Rattle.std.specs.Prelude.{◌≡◌, ℕ, ◌+◌, ◌-◌, ◌/◌, ◌<◌, ◌==◌, nat_lt, ◌&&◌, ◌||◌, if◌then◌else◌, Bool, true, false, not, List, [], ◌∷◌, ◌++◌, length, take, drop, slice_index_or, slice_set, Some}
 use Rattle.std.specs.List.{filter, position}
 use Rattle.cql_connections.specs.declared.run_queue.RunQueue.{RunQueue}
@@ -55,7 +56,7 @@ busy_with q owner = slice_index_or q.busy_of.items owner 0
 -- how many threads may compute where one begins an answer of the owner: all, where none of his is computed and
 -- his answers took little lately; else those that all share
 abbrev pub most_for : {T : Type 0} → RunQueue T → ℕ → ℕ
-most_for q owner = if (busy_with q owner == 0) && nat_lt (slice_index_or q.spent.items owner 0) 50000000 then q.most else q.shared
+most_for q owner = if (busy_with q owner == 0) && nat_lt (slice_index_or q.spent.items owner 0) LITTLE then q.most else q.shared
 
 -- an answer of the owner may be begun: fewer are computed than may be at once, he isn't held up, and either
 -- fewer than half of those that all share, rounded up, are his, or nobody else's waits

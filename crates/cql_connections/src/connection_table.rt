@@ -38,7 +38,7 @@ const KEYS: usize = 1 << 32;
 
 // The key of a token.
 fn key_of(token: Token) -> usize
-    ensures { result ≡ token.0 % 4294967296 }
+    ensures { result ≡ token.0 % KEYS }
 {
     token.0 % KEYS
 }

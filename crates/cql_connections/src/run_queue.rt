@@ -374,7 +374,7 @@ impl<T: Drop> RunQueue<T> {
     /// An answer of the owner has ended, and took so many nanoseconds.
     pub fn end_answer(&mut self, owner: usize, nanos: u64)
         ensures ended { 0 < self.old.busy → 0 < busy_with self.old owner → (self.new.busy + 1 ≡ self.old.busy) × (self.new.busy_of.items ≡ slice_set self.old.busy_of.items owner (busy_with self.old owner - 1)) }
-        ensures spent { self.new.spent.items ≡ slice_set self.old.spent.items owner (min (slice_index_or self.old.spent.items owner 0 + nanos) 60000000000) }
+        ensures spent { self.new.spent.items ≡ slice_set self.old.spent.items owner (min (slice_index_or self.old.spent.items owner 0 + nanos) MOST_SPENT) }
         ensures same { (self.new.short ≡ self.old.short) × (self.new.answers ≡ self.old.answers) }
     {
         if let Some(spent) = self.spent.get_mut(owner) {
@@ -389,7 +389,7 @@ impl<T: Drop> RunQueue<T> {
     /// Some of what answers took no longer counts: it is done ten times a second, so that a quarter of a
     /// thread's time never counts.
     pub(crate) fn forgive(&mut self)
-        ensures spent { self.new.spent.items ≡ map (λ nanos. nanos - 25000000) self.old.spent.items }
+        ensures spent { self.new.spent.items ≡ map (λ nanos. nanos - FORGIVEN) self.old.spent.items }
         ensures same { (self.new.short ≡ self.old.short) × (self.new.answers ≡ self.old.answers) × (self.new.busy ≡ self.old.busy) × (self.new.busy_of ≡ self.old.busy_of) }
     {
         for owner in 0..self.spent.len() {
@@ -403,7 +403,7 @@ impl<T: Drop> RunQueue<T> {
         ensures none { IfNone result ((self.old.short.order ≡ []) × (computes ≡ true → position (λ owner. may_begin self.old owner) self.old.answers.order ≡ None)) }
         ensures short { IfSome result (λ task. task.is_answer ≡ false → IsTaken self.old.short task.item self.new.short × (self.new.answers ≡ self.old.answers) × (self.new.busy ≡ self.old.busy) × (self.new.busy_of ≡ self.old.busy_of)) }
         ensures answer { IfSome result (λ task. task.is_answer ≡ true → (computes ≡ true) × IsBegun self.old task.item self.new) }
-        ensures first { IfSome result (λ task. task.is_answer ≡ true → (self.old.short.order ≡ []) ⊎ (16 ≤ self.old.in_a_row)) }
+        ensures first { IfSome result (λ task. task.is_answer ≡ true → (self.old.short.order ≡ []) ⊎ (IN_A_ROW ≤ self.old.in_a_row)) }
     {
         if !computes {
             return self.take_short();

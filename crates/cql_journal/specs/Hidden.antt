@@ -1,4 +1,5 @@
 -- Whole batches that stand behind a front that is none.
+use Rattle.cql_journal.specs.declared.record.TheConstants.{CHAIN}
 use Rattle.std.specs.Prelude.{⊤, ◌≡◌, ◌≢◌, ◌≤◌, ◌<◌, ◌+◌, ◌-◌, ◌^◌, ◌⊎◌, ℕ, Bool, true, false, List, [], ◌∷◌, ◌++◌, length, take, Option, IfSome, Some}
 use Rattle.std.specs.Io.KnownBytes.{Consumes, Keeps, prepend_known}
 use Rattle.cql_journal.specs.Record.{Entry, Lacks, Fits, record_line, batch, IsBatch, IsChain}
@@ -104,7 +105,7 @@ NoneStarts text = (chain : List ℕ) (first : Entry) (others : List Entry) (behi
 
 -- the chain that a front would stand behind
 abbrev pub ChainAt : List ℕ → List ℕ → Type 0
-ChainAt held chain = (chain ≡ take 16 held) × IsChain chain
+ChainAt held chain = (chain ≡ take CHAIN held) × IsChain chain
 
 -- What stands at the front of what is to come, behind whichever chain; these bytes are held of it then.
 pub record Sees (come : Option (List ℕ)) (held : List ℕ) (after : Option (List ℕ)) (front : Front) : Type 0 where

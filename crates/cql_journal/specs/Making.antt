@@ -1,5 +1,7 @@
 -- Batches that are made record by record.
-use Rattle.std.specs.Prelude.{⊤, ◌≡◌, ◌≤◌, ◌<◌, ℕ, List, [], ◌∷◌, ◌++◌, length, take}
+use Rattle.cql_journal.specs.declared.record.TheConstants.{COMMIT}
+use Rattle.cql_journal.specs.declared.reading.TheConstants.{MAX_BATCH}
+use Rattle.std.specs.Prelude.{⊤, ◌≡◌, ◌≤◌, ◌<◌, ◌-◌, ℕ, List, [], ◌∷◌, ◌++◌, length, take}
 use Rattle.std.specs.List.{AllByRecursion}
 use Rattle.md5.specs.Md5.{Holds}
 use Rattle.md5.specs.declared.Md5.{Md5}
@@ -17,7 +19,7 @@ pub record AreRecords (chain text : List ℕ) : Type 0 where
   pub entries : List Entry
   pub fit : AllByRecursion Fits entries
   pub text_is : text ≡ record_lines chain entries
-  pub short : length text ≤ 16777199
+  pub short : length text ≤ MAX_BATCH - COMMIT
 
 -- a hasher has taken in a chain and so many bytes of the text
 pub record IsHashed (chain text : List ℕ) (hasher : Md5) (hashed : ℕ) : Type 0 where
@@ -35,5 +37,5 @@ pub record WritesBatch (old : Making) (text : List ℕ) (new : Making) : Type 0 
 -- Why a record joins no batch. Of memory nothing is said.
 abbrev pub LeavesOut : Making → Entry → BatchFault → Type 0
 LeavesOut old e Unfit = Fits e → ⊥
-LeavesOut old e TooLong = 16777216 < length (committed old.chain (old.text ++ record_lines old.chain (e ∷ [])))
+LeavesOut old e TooLong = MAX_BATCH < length (committed old.chain (old.text ++ record_lines old.chain (e ∷ [])))
 LeavesOut old e NoMemory = ⊤

@@ -1,4 +1,6 @@
 -- How whole batches are found at the front of what is read.
+use Rattle.cql_journal.specs.declared.record.TheConstants.{COMMIT}
+use Rattle.cql_journal.specs.declared.reading.TheConstants.{BLOCK, MAX_BATCH}
 use Rattle.std.specs.Prelude.{⊤, ◌≡◌, ◌≢◌, ◌≤◌, ◌<◌, ◌+◌, ℕ, Bool, true, false, List, [], ◌∷◌, ◌++◌, length, Option, IfSome}
 use Rattle.std.specs.List.{AllByRecursion}
 use Rattle.std.specs.Io.KnownBytes.{Consumes, IsAtEnd, Keeps, prepend_known}
@@ -25,7 +27,7 @@ pub record Fills (old new : List ℕ) (before after : Option (List ℕ)) (more :
   pub consumed : Consumes before after piece
   pub came : more ≡ true → 0 < length piece
   pub at_end : more ≡ false → (piece ≡ []) × IsAtEnd after
-  pub bound : length piece ≤ 65536
+  pub bound : length piece ≤ BLOCK
 
 -- so many bytes are there, or all that is to come
 pub record Reaches (old : List ℕ) (before : Option (List ℕ)) (new : List ℕ) (after : Option (List ℕ)) (count : ℕ) (reached : Bool) : Type 0 where
@@ -36,8 +38,8 @@ pub record Reaches (old : List ℕ) (before : Option (List ℕ)) (new : List ℕ
 -- what stands behind the records of a batch
 abbrev pub Follows : List ℕ → List ℕ → List ℕ → Next → Type 0
 Follows chain before rest (Record size) = (e : Entry) × (behind : List ℕ) × Fits e × (rest ≡ record_line chain e ++ 10 ∷ behind) × (size ≡ length (record_line chain e) + 1)
-Follows chain before rest Commit = (behind : List ℕ) × (rest ≡ chain_after chain before ++ 10 ∷ behind) × (length before + 17 ≤ 16777216)
-Follows chain before rest Wrong = (line : List ℕ) × (behind : List ℕ) × (rest ≡ line ++ 10 ∷ behind) × Lacks 10 line × ((e : Entry) → Fits e → line ≢ record_line chain e) × (line ≡ chain_after chain before → 16777216 < length before + 17)
+Follows chain before rest Commit = (behind : List ℕ) × (rest ≡ chain_after chain before ++ 10 ∷ behind) × (length before + COMMIT ≤ MAX_BATCH)
+Follows chain before rest Wrong = (line : List ℕ) × (behind : List ℕ) × (rest ≡ line ++ 10 ∷ behind) × Lacks 10 line × ((e : Entry) → Fits e → line ≢ record_line chain e) × (line ≡ chain_after chain before → MAX_BATCH < length before + COMMIT)
 Follows chain before rest Part = Lacks 10 rest
 
 -- the records of a batch stand at the front, and take so many bytes

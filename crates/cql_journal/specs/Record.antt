@@ -1,4 +1,6 @@
 -- The records of a journal's file. They stand in batches, of which each ends with a commit line.
+use Rattle.cql_journal.specs.declared.record.TheConstants.{CHAIN}
+use Rattle.cql_journal.specs.declared.reading.TheConstants.{MAX_BATCH}
 use Rattle.std.specs.Prelude.{⊤, ◌≡◌, ◌≢◌, ◌≤◌, ℕ, List, [], ◌∷◌, ◌++◌, length, take, codes}
 use Rattle.std.specs.List.{AllByRecursion}
 use Rattle.md5.specs.Md5.{md5}
@@ -22,7 +24,7 @@ pub record Fits (e : Entry) : Type 0 where
 
 -- 16 bytes and no line feed
 pub record IsChain (chain : List ℕ) : Type 0 where
-  pub size : length chain ≡ 16
+  pub size : length chain ≡ CHAIN
   pub feedless : Lacks 10 chain
 
 -- a record without its chain
@@ -73,7 +75,7 @@ chain_behind chain (es ∷ batches) = chain_behind (batch_chain chain es) batche
 -- a batch has at most 16 MiB, and its entries fit
 pub record IsBatch (chain : List ℕ) (es : List Entry) : Type 0 where
   pub fit : AllByRecursion Fits es
-  pub short : length (batch chain es) ≤ 16777216
+  pub short : length (batch chain es) ≤ MAX_BATCH
 
 -- batches that are so, one behind the other
 abbrev pub AreBatches : List ℕ → List (List Entry) → Type 0

@@ -43,12 +43,13 @@ pub(crate) struct ReadAhead {
 
 impl Model for ReadAhead {
     ghost use Rattle.std.specs.Prelude.{List, ℕ, ◌≡◌, ◌≤◌, drop, length};
+    ghost use Rattle.cql_journal.specs.declared.reading.TheConstants.{BLOCK};
 
     ghost Value = { List ℕ };
 
     ghost view = { λ a. drop a.start a.held.items };
 
-    ghost invariant = { λ a. (a.start ≤ length a.held.items) × (length a.block.items ≡ 65536) };
+    ghost invariant = { λ a. (a.start ≤ length a.held.items) × (length a.block.items ≡ BLOCK) };
 }
 
 impl ReadAhead {

@@ -84,8 +84,8 @@ fn first_place() -> Place
 
 // The place behind a batch, of whose commit line and more these are the bytes; none from 2^64 bytes on.
 fn place_behind(place: &Place, count: u64, size: usize, rest: &[u8]) -> Option<Place>
-    requires { 16 ≤ length rest.now }
-    ensures some { IfSome result (λ next. (next.chain ≡ take 16 rest.now) × (next.count ≡ count) × (next.bytes ≡ place.now.bytes + size)) }
+    requires { CHAIN ≤ length rest.now }
+    ensures some { IfSome result (λ next. (next.chain ≡ take CHAIN rest.now) × (next.count ≡ count) × (next.bytes ≡ place.now.bytes + size)) }
     ensures none { IfNone result (2 ^ 64 ≤ place.now.bytes + size) }
 {
     let bytes = place.bytes.checked_add(size as u64)?;

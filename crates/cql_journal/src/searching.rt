@@ -49,7 +49,7 @@ fn skip_line<R: Read>(ahead: &mut ReadAhead, reader: &mut Watched<R>) -> Result<
 
 // The chain that records at a front stand behind, if any do; it tells whether it is one.
 fn chain_at(held: &[u8], chain: &mut Chain) -> bool
-    requires { 16 ≤ length held.now }
+    requires { CHAIN ≤ length held.now }
     ensures some { result ≡ true → ChainAt held.now chain.new }
     ensures none { result ≡ false → (more : List ℕ) → NoFirst (held.now ++ more) }
 {
@@ -63,7 +63,7 @@ fn chain_at(held: &[u8], chain: &mut Chain) -> bool
 
 // What the front is, of whichever chain.
 fn see<R: Read>(ahead: &mut ReadAhead, reader: &mut Watched<R>) -> Result<Front, RecoveryFault>
-    requires { 16 ≤ length ahead.old }
+    requires { CHAIN ≤ length ahead.old }
     ensures { MatchResult result (Sees (prepend_known ahead.old (R.remaining (inner_of reader.old))) ahead.new (R.remaining (inner_of reader.new))) (Stops (has_failed reader.new)) }
 {
     let mut chain = FIRST;

@@ -14,7 +14,7 @@ use std::io::Write;
 use std::marker::Model;
 
 /// The longest part of a line that isn't cut, and so the room that any step has.
-const PIECE: usize = 64;
+pub const PIECE: usize = 64;
 
 /// Bytes that are yet to be written: room for so many is taken once.
 #[derive(Drop)]
@@ -52,7 +52,7 @@ impl ByteRoom {
 
     /// Whether there is room for any step.
     pub fn has_room(&self) -> bool
-        ensures { IsTrue result ↔ (length self.now.bytes + 64 ≤ self.now.size) }
+        ensures { IsTrue result ↔ (length self.now.bytes + PIECE ≤ self.now.size) }
     {
         self.size - self.bytes.len() >= PIECE
     }
@@ -142,7 +142,7 @@ impl ByteRoom {
         blocks: &[Block],
         next: u64,
     ) -> Result<(), WriteFault>
-        requires { 64 ≤ self.old.size }
+        requires { PIECE ≤ self.old.size }
         ensures buffers { Buffers (W.contents (inner_of writer.old)) (W.contents (inner_of writer.new)) (self.old.bytes ++ blocks_line blocks.now next) self.new.bytes result }
         ensures size { self.new.size ≡ self.old.size }
         ensures failed { has_failed writer.new ≡ (has_failed writer.old || is_err result) }

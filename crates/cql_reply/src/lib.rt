@@ -12,7 +12,7 @@ mod text_place;
 mod value_place;
 mod weight;
 
-pub use byte_room::ByteRoom;
+pub use byte_room::{ByteRoom, PIECE};
 pub use line_place::LinePlace;
 pub use list_place::ListPlace;
 pub use piece_place::{Piece, PiecesPlace};

@@ -1,6 +1,7 @@
 // A place in a text that is made of pieces, one behind the other.
 ghost use Rattle.std.specs.Prelude.{◌≡◌, ◌+◌, ◌<◌, ◌≤◌, ◌++◌, List, [], true, false, length, map, drop, ◌⊎◌};
 ghost use Rattle.cql_reply.specs.Pieces.{PieceText, column_text, column_rest, piece_of, piece_text, pieces_text, piece_rest, pieces_rest};
+ghost use Rattle.cql_reply.specs.declared.byte_room.TheConstants.{PIECE};
 
 use crate::byte_room::ByteRoom;
 use crate::list_place::ListPlace;
@@ -72,7 +73,7 @@ impl PiecePlace {
     // Tells what is behind the place, as far as there is room for it; whether all is told.
     fn fill(&mut self, piece: &Piece<'_>, room: &mut ByteRoom) -> bool
         ensures told { room.new.bytes ++ piece_rest (piece_of piece.now) self.new ≡ room.old.bytes ++ piece_rest (piece_of piece.now) self.old }
-        ensures within { (length room.old.bytes ≤ length room.new.bytes) × (room.new.size ≡ room.old.size) × (result ≡ false → room.new.size < length room.new.bytes + 64) }
+        ensures within { (length room.old.bytes ≤ length room.new.bytes) × (room.new.size ≡ room.old.size) × (result ≡ false → room.new.size < length room.new.bytes + PIECE) }
         ensures done { result ≡ true → piece_rest (piece_of piece.now) self.new ≡ [] }
     {
         match piece {
@@ -99,7 +100,7 @@ impl PiecePlace {
 #[tactic(auto, using(crate::proofs::Pieces::told_plain))]
 fn put_plain(bytes: &[u8], from: usize, room: &mut ByteRoom) -> usize
     ensures told { room.new.bytes ++ drop result bytes.now ≡ room.old.bytes ++ drop from bytes.now }
-    ensures within { (length room.old.bytes ≤ length room.new.bytes) × (room.new.size ≡ room.old.size) × ((length bytes.now ≤ result) ⊎ (room.new.size < length room.new.bytes + 64)) }
+    ensures within { (length room.old.bytes ≤ length room.new.bytes) × (room.new.size ≡ room.old.size) × ((length bytes.now ≤ result) ⊎ (room.new.size < length room.new.bytes + PIECE)) }
 {
     if from >= bytes.len() {
         return from;
@@ -137,7 +138,7 @@ impl PiecesPlace {
         ensures grows { length room.old.bytes ≤ length room.new.bytes }
         ensures size { room.new.size ≡ room.old.size }
         ensures done { result ≡ true → pieces_rest (map piece_of pieces.now) self.new ≡ [] }
-        ensures full { result ≡ false → room.new.size < length room.new.bytes + 64 }
+        ensures full { result ≡ false → room.new.size < length room.new.bytes + PIECE }
     {
         while let Some(piece) = pieces.get(self.index) {
             if !self.inner.fill(piece, room) {

@@ -5,6 +5,8 @@ ghost use Rattle.cql_core.specs.Steps.{reply_model};
 ghost use Rattle.cql_lines.specs.Watched.{inner_of};
 ghost use Rattle.cql_wire.specs.Buffered.{BuffersReply};
 ghost use Rattle.cql_sessions.specs.InHand.{to_come, line_in_hand, is_long};
+ghost use Rattle.cql_reply.specs.declared.byte_room.TheConstants.{PIECE};
+ghost use Rattle.cql_wire.specs.declared.reply_buffer.TheConstants.{ROOM};
 
 use cql_core::Reply;
 use cql_wire::{HeldReply, ReplyBuffer, Watched, WriteFault};
@@ -102,10 +104,10 @@ impl Taking {
     }
 
     /// Moves what is to come of the reply in hand behind what is buffered, as far as there is room. Takes
-    /// no memory. Unless all has come, less than 64 bytes of room are left.
+    /// no memory. Unless all has come, less than `PIECE` bytes of room are left.
     pub(crate) fn fill(&mut self, lent: Option<&Reply>, buffer: &mut ReplyBuffer)
         ensures told { buffer.new ++ to_come self.new.held (option_copied lent.entry) ≡ buffer.old ++ to_come self.old.held (option_copied lent.entry) }
-        ensures full { self.new.held ≢ None → 65536 < length buffer.new + 64 }
+        ensures full { self.new.held ≢ None → ROOM < length buffer.new + PIECE }
     {
         let Some(held) = &mut self.held else {
             return;

@@ -23,7 +23,7 @@ pub(crate) struct Parting {
 impl Parting {
     /// One that hasn't begun.
     pub(crate) fn new() -> Parting
-        ensures { result.left ≡ 4194304 }
+        ensures { result.left ≡ MOST }
     {
         Parting {
             has_begun: false,

@@ -28,7 +28,7 @@ impl SessionBuffers {
     /// Nothing is buffered.
     pub fn new(alloc: Global) -> Result<SessionBuffers, AllocError>
         ensures buffer { IfOk result (λ buffers. buffers.buffer ≡ []) }
-        ensures room { IfOk result (λ buffers. vec_len buffers.chunk ≡ 8192) }
+        ensures room { IfOk result (λ buffers. vec_len buffers.chunk ≡ CHUNK) }
     {
         let chunk = vec![in alloc; 0; CHUNK]?;
         let buffer = ReplyBuffer::new(alloc)?;

@@ -49,8 +49,8 @@ impl SpareRoom {
     /// for what it is to keep behind that turn.
     pub(crate) fn lend(&mut self, held: &mut Vec<u8>) -> Result<(), AllocError>
         ensures same { held.new.items ≡ held.old.items }
-        ensures room { OnOk result (vec_len held.new + 196608 ≤ vec_capacity held.new) }
-        ensures unread { OnOk result (8192 ≤ vec_capacity self.new.unread) }
+        ensures room { OnOk result (vec_len held.new + TURN ≤ vec_capacity held.new) }
+        ensures unread { OnOk result (CHUNK ≤ vec_capacity self.new.unread) }
     {
         self.unread.reserve_exact(CHUNK)?;
         self.piece.reserve_exact(PIECE)?;
@@ -67,7 +67,7 @@ impl SpareRoom {
     /// piece while more of a reply is to come. Asks for no memory.
     pub(crate) fn take_back(&mut self, alloc: Global, held: &mut Vec<u8>, is_telling: bool)
         ensures same { held.new.items ≡ held.old.items }
-        ensures room { is_telling ≡ true → 65536 ≤ vec_capacity held.old → 65536 ≤ vec_capacity held.new }
+        ensures room { is_telling ≡ true → PIECE ≤ vec_capacity held.old → PIECE ≤ vec_capacity held.new }
     {
         let whole = &mut self.whole;
         if is_telling || held.len() > FEW {

@@ -32,7 +32,7 @@ impl TurnLength {
 
     /// Whether it ends before the line of this index, where so many bytes were written.
     pub(crate) fn is_over<G: Gate>(self, gate: &G, line: u32, written: usize) -> bool
-        ensures { 65536 ≤ written → result ≡ true }
+        ensures { BYTES ≤ written → result ≡ true }
     {
         let looks = line > 0 && line % LOOK == 0;
         written >= BYTES || looks && gate.nanos().saturating_sub(self.begun) >= NANOS

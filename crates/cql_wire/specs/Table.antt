@@ -1,4 +1,5 @@
 -- The table of tenants that an input gives, in its first line or in several.
+use Rattle.cql_wire.specs.declared.tables.TheConstants.{MAX_TABLE}
 use Rattle.std.specs.Prelude.{◌≡◌, ◌⊎◌, ◌<◌, ◌-◌, ⊤, ℕ, List, [], ◌∷◌, ◌++◌, length, Option, Some, None}
 use Rattle.std.specs.Io.KnownBytes.{Consumes, IsAtEnd}
 use Rattle.cql_tenants.specs.declared.tenants.Tenant.{Tenant}
@@ -25,7 +26,7 @@ pub record TellsBehind (mid after : Option (List ℕ)) (line : List ℕ) (tenant
 
 -- it was read, or too much of it
 abbrev pub IsLong : Option (List ℕ) → Option (List ℕ) → ℕ → BrokenRule → Type 0
-IsLong mid after most rule = (front : List ℕ) × Consumes mid after front × (most < length front) × (rule ≡ broken.Length 1048576)
+IsLong mid after most rule = (front : List ℕ) × Consumes mid after front × (most < length front) × (rule ≡ broken.Length MAX_TABLE)
 
 -- why the rest wasn't read: it is too long, or a read failed, or memory was refused
 abbrev pub EndsRest : Option (List ℕ) → Option (List ℕ) → ℕ → TableFault → Type 0
@@ -40,7 +41,7 @@ IsNoTable mid after line rule = (rest : List ℕ) × Consumes mid after rest × 
 
 -- why the whole told none: what is behind the line is too long, or it is no table, or a read failed, or memory was refused
 abbrev pub EndsBehind : Option (List ℕ) → Option (List ℕ) → List ℕ → TableFault → Type 0
-EndsBehind mid after line (table.Refused rule) = IsLong mid after (1048575 - length line) rule ⊎ IsNoTable mid after line rule
+EndsBehind mid after line (table.Refused rule) = IsLong mid after (MAX_TABLE - 1 - length line) rule ⊎ IsNoTable mid after line rule
 EndsBehind mid after line table.Read = ⊤
 EndsBehind mid after line table.NoMemory = ⊤
 

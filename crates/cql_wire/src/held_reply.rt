@@ -2,6 +2,8 @@
 ghost use Rattle.std.specs.Prelude.{◌≡◌, ◌+◌, ◌<◌, ◌++◌, [], true, false, length, option_copied};
 ghost use Rattle.cql_core.specs.declared.reply.Reply.{Reply as reply_type};
 ghost use Rattle.cql_wire.specs.Held.{held_line, reply_rest, reply_in_hand, rest_in_hand};
+ghost use Rattle.cql_reply.specs.declared.byte_room.TheConstants.{PIECE};
+ghost use Rattle.cql_wire.specs.declared.reply_buffer.TheConstants.{ROOM};
 
 use crate::listing_place::ListingPlace;
 use crate::reply_buffer::ReplyBuffer;
@@ -54,12 +56,12 @@ impl HeldReply {
     }
 
     /// Moves what is to come of the line behind what is buffered, as far as there is room; whether all of
-    /// it has come. Unless all has, less than 64 bytes of room are left. A reply of another kind has no
+    /// it has come. Unless all has, less than `PIECE` bytes of room are left. A reply of another kind has no
     /// line here. Takes no memory.
     pub fn fill(&mut self, lent: Option<&Reply>, buffer: &mut ReplyBuffer) -> bool
         ensures told { buffer.new ++ rest_in_hand (reply_in_hand self.new.reply (option_copied lent.entry)) self.new.place ≡ buffer.old ++ rest_in_hand (reply_in_hand self.old.reply (option_copied lent.entry)) self.old.place }
         ensures done { result ≡ true → rest_in_hand (reply_in_hand self.new.reply (option_copied lent.entry)) self.new.place ≡ [] }
-        ensures full { result ≡ false → 65536 < length buffer.new + 64 }
+        ensures full { result ≡ false → ROOM < length buffer.new + PIECE }
     {
         match in_hand(&self.reply, lent) {
             Some(Reply::Blocks(answer)) => buffer.fill(answer, &mut self.place.blocks),

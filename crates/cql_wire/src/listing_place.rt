@@ -6,6 +6,7 @@ ghost use Rattle.cql_wire.specs.Buffered.{Buffers};
 ghost use Rattle.cql_wire.specs.Line.{query_text, readable_text, stream_text, listing_line};
 ghost use Rattle.cql_reply.specs.Place.{list_rest};
 ghost use Rattle.cql_wire.specs.Listing.{query_rest, readable_rest, stream_rest, listing_rest};
+ghost use Rattle.cql_reply.specs.declared.byte_room.TheConstants.{PIECE};
 
 use cql_core::{GrantedStream, Listing, OwnQuery, OwnStream};
 use cql_lines::{Watched, WriteFault};
@@ -178,7 +179,7 @@ impl ListingPlace {
         ensures grows { length room.old.bytes ≤ length room.new.bytes }
         ensures size { room.new.size ≡ room.old.size }
         ensures done { result ≡ true → listing_rest listing.now self.new ≡ [] }
-        ensures full { result ≡ false → room.new.size < length room.new.bytes + 64 }
+        ensures full { result ≡ false → room.new.size < length room.new.bytes + PIECE }
     {
         'parts: loop {
             match self {
@@ -221,10 +222,10 @@ fn fill_list<P: TextPlace>(
     behind: &[u8],
     room: &mut ByteRoom,
 ) -> bool
-    requires { length behind.now ≤ 64 }
+    requires { length behind.now ≤ PIECE }
     ensures told { result ≡ true → room.new.bytes ≡ room.old.bytes ++ (list_rest P.text P.rest wholes.now place.old ++ behind.now) }
     ensures left { result ≡ false → room.new.bytes ++ list_rest P.text P.rest wholes.now place.new ≡ room.old.bytes ++ list_rest P.text P.rest wholes.now place.old }
-    ensures within { (length room.old.bytes ≤ length room.new.bytes) × (room.new.size ≡ room.old.size) × (result ≡ false → room.new.size < length room.new.bytes + 64) }
+    ensures within { (length room.old.bytes ≤ length room.new.bytes) × (room.new.size ≡ room.old.size) × (result ≡ false → room.new.size < length room.new.bytes + PIECE) }
 {
     if !place.fill(wholes, room) || !room.has_room() {
         return false;
@@ -240,7 +241,7 @@ pub(crate) fn put_listing<W: Write>(
     writer: &mut Watched<W>,
     listing: &Listing,
 ) -> Result<(), WriteFault>
-    requires { 64 ≤ room.old.size }
+    requires { PIECE ≤ room.old.size }
     ensures buffers { Buffers (W.contents (inner_of writer.old)) (W.contents (inner_of writer.new)) (room.old.bytes ++ listing_line listing.now) room.new.bytes result }
     ensures size { room.new.size ≡ room.old.size }
     ensures failed { has_failed writer.new ≡ (has_failed writer.old || is_err result) }

@@ -8,6 +8,7 @@ ghost use Rattle.cql_wire.specs.Line.{fault_line};
 ghost use Rattle.cql_wire.specs.Listing.{listing_rest};
 ghost use Rattle.cql_wire.specs.Short.{short_line};
 ghost use Rattle.cql_lines.specs.Watched.{inner_of, has_failed, Grows};
+ghost use Rattle.cql_reply.specs.declared.byte_room.TheConstants.{PIECE};
 
 use crate::listing_place::{ListingPlace, put_listing};
 use crate::reply::{ShortReply, write_short};
@@ -40,12 +41,13 @@ pub struct ReplyBuffer {
 
 impl Model for ReplyBuffer {
     ghost use Rattle.std.specs.Prelude.{List, ℕ, ◌≡◌};
+    ghost use Rattle.cql_wire.specs.declared.reply_buffer.TheConstants.{ROOM};
 
     ghost Value = { List ℕ };
 
     ghost view = { λ g. g.room.bytes };
 
-    ghost invariant = { λ g. g.room.size ≡ 65536 };
+    ghost invariant = { λ g. g.room.size ≡ ROOM };
 }
 
 impl ReplyBuffer {
@@ -81,7 +83,7 @@ impl ReplyBuffer {
     /// they are.
     pub fn put<W: Write>(&mut self, writer: &mut Watched<W>, bytes: &[u8]) -> Result<(), WriteFault>
         ensures buffers { Buffers (W.contents (inner_of writer.old)) (W.contents (inner_of writer.new)) (self.old ++ bytes.now) self.new result }
-        ensures fits { length (self.old ++ bytes.now) ≤ 65536 → (writer.new ≡ writer.old) × (self.new ≡ self.old ++ bytes.now) }
+        ensures fits { length (self.old ++ bytes.now) ≤ ROOM → (writer.new ≡ writer.old) × (self.new ≡ self.old ++ bytes.now) }
         ensures failed { has_failed writer.new ≡ (has_failed writer.old || is_err result) }
     {
         if bytes.len() > self.room.left() {
@@ -150,7 +152,7 @@ impl ReplyBuffer {
         ensures told { self.new ++ line_rest answer.now.blocks answer.now.pin.next place.new ≡ self.old ++ line_rest answer.now.blocks answer.now.pin.next place.old }
         ensures grows { length self.old ≤ length self.new }
         ensures done { result ≡ true → line_rest answer.now.blocks answer.now.pin.next place.new ≡ [] }
-        ensures full { result ≡ false → 65536 < length self.new + 64 }
+        ensures full { result ≡ false → ROOM < length self.new + PIECE }
     {
         place.fill(answer.blocks(), answer.next(), &mut self.room)
     }
@@ -160,7 +162,7 @@ impl ReplyBuffer {
         ensures told { self.new ++ listing_rest listing.now place.new ≡ self.old ++ listing_rest listing.now place.old }
         ensures grows { length self.old ≤ length self.new }
         ensures done { result ≡ true → listing_rest listing.now place.new ≡ [] }
-        ensures full { result ≡ false → 65536 < length self.new + 64 }
+        ensures full { result ≡ false → ROOM < length self.new + PIECE }
     {
         place.fill(listing, &mut self.room)
     }

@@ -6,6 +6,7 @@ ghost use Rattle.cql_lines.specs.Tree.{tree_of};
 ghost use Rattle.cql_asked.specs.Rules.{IsJson};
 ghost use Rattle.cql_wire.specs.declared.programs.TableFault.TheVariants as table;
 ghost use Rattle.cql_wire.specs.Table.{text_of, EndsRest, TellsBehind, EndsBehind, GivesTable, GivesNone};
+ghost use Rattle.cql_lines.specs.declared.lines.TheConstants.{MAX_LINE};
 
 use crate::programs::{TableFault, table_line};
 use cql_asked::{BrokenRule, TenantsFault, read_tenants};
@@ -26,7 +27,7 @@ fn read_rest<R: Read>(
     reader: &mut Watched<R>,
     most: usize,
 ) -> Result<Vec<u8>, TableFault>
-    requires { most ≤ 1048576 }
+    requires { most ≤ MAX_TABLE }
     ensures ok { IfOk result (λ rest. Consumes (R.remaining (inner_of reader.old)) (R.remaining (inner_of reader.new)) rest.items
         × IsAtEnd (R.remaining (inner_of reader.new))) }
     ensures fault { IfErr result (λ fault. EndsRest (R.remaining (inner_of reader.old)) (R.remaining (inner_of reader.new)) most fault) }
@@ -65,7 +66,7 @@ fn whole_table<R: Read>(
     line: Vec<u8>,
     rule: BrokenRule,
 ) -> Result<TenantTable, TableFault>
-    requires short { length line.items ≤ 65536 }
+    requires short { length line.items ≤ MAX_LINE }
     requires rule { IsJson rule }
     ensures told { MatchResult result
         (λ tenants. TellsBehind (R.remaining (inner_of reader.old)) (R.remaining (inner_of reader.new)) line.items tenants)

@@ -24,7 +24,7 @@ use Rattle.cql_algebra.specs.declared.told.Output.TheVariants.{Rows as told_rows
 use Rattle.cql_eval.specs.Pin.{PinModel}
 use Rattle.cql_tenants.specs.declared.tenants.Quotas.{Quotas}
 use Rattle.cql_tenants.specs.declared.tenants.Tenant.{Tenant}
-use Rattle.cql_value.specs.Named.{same_name, find_named}
+use Rattle.cql_tenants.specs.Named.{same_name, find_named}
 use Rattle.cql_tenants.specs.Namespace.{nothing_made}
 use Rattle.cql_core.specs.declared.command.ColumnText.{ColumnText}
 use Rattle.cql_core.specs.declared.command.Command.{Command}

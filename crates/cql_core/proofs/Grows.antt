@@ -5,18 +5,18 @@ use Rattle.std.proofs.lemmas.Bool.Decides.{nat_tests}
 use Rattle.cql_value.specs.declared.value.Value.{Value}
 use Rattle.cql_value.specs.declared.schema.Column.{Column}
 use Rattle.cql_value.specs.Schema.{is_row_of}
-use Rattle.cql_value.specs.Clock.{greatest}
-use Rattle.cql_value.specs.declared.clock.ClockError.TheVariants as clock
+use Rattle.cql_tenants.specs.Clock.{greatest}
+use Rattle.cql_tenants.specs.declared.clock.ClockError.TheVariants as clock
 use Rattle.cql_tenants.specs.Granted.{Grant as grant}
 use Rattle.cql_tenants.specs.declared.namespace.Namespace.{Namespace}
-use Rattle.cql_value.specs.declared.stream_refusal.StreamRefusal.{StreamRefusal}
-use Rattle.cql_value.specs.declared.stream_refusal.StreamRefusal.TheVariants as refused
-use Rattle.cql_value.specs.declared.stream.Stream.{Stream as stream}
-use Rattle.cql_value.specs.Refusal.{clock_refusal}
-use Rattle.cql_value.specs.Named.{same_name, find_named}
+use Rattle.cql_tenants.specs.declared.stream_refusal.StreamRefusal.{StreamRefusal}
+use Rattle.cql_tenants.specs.declared.stream_refusal.StreamRefusal.TheVariants as refused
+use Rattle.cql_tenants.specs.declared.stream.Stream.{Stream as stream}
+use Rattle.cql_tenants.specs.Refusal.{clock_refusal}
+use Rattle.cql_tenants.specs.Named.{same_name, find_named}
 use Rattle.cql_tenants.specs.Namespace.{has_tenant, namespace_at, change_namespace, tenant_named, stream_at, is_of, grant_of, without_grant}
 use Rattle.cql_tenants.specs.Lookup.{opened_at, own_found, granted_found}
-use Rattle.cql_value.specs.Taking.{time_refused, put_refused, beat_refused, opens}
+use Rattle.cql_tenants.specs.Taking.{time_refused, put_refused, beat_refused, opens}
 use Rattle.cql_tenants.specs.Directory.{with_stream, with_time, with_grant, new_grant, grant_to, revoke_from}
 use Rattle.cql_tenants.specs.Readable.{StreamView}
 use Rattle.cql_core.specs.declared.command.Command.{Command}

@@ -4,7 +4,7 @@ use Rattle.std.specs.Prelude.{Option, Some, None, option_map, nat_le}
 use Rattle.std.specs.List.{AllByRecursion}
 use Rattle.std.proofs.lemmas.Bool.Decides.{nat_tests}
 use Rattle.cql_store.specs.Held.{need}
-use Rattle.cql_value.specs.declared.stream.Stream.{Stream}
+use Rattle.cql_tenants.specs.declared.stream.Stream.{Stream}
 use Rattle.cql_tenants.specs.Namespace.{stream_at}
 use Rattle.cql_core.specs.StreamId.{StreamId}
 use Rattle.cql_core.specs.Machine.{Stub, State}

@@ -3,8 +3,8 @@ use Rattle.std.proofs.Common.{◌≡◌, inl, inr, ℕ, Bool, true, false, ◌&&
 use Rattle.std.specs.Prelude.{Option, Some, None, is_none, if◌then◌else◌}
 use Rattle.cql_value.specs.declared.value.Value.{Value}
 use Rattle.cql_tenants.specs.declared.namespace.Namespace.{Namespace}
-use Rattle.cql_value.specs.declared.stream_refusal.StreamRefusal.{StreamRefusal}
-use Rattle.cql_value.specs.declared.stream_refusal.StreamRefusal.TheVariants as refused
+use Rattle.cql_tenants.specs.declared.stream_refusal.StreamRefusal.{StreamRefusal}
+use Rattle.cql_tenants.specs.declared.stream_refusal.StreamRefusal.TheVariants as refused
 use Rattle.cql_tenants.specs.Namespace.{nothing_made, has_tenant, has_grant}
 use Rattle.cql_tenants.specs.Directory.{Put as put, refused_at, done}
 use Rattle.cql_core.specs.declared.command.Command.{Command}

@@ -2,8 +2,8 @@
 use Rattle.std.proofs.Common.{◌≡◌, ℕ, zero, suc, Bool, true, false, eqb, List, [], ◌∷◌, ◌++◌, refl, ap, sym, ◌∙◌, arith}
 use Rattle.std.specs.Prelude.{Option, None, Some, option_map, slice_get, if◌then◌else◌}
 use Rattle.std.proofs.lemmas.Bool.Decides.{nat_tests}
-use Rattle.cql_value.specs.Named.{Named, same_name, change_named, index_of}
-use Rattle.cql_value.proofs.Indices.{at_index}
+use Rattle.cql_tenants.specs.Named.{Named, same_name, change_named, index_of}
+use Rattle.cql_tenants.proofs.Indices.{at_index}
 
 -- two names at one index are the same
 pub one_name : {A : Type 0} (xs : List (Named A)) (n m : List ℕ) (i : ℕ) → index_of xs n ≡ Some i → index_of xs m ≡ Some i → n ≡ m

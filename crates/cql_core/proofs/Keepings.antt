@@ -6,7 +6,7 @@ use Rattle.cql_window.specs.Window.{charge}
 use Rattle.cql_window.specs.Through.{wide_window}
 use Rattle.cql_plan.specs.declared.plan.Input.{Input}
 use Rattle.cql_tenants.specs.declared.namespace.Namespace.{Namespace}
-use Rattle.cql_value.specs.Named.{Named, each}
+use Rattle.cql_tenants.specs.Named.{Named, each}
 use Rattle.cql_core.specs.StreamId.{StreamId}
 use Rattle.cql_core.specs.Bound.{BoundInput, BoundPlan}
 use Rattle.cql_core.specs.Language.{Language, IsLanguage, bare}

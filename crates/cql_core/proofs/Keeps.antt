@@ -10,14 +10,14 @@ use Rattle.cql_value.specs.Element.{Element}
 use Rattle.cql_value.specs.Schema.{is_row_of}
 use Rattle.cql_tenants.specs.Granted.{Grant as grant}
 use Rattle.cql_tenants.specs.declared.namespace.Namespace.{Namespace}
-use Rattle.cql_value.specs.declared.stream_refusal.StreamRefusal.TheVariants as refusal
-use Rattle.cql_value.specs.declared.stream.Stream.{Stream as stream}
+use Rattle.cql_tenants.specs.declared.stream_refusal.StreamRefusal.TheVariants as refusal
+use Rattle.cql_tenants.specs.declared.stream.Stream.{Stream as stream}
 use Rattle.cql_tenants.specs.declared.tenants.Tenant.{Tenant}
-use Rattle.cql_value.specs.Named.{same_name, find_named}
+use Rattle.cql_tenants.specs.Named.{same_name, find_named}
 use Rattle.cql_window.specs.Projection.{projected, whole_projection}
 use Rattle.cql_window.specs.Through.{HasProjection, narrowed}
 use Rattle.cql_window.proofs.Picks.{read_at, at_all}
-use Rattle.cql_value.specs.Taking.{put_refused, time_refused}
+use Rattle.cql_tenants.specs.Taking.{put_refused, time_refused}
 use Rattle.cql_tenants.specs.Namespace.{namespace_at, change_namespace, tenant_named, stream_at, is_of, grant_of, without_grant, nothing_made}
 use Rattle.cql_tenants.specs.Lookup.{opened_at, own_found, granted_found}
 use Rattle.cql_tenants.specs.Directory.{StreamCommand, Make as make, Share as share, Revoke as revoke, Put as put, Beat as beat, refused, done, with_grant, new_grant, grant_to, revoke_from}

@@ -4,8 +4,8 @@ use Rattle.std.specs.Prelude.{Option, None, Some, IfSome, unwrap_or, slice_get, 
 use Rattle.std.proofs.Math.Nat.{eq-or-lt_of_le}
 use Rattle.std.proofs.lemmas.Bool.{cases_lt}
 use Rattle.std.proofs.lemmas.Option.{slice_get_within}
-use Rattle.cql_value.specs.Named.{Named, find_named, index_of}
-use Rattle.cql_value.proofs.Indices.{at_index, no_index}
+use Rattle.cql_tenants.specs.Named.{Named, find_named, index_of}
+use Rattle.cql_tenants.proofs.Indices.{at_index, no_index}
 
 -- of the first names nothing greater is found
 abbrev pub AreUpTo : {A : Type 0} → (List ℕ → Option ℕ) → List (Named A) → ℕ → ℕ → Type 0

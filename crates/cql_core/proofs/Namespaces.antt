@@ -11,15 +11,15 @@ use Rattle.cql_value.specs.declared.schema.Column.{Column}
 use Rattle.cql_value.specs.Element.{Element}
 use Rattle.cql_tenants.specs.Granted.{Grant as grant}
 use Rattle.cql_tenants.specs.declared.namespace.Namespace.{Namespace}
-use Rattle.cql_value.specs.declared.stream_refusal.StreamRefusal.{StreamRefusal}
-use Rattle.cql_value.specs.declared.stream_refusal.StreamRefusal.TheVariants as refused
-use Rattle.cql_value.specs.declared.stream.Stream.{Stream as stream}
+use Rattle.cql_tenants.specs.declared.stream_refusal.StreamRefusal.{StreamRefusal}
+use Rattle.cql_tenants.specs.declared.stream_refusal.StreamRefusal.TheVariants as refused
+use Rattle.cql_tenants.specs.declared.stream.Stream.{Stream as stream}
 use Rattle.cql_tenants.specs.declared.tenants.Tenant.{Tenant}
-use Rattle.cql_value.specs.Named.{Named, same_name, find_named, change_named}
+use Rattle.cql_tenants.specs.Named.{Named, same_name, find_named, change_named}
 use Rattle.cql_tenants.specs.Namespace.{no_namespace, nothing_made, has_tenant, namespace_at, change_namespace, tenant_named, stream_at, is_of, grant_of, without_grant, has_grant}
 use Rattle.cql_tenants.specs.Lookup.{opened_at, read_stream, own_found, granted_found, found_of, owner_meant}
 use Rattle.cql_tenants.specs.Checks.{grant_refused, taken_refused, make_refused, grantee_refused}
-use Rattle.cql_value.specs.Taking.{put_refused, beat_refused, opens}
+use Rattle.cql_tenants.specs.Taking.{put_refused, beat_refused, opens}
 use Rattle.cql_window.specs.Projection.{projected}
 use Rattle.cql_window.specs.Chosen.{shown_projection}
 use Rattle.cql_tenants.specs.Directory.{revoke_from, with_stream, with_time, with_grant, new_grant, grant_to, Make as make, Share as share, Revoke as revoke, Put as put, Beat as beat}

@@ -6,14 +6,14 @@ use Rattle.cql_value.specs.declared.schema.Column.{Column}
 use Rattle.cql_value.specs.Name.{is_name}
 use Rattle.cql_value.specs.Schema.{is_row_of}
 use Rattle.cql_window.specs.Window.{content}
-use Rattle.cql_value.specs.declared.clock.ClockError.TheVariants as clock
+use Rattle.cql_tenants.specs.declared.clock.ClockError.TheVariants as clock
 use Rattle.cql_eval.specs.Pin.{PinModel}
-use Rattle.cql_value.specs.declared.stream.Stream.{Stream as Clocked}
-use Rattle.cql_value.specs.declared.stream_refusal.StreamRefusal.TheVariants as refused
-use Rattle.cql_value.specs.Named.{find_named}
+use Rattle.cql_tenants.specs.declared.stream.Stream.{Stream as Clocked}
+use Rattle.cql_tenants.specs.declared.stream_refusal.StreamRefusal.TheVariants as refused
+use Rattle.cql_tenants.specs.Named.{find_named}
 use Rattle.cql_window.specs.Chosen.{is_shown}
-use Rattle.cql_value.specs.Taking.{put_refused, beat_refused}
-use Rattle.cql_value.specs.Refusal.{clock_refusal}
+use Rattle.cql_tenants.specs.Taking.{put_refused, beat_refused}
+use Rattle.cql_tenants.specs.Refusal.{clock_refusal}
 use Rattle.cql_core.specs.declared.command.Command.TheVariants.{Query}
 use Rattle.cql_core.specs.declared.refusal.Refusal.{Refusal}
 use Rattle.cql_core.specs.declared.refusal.Refusal.TheVariants.{StreamExists, BadName, BadColumns, TooManyStreams, UnknownStream, UnknownTenant, AlreadyGranted, SelfGrant, BadGrantColumns}

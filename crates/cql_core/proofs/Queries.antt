@@ -3,7 +3,7 @@ use Rattle.std.proofs.Common.{◌≡◌, ℕ, Bool, true, false, ◌&&◌, ◌||
 use Rattle.std.specs.Prelude.{Option, Some, None, option_map, Result, Ok, Err, is_some, if◌then◌else◌, nat_lt, unwrap_or}
 use Rattle.cql_value.specs.Element.{Element}
 use Rattle.cql_value.specs.Name.{is_name}
-use Rattle.cql_value.specs.Named.{same_name, find_named, change_named, each}
+use Rattle.cql_tenants.specs.Named.{same_name, find_named, change_named, each}
 use Rattle.cql_core.specs.declared.command.Command.{Command}
 use Rattle.cql_core.specs.declared.command.Command.TheVariants.{Stream, Grant, Revoke, Put, Beat, Query, Fetch, Ack, Drop, List as Lists}
 use Rattle.cql_core.specs.declared.refusal.Refusal.{Refusal}

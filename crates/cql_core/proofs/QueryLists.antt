@@ -7,8 +7,8 @@ use Rattle.cql_plan.specs.declared.plan.Input.{Input}
 use Rattle.cql_plan.specs.Ports.{ports}
 use Rattle.cql_value.specs.declared.schema.ColumnType.{ColumnType}
 use Rattle.cql_tenants.specs.declared.namespace.Namespace.{Namespace}
-use Rattle.cql_value.specs.declared.stream.Stream.{Stream}
-use Rattle.cql_value.specs.Named.{Named, same_name, find_named, remove_named, each}
+use Rattle.cql_tenants.specs.declared.stream.Stream.{Stream}
+use Rattle.cql_tenants.specs.Named.{Named, same_name, find_named, remove_named, each}
 use Rattle.cql_tenants.specs.Namespace.{namespace_at, has_tenant}
 use Rattle.cql_core.specs.Machine.{queries_at, is_revoked}
 use Rattle.cql_store.specs.declared.stub_ref.StubRef.{StubRef}

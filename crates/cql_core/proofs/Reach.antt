@@ -6,7 +6,7 @@ use Rattle.cql_value.specs.Element.{Element}
 use Rattle.cql_plan.specs.declared.plan.Input.{Input}
 use Rattle.cql_plan.specs.declared.plan.Planned.{Planned}
 use Rattle.cql_tenants.specs.declared.namespace.Namespace.{Namespace}
-use Rattle.cql_value.specs.Named.{Named, same_name, find_named, change_named, remove_named, each}
+use Rattle.cql_tenants.specs.Named.{Named, same_name, find_named, change_named, remove_named, each}
 use Rattle.cql_tenants.specs.Readable.{StreamView}
 use Rattle.cql_core.specs.declared.refusal.Refusal.{Refusal}
 use Rattle.cql_core.specs.StreamId.{StreamId, stream_id_of, same_stream_id}

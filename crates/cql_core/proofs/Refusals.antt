@@ -3,9 +3,9 @@ use Rattle.std.proofs.Common.{◌≡◌, ℕ, Bool, true, false, List, refl, ap,
 use Rattle.std.specs.Prelude.{Option, Some, None, Result, Ok, Err, is_some, is_none, nat_lt, length, if◌then◌else◌}
 use Rattle.cql_value.specs.Name.{is_name}
 use Rattle.cql_tenants.specs.declared.namespace.Namespace.{Namespace}
-use Rattle.cql_value.specs.declared.stream_refusal.StreamRefusal.{StreamRefusal}
-use Rattle.cql_value.specs.declared.stream_refusal.StreamRefusal.TheVariants as refused
-use Rattle.cql_value.specs.Named.{find_named}
+use Rattle.cql_tenants.specs.declared.stream_refusal.StreamRefusal.{StreamRefusal}
+use Rattle.cql_tenants.specs.declared.stream_refusal.StreamRefusal.TheVariants as refused
+use Rattle.cql_tenants.specs.Named.{find_named}
 use Rattle.cql_tenants.specs.Namespace.{has_tenant, namespace_at}
 use Rattle.cql_tenants.specs.Directory.{StreamCommand, Make as make, Share as share, Revoke as revoke, Put as put, Beat as beat, refused_at, done}
 use Rattle.cql_tenants.specs.Directory.{streams_after}

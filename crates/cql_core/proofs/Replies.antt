@@ -3,8 +3,8 @@ use Rattle.std.proofs.Common.{◌≡◌, ℕ, zero, suc, Bool, true, false, eqb,
 use Rattle.std.specs.Prelude.{Option, Some, None, if◌then◌else◌, nat_lt, map}
 use Rattle.std.proofs.lemmas.List.{length-map}
 use Rattle.cql_tenants.specs.declared.tenants.Tenant.{Tenant}
-use Rattle.cql_value.specs.declared.stream.Stream.{Stream as stream}
-use Rattle.cql_value.specs.Named.{Named}
+use Rattle.cql_tenants.specs.declared.stream.Stream.{Stream as stream}
+use Rattle.cql_tenants.specs.Named.{Named}
 use Rattle.cql_window.specs.Projection.{projected}
 use Rattle.cql_tenants.specs.declared.namespace.Namespace.{Namespace}
 use Rattle.cql_tenants.specs.Namespace.{empty_namespace, has_tenant, stream_at}

@@ -15,7 +15,7 @@ use Rattle.cql_window.proofs.Narrows.{map_both, map_length, map_take, before, al
 use Rattle.cql_window.proofs.Picks.{chained, at_all}
 use Rattle.cql_plan.specs.declared.plan.Input.{Input}
 use Rattle.cql_tenants.specs.declared.namespace.Namespace.{Namespace}
-use Rattle.cql_value.specs.Named.{Named, same_name, change_named, remove_named, each}
+use Rattle.cql_tenants.specs.Named.{Named, same_name, change_named, remove_named, each}
 use Rattle.cql_core.specs.StreamId.{StreamId, same_stream_id, projection_in}
 use Rattle.cql_core.specs.Bound.{BoundInput, BoundPlan}
 use Rattle.cql_core.specs.Language.{content_of, through_projections}

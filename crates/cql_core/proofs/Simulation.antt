@@ -11,7 +11,7 @@ use Rattle.cql_plan.specs.declared.plan.Input.{Input}
 use Rattle.cql_plan.specs.declared.plan.Planned.{Planned}
 use Rattle.cql_plan.specs.Projected.{alone, visible_alone, widened_by, widened, widened_plan}
 use Rattle.cql_tenants.specs.declared.namespace.Namespace.{Namespace}
-use Rattle.cql_value.specs.Named.{Named, same_name, change_named, each}
+use Rattle.cql_tenants.specs.Named.{Named, same_name, change_named, each}
 use Rattle.cql_tenants.specs.Readable.{StreamView}
 use Rattle.cql_core.specs.declared.refusal.Refusal.{Refusal}
 use Rattle.cql_core.specs.StreamId.{StreamId, stream_id_of, same_stream_id, projection_in}

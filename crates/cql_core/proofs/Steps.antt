@@ -4,8 +4,8 @@ use Rattle.std.specs.Prelude.{Option, Some, None, Result, Ok, Err, nat_lt, if◌
 use Rattle.std.proofs.lemmas.Bool.Decides.{nat_tests}
 use Rattle.std.proofs.lemmas.List.{length-map}
 use Rattle.cql_value.specs.Element.{Element}
-use Rattle.cql_value.specs.declared.stream.Stream.{Stream as stream}
-use Rattle.cql_value.specs.Named.{Named, find_named, change_named, remove_named, each}
+use Rattle.cql_tenants.specs.declared.stream.Stream.{Stream as stream}
+use Rattle.cql_tenants.specs.Named.{Named, find_named, change_named, remove_named, each}
 use Rattle.cql_tenants.specs.declared.namespace.Namespace.{Namespace}
 use Rattle.cql_tenants.specs.Namespace.{has_tenant, namespace_at, stream_at, tenant_named, has_grant}
 use Rattle.cql_tenants.specs.Checks.{taken_refused}

@@ -5,7 +5,7 @@ use Rattle.std.specs.List.{list_any}
 use Rattle.cql_value.specs.Name.{is_name}
 use Rattle.cql_store.specs.Held.{pinned}
 use Rattle.cql_core.specs.declared.listing.OwnQuery.{OwnQuery}
-use Rattle.cql_value.specs.Named.{Named, same_name, find_named, each}
+use Rattle.cql_tenants.specs.Named.{Named, same_name, find_named, each}
 use Rattle.cql_tenants.specs.declared.namespace.Namespace.{Namespace}
 use Rattle.cql_tenants.specs.Namespace.{namespace_at}
 use Rattle.cql_tenants.specs.Listed.{own_stream}

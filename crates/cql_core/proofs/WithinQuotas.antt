@@ -6,12 +6,12 @@ use Rattle.std.proofs.lemmas.Bool.Decides.{nat_tests}
 use Rattle.std.proofs.lemmas.List.{length-append, length-map, length-take, length-drop}
 use Rattle.cql_value.specs.Element.{Element}
 use Rattle.cql_value.specs.declared.schema.Column.{Column}
-use Rattle.cql_value.specs.declared.stream.Stream.{Stream as stream}
-use Rattle.cql_value.specs.declared.stream_refusal.StreamRefusal.{StreamRefusal}
-use Rattle.cql_value.specs.declared.stream_refusal.StreamRefusal.TheVariants as refusal
+use Rattle.cql_tenants.specs.declared.stream.Stream.{Stream as stream}
+use Rattle.cql_tenants.specs.declared.stream_refusal.StreamRefusal.{StreamRefusal}
+use Rattle.cql_tenants.specs.declared.stream_refusal.StreamRefusal.TheVariants as refusal
 use Rattle.cql_value.specs.Name.{is_name}
-use Rattle.cql_value.specs.Named.{Named, same_name, find_named, change_named, remove_named, each}
-use Rattle.cql_value.specs.Taking.{opens}
+use Rattle.cql_tenants.specs.Named.{Named, same_name, find_named, change_named, remove_named, each}
+use Rattle.cql_tenants.specs.Taking.{opens}
 use Rattle.cql_window.specs.declared.window.Window.{Window}
 use Rattle.cql_window.specs.declared.window.Window.TheVariants.{Range, Rows, All as all, Parts}
 use Rattle.cql_window.specs.Window.{front_len, content, beyond}

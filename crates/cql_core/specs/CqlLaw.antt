@@ -5,7 +5,7 @@ use Rattle.cql_value.specs.Element.{Element}
 use Rattle.cql_window.specs.Through.{narrowed_all}
 use Rattle.cql_window.specs.Laws.{IsHeldAt}
 use Rattle.cql_tenants.specs.declared.tenants.Tenant.{Tenant}
-use Rattle.cql_value.specs.Named.{find_named}
+use Rattle.cql_tenants.specs.Named.{find_named}
 use Rattle.cql_tenants.specs.Namespace.{nothing_made}
 use Rattle.cql_bag.specs.Bag.{Counts, bag_of}
 use Rattle.cql_algebra.specs.PlanValue.{plan_value}

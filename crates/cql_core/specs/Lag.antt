@@ -1,6 +1,6 @@
 -- How far a query is behind what its streams have told.
 use Rattle.std.specs.Prelude.{◌≡◌, ℕ, ◌-◌, ◌≤◌, ◌<◌, List, Option, Some, None, IfSome, if◌then◌else◌}
-use Rattle.cql_value.specs.Named.{find_named}
+use Rattle.cql_tenants.specs.Named.{find_named}
 use Rattle.cql_tenants.specs.declared.namespace.Namespace.{Namespace}
 use Rattle.cql_core.specs.Machine.{State, Live, queries_at, limit_in, is_revoked}
 

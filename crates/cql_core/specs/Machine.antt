@@ -3,7 +3,7 @@ use Rattle.std.specs.Prelude.{ℕ, Bool, List, [], ◌∷◌, ◌++◌, map, len
 use Rattle.std.specs.List.{list_any}
 use Rattle.cql_value.specs.Element.{Element}
 use Rattle.cql_value.specs.Name.{is_name}
-use Rattle.cql_value.specs.Named.{Named, find_named, change_named, remove_named, each}
+use Rattle.cql_tenants.specs.Named.{Named, find_named, change_named, remove_named, each}
 use Rattle.cql_eval.specs.Pin.{PinModel}
 use Rattle.cql_tenants.specs.declared.namespace.Namespace.{Namespace}
 use Rattle.cql_tenants.specs.declared.tenants.Tenant.{Tenant}

@@ -2,7 +2,7 @@
 use Rattle.std.specs.Prelude.{List, [], ◌∷◌, map, Option, Some, None, unwrap_or, if◌then◌else◌}
 use Rattle.cql_store.specs.Held.{Held, opened}
 use Rattle.cql_plan.specs.declared.plan.Input.{Input}
-use Rattle.cql_value.specs.Named.{Named, each}
+use Rattle.cql_tenants.specs.Named.{Named, each}
 use Rattle.cql_store.specs.declared.stub_ref.StubRef.{StubRef}
 use Rattle.cql_core.specs.StreamId.{StreamId, stream_id_of}
 use Rattle.cql_core.specs.Bound.{BoundInput}

@@ -5,9 +5,9 @@ use Rattle.cql_value.specs.Name.{is_name}
 use Rattle.cql_value.specs.Schema.{is_row_of}
 use Rattle.cql_window.specs.Window.{content}
 use Rattle.cql_eval.specs.Pin.{PinModel}
-use Rattle.cql_value.specs.declared.stream.Stream.{Stream as Clocked}
+use Rattle.cql_tenants.specs.declared.stream.Stream.{Stream as Clocked}
 use Rattle.cql_value.specs.declared.schema.Column.{Column}
-use Rattle.cql_value.specs.Named.{find_named}
+use Rattle.cql_tenants.specs.Named.{find_named}
 use Rattle.cql_window.specs.Chosen.{is_shown}
 use Rattle.cql_core.specs.declared.command.ColumnText.{ColumnText}
 use Rattle.cql_core.specs.declared.command.Command.TheVariants.{Stream, Grant, Revoke, Put, Beat, Query, Fetch, Ack, Drop, List as Lists}

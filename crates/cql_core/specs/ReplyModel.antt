@@ -1,6 +1,6 @@
 -- What the line of a reply shows.
 use Rattle.std.specs.Prelude.{ℕ, Bool, true, false, List, Option, Some, None}
-use Rattle.cql_value.specs.declared.stream_refusal.StreamRefusal.{StreamRefusal}
+use Rattle.cql_tenants.specs.declared.stream_refusal.StreamRefusal.{StreamRefusal}
 use Rattle.cql_algebra.specs.declared.told.Block.{Block}
 use Rattle.cql_core.specs.declared.listing.Listing.{Listing}
 use Rattle.cql_core.specs.declared.refusal.Refusal.{Refusal}

@@ -2,7 +2,7 @@
 use Rattle.std.specs.Prelude.{◌≡◌, ◌⊎◌, ℕ, ◌≤◌, List, [], ◌∷◌, ◌++◌, max, Option, Some, option_map, unwrap_or, if◌then◌else◌}
 use Rattle.std.specs.List.{AllByRecursion}
 use Rattle.cql_store.specs.Held.{need}
-use Rattle.cql_value.specs.Named.{Named}
+use Rattle.cql_tenants.specs.Named.{Named}
 use Rattle.cql_tenants.specs.Namespace.{stream_at}
 use Rattle.cql_core.specs.StreamId.{StreamId, same_stream_id}
 use Rattle.cql_core.specs.Machine.{Stub, Live, State}

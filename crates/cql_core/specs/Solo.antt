@@ -6,13 +6,13 @@ use Rattle.cql_value.specs.Name.{is_name}
 use Rattle.cql_window.specs.Window.{charge}
 use Rattle.cql_window.specs.Pin.{Pinned}
 use Rattle.cql_tenants.specs.Listed.{GrantedStream, own_stream, named_columns}
-use Rattle.cql_value.specs.declared.stream_refusal.StreamRefusal.TheVariants as refused
-use Rattle.cql_value.specs.declared.stream.Stream.{Stream as stream}
+use Rattle.cql_tenants.specs.declared.stream_refusal.StreamRefusal.TheVariants as refused
+use Rattle.cql_tenants.specs.declared.stream.Stream.{Stream as stream}
 use Rattle.cql_tenants.specs.declared.tenants.Quotas.{Quotas}
 use Rattle.cql_tenants.specs.declared.tenants.Tenant.{Tenant}
-use Rattle.cql_value.specs.Named.{Named, same_name, find_named, change_named, remove_named, each}
+use Rattle.cql_tenants.specs.Named.{Named, same_name, find_named, change_named, remove_named, each}
 use Rattle.cql_tenants.specs.Namespace.{no_namespace}
-use Rattle.cql_value.specs.Taking.{put_refused, beat_refused, opens}
+use Rattle.cql_tenants.specs.Taking.{put_refused, beat_refused, opens}
 use Rattle.cql_tenants.specs.Readable.{StreamView}
 use Rattle.cql_core.specs.declared.command.Command.{Command}
 use Rattle.cql_core.specs.declared.command.Command.TheVariants.{Stream, Grant, Revoke, Put, Beat, Query, Fetch, Ack, Drop, List as Lists}

@@ -1,6 +1,6 @@
 -- Streams by the indices of their owners, and the columns of theirs that a tenant sees.
 use Rattle.std.specs.Prelude.{ℕ, Bool, ◌&&◌, ◌==◌, List}
-use Rattle.cql_value.specs.Named.{same_name}
+use Rattle.cql_tenants.specs.Named.{same_name}
 use Rattle.cql_tenants.specs.declared.namespace.Namespace.{Namespace}
 use Rattle.cql_tenants.specs.Readable.{projection_seen}
 

@@ -5,7 +5,7 @@ use Rattle.cql_window.specs.declared.window.Window.{Window}
 use Rattle.cql_window.specs.Window.{content, beyond, charge}
 use Rattle.cql_window.specs.Through.{narrowed_all, wide_window}
 use Rattle.cql_store.specs.Held.{Held}
-use Rattle.cql_value.specs.Named.{Named}
+use Rattle.cql_tenants.specs.Named.{Named}
 use Rattle.cql_core.specs.Bound.{BoundInput}
 use Rattle.cql_core.specs.Language.{bare}
 use Rattle.cql_core.specs.Machine.{Stub, Live, is_revoked, stubs_left}

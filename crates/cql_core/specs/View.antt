@@ -2,7 +2,7 @@
 use Rattle.std.specs.Prelude.{ℕ, Bool, false, ◌&&◌, ◌==◌, List, [], ◌∷◌, ◌++◌, Option, Some, None, is_some, if◌then◌else◌}
 use Rattle.cql_value.specs.Element.{Element}
 use Rattle.cql_tenants.specs.declared.namespace.Namespace.{Namespace}
-use Rattle.cql_value.specs.declared.stream.Stream.{Stream as stream}
+use Rattle.cql_tenants.specs.declared.stream.Stream.{Stream as stream}
 use Rattle.cql_window.specs.Projection.{projected}
 use Rattle.cql_window.specs.Chosen.{shown_projection}
 use Rattle.cql_tenants.specs.Namespace.{has_tenant, tenant_named, stream_at, has_grant}

@@ -1,7 +1,7 @@
 -- What the quotas bound, after any commands: the streams and queries of each tenant, the windows of each query, the rows that each of them is charged, and the rows that each stream holds.
 use Rattle.std.specs.Prelude.{◌≡◌, ◌⊎◌, ℕ, ◌+◌, ◌≤◌, true, List, [], ◌∷◌, length, max, Some, None}
 use Rattle.std.specs.List.{AllByRecursion}
-use Rattle.cql_value.specs.Named.{Named}
+use Rattle.cql_tenants.specs.Named.{Named}
 use Rattle.cql_store.specs.Held.{Held}
 use Rattle.cql_plan.specs.Plan.{IsFew}
 use Rattle.cql_tenants.specs.declared.tenants.Quotas.{Quotas}

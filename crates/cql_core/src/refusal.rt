@@ -2,7 +2,7 @@
 ghost use Rattle.std.specs.Prelude.{◌≡◌};
 ghost use Rattle.cql_core.specs.Refusal.{number_of, name_of};
 
-use cql_value::StreamRefusal;
+use cql_tenants::StreamRefusal;
 
 /// Why a command is refused. A refusal changes nothing.
 #[derive(Clone, Copy, PartialEq, Eq, Drop)]

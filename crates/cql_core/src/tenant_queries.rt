@@ -1,13 +1,13 @@
 // The queries of each tenant.
 ghost use Rattle.std.specs.Prelude.{◌≡◌, ◌<◌, ◌++◌, ◌∷◌, [], length, ℕ, List, set, is_some, None, Some, IfOk, IfSome, IfNone, IfErr, OnOk, OnErr, string_bytes};
-ghost use Rattle.cql_value.specs.Named.{find_named, index_of, change_named, remove_named};
+ghost use Rattle.cql_tenants.specs.Named.{find_named, index_of, change_named, remove_named};
 ghost use Rattle.cql_core.specs.Moved.{moved};
 ghost use Rattle.cql_core.specs.Sound.{states_at, no_states, no_stores};
 
 use crate::query_state::QueryState;
 use cql_store::Stores;
-use cql_tenants::{Tenant, TenantId};
-use cql_value::{NameMap, Text};
+use cql_tenants::{NameMap, Tenant, TenantId};
+use cql_value::Text;
 use std::alloc::{AllocError, Global};
 
 /// A shelf for the queries of each tenant.

@@ -8,19 +8,19 @@ use Rattle.std.proofs.lemmas.List.Folds.{find-append}
 use Rattle.std.proofs.lemmas.Bool.{and_parts}
 use Rattle.cql_value.specs.declared.schema.Column.{Column}
 use Rattle.cql_tenants.specs.declared.tenants.Tenant.{Tenant}
-use Rattle.cql_value.specs.declared.stream_refusal.StreamRefusal.{StreamRefusal}
-use Rattle.cql_value.specs.declared.stream_refusal.StreamRefusal.TheVariants.{UnknownTenant, SelfGrant, AlreadyGranted, BadGrantColumns}
-use Rattle.cql_value.specs.Named.{Named, same_name, find_named, change_named, index_of}
+use Rattle.cql_tenants.specs.declared.stream_refusal.StreamRefusal.{StreamRefusal}
+use Rattle.cql_tenants.specs.declared.stream_refusal.StreamRefusal.TheVariants.{UnknownTenant, SelfGrant, AlreadyGranted, BadGrantColumns}
+use Rattle.cql_tenants.specs.Named.{Named, same_name, find_named, change_named, index_of}
 use Rattle.cql_window.specs.Projection.{projected}
 use Rattle.cql_window.specs.Chosen.{is_shown}
 use Rattle.cql_tenants.specs.Namespace.{Namespace, Stream, Grant, nothing_made, has_tenant, namespace_at, tenant_named, stream_at, is_of, grant_of, has_grant, without_grant}
 use Rattle.cql_tenants.specs.Checks.{grantee_refused, grant_refused}
 use Rattle.cql_tenants.specs.Directory.{StreamCommand, Make, Share, Revoke, Put, Beat, with_stream, with_time, with_grant, grant_over, grant_to, new_grant, revoke_from, refused, done, streams_after}
-use Rattle.cql_value.specs.Taking.{opens}
+use Rattle.cql_tenants.specs.Taking.{opens}
 use Rattle.cql_tenants.specs.Law.{IsGrantOf, AreOfStreams, IsGrantLaw, directory_from}
 use Rattle.cql_window.proofs.Choices.{shown_within}
 use Rattle.cql_tenants.proofs.Kept.{Has, still, grow_at, streams_stay, timed, made}
-use Rattle.cql_value.proofs.Indices.{name_eq, name_same}
+use Rattle.cql_tenants.proofs.Indices.{name_eq, name_same}
 
 -- the stream of a grant is there, and the grant shows its columns
 abbrev pub Shown : List Namespace → ℕ → List ℕ → Grant → Type 0

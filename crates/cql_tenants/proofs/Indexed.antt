@@ -4,14 +4,14 @@ use Rattle.std.specs.Prelude.{Some, Result, Ok, Err, IfSome, OnOk, OnErr, if◌t
 use Rattle.std.specs.List.{AllByRecursion, filter}
 use Rattle.cql_value.specs.declared.schema.Column.{Column}
 use Rattle.cql_tenants.specs.declared.tenants.Tenant.{Tenant}
-use Rattle.cql_value.specs.Named.{Named, index_of, change_named}
+use Rattle.cql_tenants.specs.Named.{Named, index_of, change_named}
 use Rattle.cql_tenants.specs.Namespace.{Namespace, Stream, Grant, nothing_made, namespace_at, is_of, without_grant}
 use Rattle.cql_tenants.specs.Lookup.{opened_at}
 use Rattle.cql_tenants.specs.Directory.{with_stream, with_grant}
-use Rattle.cql_value.specs.Taking.{opens}
+use Rattle.cql_tenants.specs.Taking.{opens}
 use Rattle.cql_tenants.specs.Law.{IsIndexed, AreIndexed}
 use Rattle.cql_tenants.proofs.Kept.{grow_at}
-use Rattle.cql_value.proofs.Indices.{index_change, index_push, clock_at}
+use Rattle.cql_tenants.proofs.Indices.{index_change, index_push, clock_at}
 use Rattle.cql_tenants.proofs.Grants.{no_grants}
 
 -- ---- what holds of each

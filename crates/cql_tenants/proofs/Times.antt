@@ -3,11 +3,11 @@ use Rattle.std.proofs.Common.{◌≡◌, ℕ, Bool, true, false, eqb, List, refl
 use Rattle.std.specs.Prelude.{Option, Some, None, IfSome, option_map, unwrap_or, if◌then◌else◌}
 use Rattle.std.proofs.lemmas.Bool.{and_parts}
 use Rattle.std.proofs.lemmas.Bool.Decides.{nat_tests}
-use Rattle.cql_value.specs.Named.{same_name}
+use Rattle.cql_tenants.specs.Named.{same_name}
 use Rattle.cql_tenants.specs.Namespace.{Namespace, Stream, Grant, has_tenant, namespace_at, stream_at, is_of, grant_of}
 use Rattle.cql_tenants.specs.Lookup.{opened_at, owner_meant, own_found, granted_found, found_of, found}
 use Rattle.cql_tenants.specs.Readable.{StreamView}
-use Rattle.cql_value.proofs.Indices.{name_eq}
+use Rattle.cql_tenants.proofs.Indices.{name_eq}
 use Rattle.cql_tenants.proofs.Grants.{find_passes}
 
 abbrev own_seen : ℕ → Stream → StreamView

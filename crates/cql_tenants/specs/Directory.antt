@@ -2,14 +2,14 @@
 use Rattle.std.specs.Prelude.{ℕ, ◌+◌, List, [], ◌∷◌, ◌++◌, Option, Some, None, option_map, unwrap_or, is_none, is_some, if◌then◌else◌}
 use Rattle.cql_value.specs.declared.value.Value.{Value}
 use Rattle.cql_value.specs.declared.schema.Column.{Column}
-use Rattle.cql_value.specs.declared.stream_refusal.StreamRefusal.{StreamRefusal}
-use Rattle.cql_value.specs.declared.stream_refusal.StreamRefusal.TheVariants.{UnknownStream, UnknownTenant}
-use Rattle.cql_value.specs.Named.{change_named, index_of}
+use Rattle.cql_tenants.specs.declared.stream_refusal.StreamRefusal.{StreamRefusal}
+use Rattle.cql_tenants.specs.declared.stream_refusal.StreamRefusal.TheVariants.{UnknownStream, UnknownTenant}
+use Rattle.cql_tenants.specs.Named.{change_named, index_of}
 use Rattle.cql_window.specs.Projection.{projected}
 use Rattle.cql_window.specs.Chosen.{shown_projection}
 use Rattle.cql_tenants.specs.Namespace.{Namespace, Grant, has_tenant, namespace_at, change_namespace, tenant_named, stream_at, has_grant, without_grant}
 use Rattle.cql_tenants.specs.Checks.{make_refused, grant_refused, taken_refused}
-use Rattle.cql_value.specs.Taking.{put_refused, beat_refused, opens}
+use Rattle.cql_tenants.specs.Taking.{put_refused, beat_refused, opens}
 
 -- a command on streams; the columns of a new stream are its schema where they have one, and those of a grant are names
 pub data StreamCommand : Type 0 where

@@ -2,7 +2,7 @@
 use Rattle.std.specs.Prelude.{◌≡◌, ◌<◌, ℕ, List, [], ◌∷◌, length, Some, is_none, if◌then◌else◌}
 use Rattle.std.specs.List.{AllByRecursion}
 use Rattle.cql_tenants.specs.declared.tenants.Tenant.{Tenant}
-use Rattle.cql_value.specs.Named.{index_of}
+use Rattle.cql_tenants.specs.Named.{index_of}
 use Rattle.cql_window.specs.Projection.{projected}
 use Rattle.cql_tenants.specs.Namespace.{Namespace, Stream, Grant, nothing_made, namespace_at, stream_at, grant_of}
 use Rattle.cql_tenants.specs.Directory.{StreamCommand, refused, done, streams_after}

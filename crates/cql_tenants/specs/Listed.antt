@@ -1,7 +1,7 @@
 -- What a list shows of the streams that a tenant reads.
 use Rattle.std.specs.Prelude.{List, Option, ℕ, Bool, None, Some, if◌then◌else◌, map}
 use Rattle.cql_value.specs.declared.schema.Column.{Column}
-use Rattle.cql_value.specs.Named.{Named}
+use Rattle.cql_tenants.specs.Named.{Named}
 use Rattle.cql_tenants.specs.declared.readable.OwnStream.{OwnStream}
 use Rattle.cql_tenants.specs.Namespace.{Stream}
 

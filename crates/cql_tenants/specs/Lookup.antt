@@ -1,8 +1,8 @@
 -- What is looked up among the namespaces: a stream by its owner and its name, where a tenant may read it.
 use Rattle.std.specs.Prelude.{◌≡◌, IfSome, List, option_map, unwrap_or, ℕ, Option, false, None, Some, if◌then◌else◌, ◌==◌, length, map, ◌++◌, Err, Ok, Result}
-use Rattle.cql_value.specs.Named.{Named, index_of}
-use Rattle.cql_value.specs.declared.stream_refusal.StreamRefusal.{StreamRefusal}
-use Rattle.cql_value.specs.declared.stream_refusal.StreamRefusal.TheVariants.{UnknownTenant}
+use Rattle.cql_tenants.specs.Named.{Named, index_of}
+use Rattle.cql_tenants.specs.declared.stream_refusal.StreamRefusal.{StreamRefusal}
+use Rattle.cql_tenants.specs.declared.stream_refusal.StreamRefusal.TheVariants.{UnknownTenant}
 use Rattle.cql_window.specs.Projection.{whole_projection, projected, AreWithin}
 use Rattle.cql_tenants.specs.declared.namespace.Namespace.{Namespace}
 use Rattle.cql_tenants.specs.Namespace.{stream_at, Grant, namespace_at, grant_of, tenant_named, has_tenant, Stream}

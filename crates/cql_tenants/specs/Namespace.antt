@@ -3,10 +3,10 @@ use Rattle.std.specs.Prelude.{is_some, ℕ, Bool, ◌&&◌, ◌==◌, not, List,
 use Rattle.std.specs.List.{find, filter, position}
 use Rattle.cql_tenants.specs.declared.tenants.Quotas.{Quotas}
 use Rattle.cql_tenants.specs.declared.tenants.Tenant.{Tenant}
-pub use Rattle.cql_value.specs.declared.stream.Stream.{Stream}
+pub use Rattle.cql_tenants.specs.declared.stream.Stream.{Stream}
 pub use Rattle.cql_tenants.specs.Granted.{Grant}
 pub use Rattle.cql_tenants.specs.declared.namespace.Namespace.{Namespace}
-use Rattle.cql_value.specs.Named.{same_name, find_named}
+use Rattle.cql_tenants.specs.Named.{same_name, find_named}
 
 abbrev pub empty_namespace : List ℕ → Quotas → Namespace
 empty_namespace name quotas = record { name = name; quotas = quotas; streams = []; granted = [] }

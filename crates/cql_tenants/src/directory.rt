@@ -1,8 +1,8 @@
 // The directory of all streams and grants.
 ghost use Rattle.std.specs.Prelude.{◌≡◌, ℕ, ◌<◌, ◌≤◌, ◌^◌, true, List, IfOk, IfSome, OnOk, OnErr, None, Some, option_copied, option_map, length, map, slice_get};
 ghost use Rattle.std.specs.Result.{result_err};
-ghost use Rattle.cql_value.specs.Clock.{time_fault};
-ghost use Rattle.cql_value.specs.Named.{index_of};
+ghost use Rattle.cql_tenants.specs.Clock.{time_fault};
+ghost use Rattle.cql_tenants.specs.Named.{index_of};
 ghost use Rattle.cql_tenants.specs.Namespace.{nothing_made, has_tenant, namespace_at, change_namespace, tenant_named, stream_at, grant_of, has_grant};
 ghost use Rattle.cql_window.specs.Chosen.{is_shown};
 ghost use Rattle.cql_tenants.specs.Checks.{grantee_refused, taken_refused};
@@ -18,8 +18,9 @@ use crate::readable::{
     FoundStream, GrantedStream, OwnStream, ReadableStream, granted_listed, granted_shown,
     own_listed, own_shown,
 };
+use crate::stream_refusal::StreamRefusal;
 use crate::tenants::{Quotas, TenantId, TenantTable};
-use cql_value::{Items, Row, Schema, StreamRefusal, Text};
+use cql_value::{Items, Row, Schema, Text};
 use cql_window::{is_shown, whole_projection};
 use std::alloc::{AllocError, Global};
 use std::marker::Model;

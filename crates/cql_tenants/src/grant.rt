@@ -168,7 +168,7 @@ impl Grant {
     }
 
     /// Whether it is a grant of that stream.
-    #[tactic(auto, unfolding(cql_value::specs::Named::same_name))]
+    #[tactic(auto, unfolding(crate::specs::Named::same_name))]
     pub fn is_of(&self, owner: usize, stream: &str) -> bool
         ensures { result ≡ is_of owner stream.now self.now }
     {

@@ -2,18 +2,22 @@
 ghost use Rattle.std.specs.Prelude.{◌≡◌, ◌≤◌, ◌^◌, not, true, IfOk, IfSome, OnOk, OnErr, option_copied, slice_get, Some, None, is_some, length, nat_lt, if◌then◌else◌};
 ghost use Rattle.std.specs.Result.{result_err};
 ghost use Rattle.std.specs.List.{filter};
-ghost use Rattle.cql_value.specs.Named.{find_named};
-ghost use Rattle.cql_value.specs.declared.stream_refusal.StreamRefusal.TheVariants.{StreamExists, TooManyStreams};
+ghost use Rattle.cql_tenants.specs.Named.{find_named};
+ghost use Rattle.cql_tenants.specs.declared.stream_refusal.StreamRefusal.TheVariants.{StreamExists, TooManyStreams};
 ghost use Rattle.cql_tenants.specs.Namespace.{empty_namespace, is_of, grant_of, without_grant};
 ghost use Rattle.cql_tenants.specs.Checks.{make_refused};
 ghost use Rattle.cql_tenants.specs.Directory.{with_stream};
 
+use crate::clock::Clock;
 use crate::grant::Grant;
 use crate::granted::Granted;
+use crate::name_map::NameMap;
 use crate::shared::Shared;
+use crate::stream::Stream;
+use crate::stream_refusal::StreamRefusal;
 use crate::tenants::{Quotas, Tenant};
 use cql_value::name::is_name;
-use cql_value::{Clock, Name, NameMap, Schema, Stream, StreamRefusal};
+use cql_value::{Name, Schema};
 use std::alloc::{AllocError, Global};
 use std::sync::Arc;
 

@@ -1,7 +1,7 @@
 // Look-ups among the namespaces of all tenants.
 ghost use Rattle.std.specs.Prelude.{◌≡◌, ◌<◌, IfSome, length};
 ghost use Rattle.std.specs.List.{position};
-ghost use Rattle.cql_value.specs.Named.{same_name};
+ghost use Rattle.cql_tenants.specs.Named.{same_name};
 ghost use Rattle.cql_tenants.specs.Namespace.{namespace_at, tenant_named};
 ghost use Rattle.cql_tenants.specs.Lookup.{opened_at};
 
@@ -15,7 +15,7 @@ pub fn namespace_at(namespaces: &[Namespace], index: usize) -> &Namespace
     &namespaces[index]
 }
 
-#[tactic(auto, unfolding(cql_value::specs::Named::same_name))]
+#[tactic(auto, unfolding(crate::specs::Named::same_name))]
 fn has_name(namespace: &Namespace, name: &str) -> bool
     ensures { result ≡ same_name name.now namespace.now.name }
 {

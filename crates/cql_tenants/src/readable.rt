@@ -8,11 +8,13 @@ ghost use Rattle.cql_tenants.specs.Listed.{own_stream};
 
 use crate::grant::Grant;
 use crate::held::Held;
+use crate::name_map::NameMap;
 use crate::namespace::Namespace;
 use crate::namespaces::{namespace_at, opened_at, owner_name};
 use crate::shared::Shared;
+use crate::stream::Stream;
 use crate::tenants::TenantId;
-use cql_value::{Column, Items, Name, NameMap, Schema, Stream, Text};
+use cql_value::{Column, Items, Name, Schema, Text};
 use cql_window::whole_projection;
 use std::alloc::{AllocError, Global};
 use std::marker::Model;

@@ -3,7 +3,7 @@ use Rattle.std.proofs.Common.{◌≡◌, ℕ, ◌+◌, List, [], ◌∷◌, ◌+
 use Rattle.std.specs.Prelude.{codes}
 use Rattle.cql_value.specs.Name as words
 use Rattle.cql_tenants.specs.declared.tenants.Tenant.{Tenant}
-use Rattle.cql_value.specs.Named.{same_name}
+use Rattle.cql_tenants.specs.Named.{same_name}
 use Rattle.cql_core.specs.declared.command.Command.{Command}
 use Rattle.cql_core.specs.declared.command.Command.TheVariants.{Stream}
 use Rattle.cql_core.specs.ReplyModel.{Done, no_memory}

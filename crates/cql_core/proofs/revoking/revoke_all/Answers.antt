@@ -1,5 +1,5 @@
 use Rattle.std.proofs.Common.{◌≡◌, ◌<◌, length, ap, subst, sym, ◌∙◌, arith}
-use Rattle.cql_value.specs.Named.{change_nth}
+use Rattle.cql_tenants.specs.Named.{change_nth}
 use Rattle.cql_core.specs.Revoked.{revoked_at, AreAllStreams}
 use Rattle.cql_core.proofs.Closes.{changed_next, changed_length, freed_twice, held_left, streams_left}
 use Rattle.cql_core.proofs.revoking.revoke_all.Goals as goal

@@ -1,5 +1,5 @@
 use Rattle.std.proofs.Common.{◌≡◌, ◌≤◌, ◌++◌, take, drop}
-use Rattle.cql_value.specs.Named.{each}
+use Rattle.cql_tenants.specs.Named.{each}
 use Rattle.cql_store.specs.declared.stub_ref.StubRef.{StubRef}
 use Rattle.cql_store.specs.Stores.{held_at}
 use Rattle.cql_core.specs.Sound.{uses_of, lives}

@@ -2,7 +2,7 @@ use Rattle.std.proofs.lemmas.Grind.{common_steps}
 use Rattle.std.proofs.Common.{arith, length, ap, subst, sym, ◌∙◌}
 use Rattle.std.specs.Prelude.{IfSome, option_map}
 use Rattle.cql_window.specs.Projection.{projected, AreWithin}
-use Rattle.cql_value.specs.Named.{index_of}
+use Rattle.cql_tenants.specs.Named.{index_of}
 use Rattle.cql_tenants.specs.Namespace.{namespace_at, stream_at}
 use Rattle.cql_tenants.specs.Readable.{projection_seen}
 use Rattle.cql_tenants.specs.Lookup.{seen_of, found}

@@ -1,6 +1,6 @@
 use Rattle.std.proofs.lemmas.Grind.{common_steps}
 use Rattle.std.proofs.Common.{arith, List, [], ◌∷◌, ◌++◌, sym, ◌∙◌}
-use Rattle.cql_value.specs.Named.{Named}
+use Rattle.cql_tenants.specs.Named.{Named}
 use Rattle.cql_core.specs.declared.query_state.QueryState.{QueryState}
 use Rattle.cql_core.proofs.Openings.{more_of}
 use Rattle.cql_core.proofs.tenant_queries.no_queries_of.Goals as goal

@@ -2,7 +2,7 @@ use Rattle.std.proofs.lemmas.Grind.{common_steps}
 use Rattle.std.proofs.Common.{◌≡◌, ◌≤◌, ◌+◌, None, length, max, subst, sym, ◌∙◌, arith}
 use Rattle.std.specs.Prelude.{unwrap_or}
 use Rattle.cql_core.specs.Lag.{lag_of}
-use Rattle.cql_value.specs.Named.{Named, find_named}
+use Rattle.cql_tenants.specs.Named.{Named, find_named}
 use Rattle.cql_core.specs.declared.query_state.QueryState.{QueryState}
 use Rattle.cql_core.proofs.Fetches.{lag_lost}
 use Rattle.cql_core.proofs.Lags.{AreUpTo, IsFound, up_to_more, up_to_all, found_more}

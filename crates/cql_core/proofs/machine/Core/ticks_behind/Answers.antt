@@ -2,7 +2,7 @@ use Rattle.std.proofs.lemmas.Grind.{common_steps}
 use Rattle.std.proofs.Common.{arith, ◌≡◌, true, false, subst, sym, ap, ◌∙◌, ◌-◌, map}
 use Rattle.std.specs.Prelude.{Some, None}
 use Rattle.std.specs.List.{AllByRecursion}
-use Rattle.cql_value.specs.Named.{find_named}
+use Rattle.cql_tenants.specs.Named.{find_named}
 use Rattle.cql_core.specs.Checks.{least}
 use Rattle.cql_core.specs.Sound.{states_at}
 use Rattle.cql_core.specs.Going.{HasStream, stream_clock}

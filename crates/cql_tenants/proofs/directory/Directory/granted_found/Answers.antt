@@ -2,10 +2,10 @@ use Rattle.std.proofs.lemmas.Grind.{common_steps}
 use Rattle.std.proofs.Common.{◌≡◌, ℕ, length, ap, sym, subst, ◌∙◌, arith}
 use Rattle.std.specs.Prelude.{None, Some, IfSome, option_map, slice_get}
 use Rattle.cql_window.specs.Projection.{projected, AreWithin}
-use Rattle.cql_value.specs.Named.{index_of}
+use Rattle.cql_tenants.specs.Named.{index_of}
 use Rattle.cql_tenants.specs.Namespace.{namespace_at, stream_at, grant_of}
 use Rattle.cql_tenants.specs.Lookup.{opened_at}
-use Rattle.cql_value.proofs.Indices.{no_index, clock_at}
+use Rattle.cql_tenants.proofs.Indices.{no_index, clock_at}
 use Rattle.cql_tenants.proofs.Grants.{Given, given_at}
 use Rattle.cql_tenants.proofs.directory.Directory.granted_found.Goals as goal
 

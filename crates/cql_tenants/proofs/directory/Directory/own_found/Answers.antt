@@ -2,12 +2,12 @@ use Rattle.std.proofs.lemmas.Grind.{common_steps}
 use Rattle.std.proofs.Common.{◌≡◌, true, false, eqb, length, ap, sym, subst, ◌∙◌, arith}
 use Rattle.std.specs.Prelude.{Some, IfSome, option_map, if◌then◌else◌}
 use Rattle.std.proofs.lemmas.Bool.Decides.{nat_tests}
-use Rattle.cql_value.specs.Named.{find_named}
+use Rattle.cql_tenants.specs.Named.{find_named}
 use Rattle.cql_window.specs.Projection.{projected, AreWithin}
 use Rattle.cql_tenants.specs.Namespace.{namespace_at, stream_at, grant_of}
 use Rattle.cql_tenants.specs.Readable.{StreamView, own_projection, granted_projection}
 use Rattle.cql_tenants.specs.Lookup.{seen_of}
-use Rattle.cql_value.proofs.Indices.{no_index, found_at}
+use Rattle.cql_tenants.proofs.Indices.{no_index, found_at}
 use Rattle.cql_window.proofs.Picks.{at_all, all_within}
 use Rattle.cql_tenants.proofs.directory.Directory.own_found.Goals as goal
 

@@ -1,9 +1,9 @@
 use Rattle.std.proofs.Common.{◌≡◌, Bool, true, false, Option, Some, None, refl, sym, subst}
 use Rattle.std.specs.Prelude.{is_some, if◌then◌else◌}
 use Rattle.cql_value.specs.Name.{is_name}
-use Rattle.cql_value.specs.declared.stream_refusal.StreamRefusal.{StreamRefusal}
-use Rattle.cql_value.specs.declared.stream_refusal.StreamRefusal.TheVariants.{StreamExists, BadName}
-use Rattle.cql_value.specs.Named.{find_named}
+use Rattle.cql_tenants.specs.declared.stream_refusal.StreamRefusal.{StreamRefusal}
+use Rattle.cql_tenants.specs.declared.stream_refusal.StreamRefusal.TheVariants.{StreamExists, BadName}
+use Rattle.cql_tenants.specs.Named.{find_named}
 use Rattle.cql_tenants.proofs.namespace.Namespace.make.Goals as goal
 
 -- what is refused for nothing is not refused by its first test
